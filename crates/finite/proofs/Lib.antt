@@ -1,0 +1,8 @@
+-- The laws of the crate.
+pub mod FoldLaws
+pub mod AnyAll
+pub mod Least
+pub mod Counting
+pub mod Gather
+pub mod FilledLaws
+pub mod IntegerSum

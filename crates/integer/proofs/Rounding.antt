@@ -1,0 +1,65 @@
+-- What the functions of `src/` use: an integer by the test of its sign, and the rounding of naturals by one comparison of the rest.
+use mathlib.Core.Path.{_≡_, refl, subst}
+use mathlib.Core.Bool.{true, false}
+use Prim.Native.Nat.{ℕ, zero, suc, _+_, _*_, _%_, _/_, _≤_, _<_}
+use native.Mathlib.Omega.{arith}
+use lib.Dec.{T}
+use lib.IntN.{ℤ, pos, negsuc, negℤ, natAbs, _-ℤ_}
+use lib.Signed.{ltZ, nonNeg, mag}
+use borrow.Author.Tests.{ltb-true}
+use Rattle.integer.specs.Nearest.{halfEven, nearestℕ, nearest}
+use Rattle.integer.proofs.Difference.{int, nat, _⊝_, ~, prove-eq}
+use Rattle.integer.proofs.NearestLaws.{halfEven-cases, nearestℕ-halfEven, nearest-bounded}
+
+-- ---- a negative integer
+pub minus-one-minus : (z : ℤ) → ltZ z (pos 0) ≡ true → negsuc 0 -ℤ z ≡ pos (mag z)
+minus-one-minus (pos a) t = absurd (omega (arith, ltb-true a 0 t))
+minus-one-minus (negsuc a) t = prove-eq (~ (nat 1) ⊝ int (negsuc a)) (nat a) (omega arith)
+
+pub mag-negative : (z : ℤ) → ltZ z (pos 0) ≡ true → mag z + 1 ≡ natAbs z
+mag-negative (pos a) t = absurd (omega (arith, ltb-true a 0 t))
+mag-negative (negsuc a) t = omega arith
+
+pub nearest-negative : (z : ℤ) (d : ℕ) → ltZ z (pos 0) ≡ true → negℤ (pos (nearestℕ (natAbs z) d)) ≡ nearest z d
+unfolding nearest
+nearest-negative (pos a) d t = absurd (omega (arith, ltb-true a 0 t))
+nearest-negative (negsuc a) d t = refl
+
+-- ---- an integer that is not negative
+pub not-negative : (z : ℤ) → ltZ z (pos 0) ≡ false → T (nonNeg z)
+not-negative (pos a) t = tt
+not-negative (negsuc a) t = subst T t tt
+
+pub mag-not-negative : (z : ℤ) → ltZ z (pos 0) ≡ false → mag z ≡ natAbs z
+mag-not-negative (pos a) t = refl
+mag-not-negative (negsuc a) t = absurd (subst T t tt)
+
+pub nearest-not-negative : (z : ℤ) (d : ℕ) → ltZ z (pos 0) ≡ false → pos (nearestℕ (natAbs z) d) ≡ nearest z d
+unfolding nearest
+nearest-not-negative (pos a) d t = refl
+nearest-not-negative (negsuc a) d t = absurd (subst T t tt)
+
+-- ---- naturals
+pub nearestℕ-0 : (a : ℕ) → 0 ≡ nearestℕ a 0
+unfolding nearestℕ
+nearestℕ-0 a = refl
+
+pub nearestℕ-up : (a d : ℕ) → 0 < d → d < 2 * (a % d) + a / d % 2 → a / d + 1 ≡ nearestℕ a d
+nearestℕ-up a d h t = rw (nearestℕ-halfEven a d) (up (a / d) (a % d) d t)
+  where
+    up : (q r d : ℕ) → d < 2 * r + q % 2 → q + 1 ≡ halfEven q r d
+    up q r d t = halfEven-cases q r d (λ m. q + 1 ≡ m) (λ u. absurd (omega arith)) (λ u. refl) (λ u. omega arith)
+
+pub nearestℕ-down : (a d : ℕ) → 0 < d → 2 * (a % d) + a / d % 2 ≤ d → a / d ≡ nearestℕ a d
+nearestℕ-down a d h t = rw (nearestℕ-halfEven a d) (down (a / d) (a % d) d t)
+  where
+    down : (q r d : ℕ) → 2 * r + q % 2 ≤ d → q ≡ halfEven q r d
+    down q r d t = halfEven-cases q r d (λ m. q ≡ m) (λ u. refl) (λ u. absurd (omega arith)) (λ u. omega arith)
+
+pub nearestℕ-≤ : (a d : ℕ) → nearestℕ a d ≤ a
+unfolding nearest
+nearestℕ-≤ a zero = omega (arith, nearestℕ-0 a)
+nearestℕ-≤ a (suc d) = nearest-bounded (pos a) (suc d) a (omega arith) (le-mul a d)
+  where
+    le-mul : (a d : ℕ) → a ≤ a * suc d
+    le-mul a d = omega arith
