@@ -1,0 +1,48 @@
+-- The meshes of the examples, each named by its situation.
+use mathlib.Core.List.{List, [], _∷_}
+use Prim.Native.Nat.{ℕ, _*_}
+use lib.IntN.{ℤ, pos, negsuc}
+use lib.ListN.{replicate}
+use Rattle.mesh.specs.IndexedMesh.{IndexedMesh, indexed}
+
+-- -24, as the cube has it
+abbrev low : ℤ
+low = negsuc 23
+
+abbrev high : ℤ
+high = pos 24
+
+-- vertex p has low or high x, y and z by the bits of p from the lowest on; six faces turned outward
+abbrev pub cube : IndexedMesh
+cube = indexed 8 6
+    (low ∷ low ∷ low ∷ high ∷ low ∷ low ∷ low ∷ high ∷ low ∷ high ∷ high ∷ low
+    ∷ low ∷ low ∷ high ∷ high ∷ low ∷ high ∷ low ∷ high ∷ high ∷ high ∷ high ∷ high ∷ [])
+    (replicate 8 0)
+    (7 ∷ 6 ∷ 4 ∷ 5 ∷ 0 ∷ 2 ∷ 3 ∷ 1 ∷ 0 ∷ 1 ∷ 5 ∷ 4 ∷ 2 ∷ 6 ∷ 7 ∷ 3 ∷ 0 ∷ 4 ∷ 6 ∷ 2 ∷ 1 ∷ 3 ∷ 7 ∷ 5 ∷ [])
+
+-- v vertices, all at the origin and smooth, and these f faces
+abbrev pub collapsed : ℕ → ℕ → List ℕ → IndexedMesh
+collapsed v f indices = indexed v f (replicate (3 * v) (pos 0)) (replicate v 0) indices
+
+-- one face and its back: every vertex has two faces
+abbrev pub pillow : IndexedMesh
+pillow = collapsed 4 2 (0 ∷ 1 ∷ 2 ∷ 3 ∷ 3 ∷ 2 ∷ 1 ∷ 0 ∷ [])
+
+-- the same face twice
+abbrev pub doubledFace : IndexedMesh
+doubledFace = collapsed 4 2 (0 ∷ 1 ∷ 2 ∷ 3 ∷ 0 ∷ 1 ∷ 2 ∷ 3 ∷ [])
+
+-- two faces with one vertex in common and no half-edge
+abbrev pub bowTie : IndexedMesh
+bowTie = collapsed 7 2 (0 ∷ 1 ∷ 2 ∷ 3 ∷ 0 ∷ 4 ∷ 5 ∷ 6 ∷ [])
+
+-- two faces side by side: vertices 1 and 4 are boundary vertices of two faces
+abbrev pub strip : IndexedMesh
+strip = collapsed 6 2 (0 ∷ 1 ∷ 4 ∷ 5 ∷ 1 ∷ 2 ∷ 3 ∷ 4 ∷ [])
+
+-- an open fan about vertex 0: each face has the centre, a spoke, an outer vertex and the next spoke
+abbrev pub openFanOfEight : IndexedMesh
+openFanOfEight = collapsed 18 8 (0 ∷ 1 ∷ 10 ∷ 2 ∷ 0 ∷ 2 ∷ 11 ∷ 3 ∷ 0 ∷ 3 ∷ 12 ∷ 4 ∷ 0 ∷ 4 ∷ 13 ∷ 5 ∷ 0 ∷ 5 ∷ 14 ∷ 6 ∷ 0 ∷ 6 ∷ 15 ∷ 7 ∷ 0 ∷ 7 ∷ 16 ∷ 8 ∷ 0 ∷ 8 ∷ 17 ∷ 9 ∷ [])
+
+abbrev pub openFanOfNine : IndexedMesh
+openFanOfNine = collapsed 20 9 (0 ∷ 1 ∷ 11 ∷ 2 ∷ 0 ∷ 2 ∷ 12 ∷ 3 ∷ 0 ∷ 3 ∷ 13 ∷ 4 ∷ 0 ∷ 4 ∷ 14 ∷ 5 ∷ 0 ∷ 5 ∷ 15 ∷ 6 ∷ 0 ∷ 6 ∷ 16 ∷ 7 ∷ 0 ∷ 7 ∷ 17 ∷ 8 ∷ 0 ∷ 8 ∷ 18 ∷ 9 ∷ 0 ∷ 9 ∷ 19 ∷ 10 ∷ [])

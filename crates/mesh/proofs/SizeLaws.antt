@@ -1,0 +1,76 @@
+-- What a passed test of sizes gives, and a test of three corners as one after the other.
+use mathlib.Core.Path.{_≡_, refl, sym, ap, _∙_}
+use mathlib.Core.Bool.{Bool, true, false, not, cond, _||_, or-assoc, false≢true}
+use mathlib.Core.List.{List, []}
+use Prim.Native.Nat.{ℕ, suc, _+_, _-_, _*_, _/_, _≤_, _<_}
+use native.Mathlib.Omega.{arith}
+use lib.Dec.{eqb, ltb}
+use lib.IntN.{ℤ, pos, negsuc, natAbs}
+use lib.ListN.{length, take, drop}
+use lib.Signed.{ltZ}
+use borrow.Author.Tests.{lt-ltb, le-ltb, le-leb, lt-leb, ltb-true, ltb-false, eqb-true, not-false}
+use Rattle.finite.specs.Fold.{foldBelow, anyBelow}
+use Rattle.finite.proofs.AnyAll.{or-false}
+use Rattle.mesh.specs.Limits.{minVertices, maxVertices, minFaces, maxFaces}
+use Rattle.mesh.specs.Corner.{Corners}
+use Rattle.mesh.specs.Refusal.{off, sizesOff}
+use Rattle.mesh.specs.Accepted.{Sized}
+use Rattle.mesh.specs.Answer.{faceCorners}
+use Rattle.mesh.specs.Private.{Indices}
+
+pub off-false : (a b x : ℕ) → off a b x ≡ false → (a ≤ x) × (x ≤ b)
+off-false a b x e = let h = or-false (ltb x a) (ltb b x) e in (ltb-false x a (h .0), ltb-false b x (h .1))
+
+pub sizes-false : (v f positions tags indices : ℕ) → sizesOff v f positions tags indices ≡ false → Sized v f positions tags indices
+unfolding sizesOff
+sizes-false v f positions tags indices e =
+    let h₁ = or-false (off minVertices maxVertices v) _ e in
+    let h₂ = or-false (off minFaces maxFaces f) _ (h₁ .1) in
+    let h₃ = or-false (not (eqb positions (3 * v))) _ (h₂ .1) in
+    let h₄ = or-false (not (eqb tags v)) (not (eqb indices (4 * f))) (h₃ .1) in
+    let vs = off-false minVertices maxVertices v (h₁ .0) in
+    let fs = off-false minFaces maxFaces f (h₂ .0) in
+    record {
+      vertices-low = vs .0;
+      vertices-high = vs .1;
+      faces-low = fs .0;
+      faces-high = fs .1;
+      positions-are = eqb-true positions (3 * v) (not-false (eqb positions (3 * v)) (h₃ .0));
+      tags-are = eqb-true tags v (not-false (eqb tags v) (h₄ .0));
+      indices-are = eqb-true indices (4 * f) (not-false (eqb indices (4 * f)) (h₄ .1));
+    }
+
+-- the corners of a face list are whole faces
+pub indices-corners : {faces : List ℕ} {n : ℕ} → Indices faces n → Corners n
+indices-corners i = record { whole = i .whole; fits = omega arith }
+
+pub any-of-three : (p : ℕ → Bool) → anyBelow p 3 ≡ (p 0 || (p 1 || p 2))
+unfolding foldBelow
+any-of-three p = or-assoc (p 0) (p 1) (p 2)
+
+-- beyond -(m + 1), and past m + 1, is a magnitude above m + 1
+pub beyond-below : (m : ℕ) (x : ℤ) → ltZ x (negsuc m) ≡ true → true ≡ ltb (suc m) (natAbs x)
+beyond-below m (pos a) e = absurd (false≢true e)
+beyond-below m (negsuc a) e = sym (lt-ltb (suc m) (suc a) (omega (arith, ltb-true m a e)))
+
+pub beyond-above : (m : ℕ) (x : ℤ) → ltZ x (negsuc m) ≡ false → ltZ (pos (suc m)) x ≡ ltb (suc m) (natAbs x)
+beyond-above m (pos a) e = refl
+beyond-above m (negsuc a) e = sym (le-ltb (suc m) (suc a) (omega (arith, ltb-false m a e)))
+
+-- a test in two steps, of which the first said b
+pub or-found : (b x y : Bool) → b ≡ x → b ≡ true → true ≡ (x || y)
+or-found b x y e q = sym (ap (λ (t : Bool). t || y) (sym e ∙ q))
+
+pub or-passed : (b x y w : Bool) → b ≡ x → b ≡ false → w ≡ y → w ≡ (x || y)
+or-passed b x y w e q h = h ∙ sym (ap (λ (t : Bool). t || y) (sym e ∙ q))
+
+-- ---- the four corners of a face
+pub corners-some : (faces : List ℕ) (f : ℕ) → f < length faces / 4 → take (4 * f + 4 - 4 * f) (drop (4 * f) faces) ≡ faceCorners faces f
+unfolding faceCorners
+corners-some faces f h =
+    ap (λ (k : ℕ). take k (drop (4 * f) faces)) (let e : 4 * f + 4 - 4 * f ≡ 4 = omega arith in e)
+    ∙ sym (ap (λ (b : Bool). cond b (take 4 (drop (4 * f) faces)) []) (le-leb (4 * f + 4) (length faces) (omega arith)))
+
+pub corners-none : (faces : List ℕ) (f : ℕ) → length faces / 4 ≤ f → [] ≡ faceCorners faces f
+unfolding faceCorners
+corners-none faces f h = sym (ap (λ (b : Bool). cond b (take 4 (drop (4 * f) faces)) []) (lt-leb (4 * f + 4) (length faces) (omega arith)))

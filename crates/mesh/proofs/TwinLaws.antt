@@ -1,0 +1,92 @@
+-- Twins of half-edges: where no half-edge occurs twice the same way round there is at most one, and it has the half-edge for its own twin.
+use mathlib.Core.Path.{_≡_, sym, ap, ap₂, _∙_}
+use mathlib.Core.Bool.{Bool, true, false, not, _&&_, and-false, true≢false}
+use mathlib.Core.Logic.{_⊎_, inl, inr, ⊎-elim}
+use Prim.Native.Nat.{ℕ, _<_}
+use lib.Dec.{eqb}
+use borrow.Author.Tests.{eq-eqb, eqb-true}
+use Rattle.finite.specs.Fold.{anyBelow}
+use Rattle.finite.proofs.FoldLaws.{bool-cases}
+use Rattle.finite.proofs.AnyAll.{and-true, any-false, any-none}
+use Rattle.finite.proofs.Least.{least-cases}
+use Rattle.mesh.specs.Limits.{noTwin}
+use Rattle.mesh.specs.Corner.{next, Corners}
+use Rattle.mesh.specs.HalfEdge.{isTwin, twin, sameWay, doubled, Simple, Paired}
+use Rattle.mesh.proofs.CornerLaws.{not-none}
+
+-- a twin starts where its half-edge ends
+abbrev pub Joins : ℕ → (ℕ → ℕ) → (ℕ → ℕ) → Type 0
+Joins n at tw = (c : ℕ) → c < n → tw c < n → at (tw c) ≡ at (next c)
+
+both : (a b c d : ℕ) → (eqb a b && eqb c d) ≡ true → (a ≡ b) × (c ≡ d)
+both a b c d e = let p = and-true (eqb a b) (eqb c d) e in (eqb-true a b (p .0), eqb-true c d (p .1))
+
+both-eqb : (a b c d : ℕ) → a ≡ b → c ≡ d → (eqb a b && eqb c d) ≡ true
+both-eqb a b c d p q = ap₂ _&&_ (eq-eqb a b p) (eq-eqb c d q)
+
+module _ (n : ℕ) (at : ℕ → ℕ) (c : ℕ) where
+  -- a half-edge has a twin, which joins its vertices the other way, or no half-edge does
+  pub twin-cases : ((twin at n c < n) × (at (twin at n c) ≡ at (next c)) × (at (next (twin at n c)) ≡ at c))
+      ⊎ ((twin at n c ≡ noTwin) × ((d : ℕ) → d < n → at d ≡ at (next c) → at (next d) ≡ at c → ⊥))
+  unfolding twin isTwin
+  twin-cases =
+      ⊎-elim
+      (λ w.
+      let p = both (at (w .0)) (at (next c)) (at (next (w .0))) (at c) (w .3) in
+      inl (rw (w .1) (w .2), rw (w .1) (p .0), rw (w .1) (p .1)))
+      (λ w. inr (rw (w .0), λ d l p q. true≢false (sym (both-eqb (at d) (at (next c)) (at (next d)) (at c) p q) ∙ w .1 d l)))
+      (least-cases (isTwin at c) n)
+
+  pub twin-ends : Corners n → twin at n c < n → (at (twin at n c) ≡ at (next c)) × (at (next (twin at n c)) ≡ at c)
+  twin-ends k l = ⊎-elim (λ w. (w .1, w .2)) (λ w. absurd (not-none k (twin at n c) l (w .0))) twin-cases
+
+pub twin-joins : {n : ℕ} (at : ℕ → ℕ) → Corners n → Joins n at (twin at n)
+twin-joins {n} at k c l t = twin-ends n at c k t .0
+
+-- what joins the vertices of c the other way is its twin
+pub twin-is : {n : ℕ} (at : ℕ → ℕ) → Simple n at → (c d : ℕ) → d < n → at d ≡ at (next c) → at (next d) ≡ at c → twin at n c ≡ d
+twin-is {n} at simple c d l p q =
+    ⊎-elim
+    (λ w. simple (twin at n c) d (w .0) l (w .1 ∙ sym p) (w .2 ∙ sym q))
+    (λ w. absurd (w .1 d l p q))
+    (twin-cases n at c)
+
+module _ {n : ℕ} (at : ℕ → ℕ) (k : Corners n) (simple : Simple n at) where
+  pub twin-twin : (c : ℕ) → c < n → twin at n c < n → twin at n (twin at n c) ≡ c
+  twin-twin c l t = let e = twin-ends n at c k t in twin-is at simple (twin at n c) c l (sym (e .1)) (sym (e .0))
+
+  pub twin-paired : Paired n (twin at n)
+  twin-paired = record { pairs = λ c l. ⊎-elim (λ w. inr (w .0, twin-twin c l (w .0))) (λ w. inl (w .0)) (twin-cases n at c) }
+
+-- a table of twins that come in pairs
+pub paired-ext : {n : ℕ} (tw : ℕ → ℕ) {tw′ : ℕ → ℕ} → ((c : ℕ) → c < n → tw c ≡ tw′ c) → Paired n tw′ → Paired n tw
+paired-ext tw same p = record {
+  pairs = λ c l.
+      ⊎-elim
+      (λ e. inl (same c l ∙ e))
+      (λ w. inr (rw (same c l) (w .0), ap tw (same c l) ∙ same _ (w .0) ∙ w .1))
+      (p .pairs c l);
+}
+
+-- half-edge d occurs the same way round as c, and is another one
+abbrev again : (ℕ → ℕ) → ℕ → ℕ → Bool
+again at c d = not (eqb d c) && sameWay at c d
+
+pub doubled-simple : (n : ℕ) (at : ℕ → ℕ) → doubled at n ≡ false → Simple n at
+unfolding doubled sameWay
+doubled-simple n at e c d lc ld p q =
+    bool-cases (eqb d c)
+    (λ t. sym (eqb-true d c t))
+    (λ t.
+    let miss = any-false (again at c) n (any-false (λ c. anyBelow (again at c) n) n e c lc) d ld in
+    let hit = ap₂ _&&_ (ap not t) (both-eqb (at d) (at c) (at (next d)) (at (next c)) (sym p) (sym q)) in
+    absurd (true≢false (sym hit ∙ miss)))
+
+pub simple-doubled : (n : ℕ) (at : ℕ → ℕ) → Simple n at → doubled at n ≡ false
+unfolding doubled sameWay
+simple-doubled n at simple =
+    any-none (λ c. anyBelow (again at c) n) n (λ c lc.
+    any-none (again at c) n (λ d ld.
+    bool-cases (sameWay at c d)
+    (λ t. let w = both (at d) (at c) (at (next d)) (at (next c)) t in rw (eq-eqb d c (simple d c ld lc (w .0) (w .1))))
+    (λ t. rw t (and-false (not (eqb d c))))))

@@ -1,0 +1,61 @@
+-- `fill_twins` meets its contract: the places passed hold their twins, and the others what they held.
+use mathlib.Core.Path.{_≡_}
+use Prim.Native.Nat.{_-_, _≤_}
+use native.Mathlib.Omega.{arith}
+use lib.ListN.{length}
+use borrow.Author.Needs.{needs}
+use Rattle.finite.proofs.FilledLaws.{filled-start, filled-more, filled-all}
+use Rattle.finite.specs.Filled.{filled}
+use Rattle.mesh.specs.HalfEdge.{twin}
+use Rattle.mesh.specs.Private.{vertexOf}
+use Rattle.mesh.proofs.chain.fill_twins.Statement.{statement}
+use Rattle.mesh.proofs.chain.fill_twins.Tie as tie
+
+abbrev Inv-loop : tie.InvT-loop
+Inv-loop faces n head link twins₀ c₀ twins c = (c ≤ n) × (length twins ≡ length twins₀) × (twins ≡ filled (twin (vertexOf faces) n) c twins₀)
+
+abbrev μ-loop : tie.MeasureT-loop
+μ-loop faces n head link twins₀ c₀ twins c = n - c
+
+loop-holds : tie.Need-loop-holds Inv-loop μ-loop
+loop-holds c = search (filled-start, needs)
+
+twin-of-requires : tie.Need-twin-of-requires Inv-loop μ-loop
+twin-of-requires c κs = search needs
+
+mul-twins : tie.Need-mul-twins Inv-loop μ-loop
+mul-twins c = omega arith
+
+slice-write-twins : tie.Need-slice-write-twins Inv-loop μ-loop
+slice-write-twins c = omega arith
+
+add-c : tie.Need-add-c Inv-loop μ-loop
+add-c c = omega arith
+
+loop-less : tie.Need-loop-less Inv-loop μ-loop
+loop-less c = omega arith
+
+loop-again : tie.Need-loop-again Inv-loop μ-loop
+loop-again c = (omega arith, search needs, filled-more _ _ _ _ _ (omega arith) (c .before .before .loop .inv .2) (c .twin-of .ensures))
+
+same-length : tie.Need-same-length Inv-loop μ-loop
+same-length c = search needs
+
+returns : tie.Need-returns Inv-loop μ-loop
+returns c = search (filled-all, needs)
+
+pub fill-twins-spec : {M : Type 1} → statement M
+fill-twins-spec =
+    tie.close
+    (tie.spec
+    Inv-loop
+    μ-loop
+    loop-holds
+    twin-of-requires
+    mul-twins
+    slice-write-twins
+    add-c
+    loop-less
+    loop-again
+    same-length
+    returns)

@@ -1,0 +1,149 @@
+-- `link_corners` meets its contract: the corners passed are chained and no half-edge among them runs as an earlier one does.
+use mathlib.Core.Bool.{true≢false, false}
+use mathlib.Core.Path.{_≡_, refl, sym, ap, _∙_, subst}
+use Prim.Native.Nat.{ℕ, _-_, _<_, _≤_}
+use native.Mathlib.Nat.{le-antisymm}
+use native.Mathlib.Omega.{arith}
+use lib.Dec.{eqb}
+use lib.ListN.{length}
+use borrow.Author.Needs.{needs}
+use Rattle.finite.specs.Fold.{anyBelow}
+use Rattle.finite.proofs.AnyAll.{any-start, any-more, any-found, any-not}
+use Rattle.mesh.specs.Limits.{maxVertices}
+use Rattle.mesh.specs.Corner.{next}
+use Rattle.mesh.specs.HalfEdge.{runs}
+use Rattle.mesh.specs.Private.{vertexOf, latest, Chained}
+use Rattle.mesh.proofs.ChainLaws.{chained-start, chained-more, doubled-earlier}
+use Rattle.mesh.proofs.chain.link_corners.Statement.{statement}
+use Rattle.mesh.proofs.chain.link_corners.Tie as tie
+
+abbrev Inv-loop : tie.InvT-loop
+Inv-loop faces n head₀ link₀ c₀ head link c =
+    (c ≤ n) × (length head ≡ length head₀) × (length link ≡ length link₀) × Chained (vertexOf faces) c head link
+    × (anyBelow (λ d. anyBelow (runs (vertexOf faces) (vertexOf faces d) (vertexOf faces (next d))) d) c ≡ false)
+
+abbrev μ-loop : tie.MeasureT-loop
+μ-loop faces n head₀ link₀ c₀ head link c = n - c
+
+-- the vertex of corner c has a place in the table of heads
+inside : (c : tie.After-wide Inv-loop μ-loop) → c .wide .result < maxVertices
+inside c =
+    let l = c .before .before .before in
+    let i = l .before .before .before .before .pre .0 .0 in
+    omega (arith, c .wide .ensures, i .named (l .loop .c) (c .before .before .loop-test .taken))
+
+loop-holds : tie.Need-loop-holds Inv-loop μ-loop
+loop-holds c = (omega arith, refl, refl, chained-start _ _ _ (c .before .before .before .pre .1), any-start _)
+
+mul-wide : tie.Need-mul-wide Inv-loop μ-loop
+mul-wide c = omega arith
+
+shared-slice-read-wide : tie.Need-shared-slice-read-wide Inv-loop μ-loop
+shared-slice-read-wide c = omega arith
+
+wide-requires : tie.Need-wide-requires Inv-loop μ-loop
+wide-requires c κs = tt
+
+mul-start : tie.Need-mul-start Inv-loop μ-loop
+mul-start c = let h = inside c in omega arith
+
+slice-read-start : tie.Need-slice-read-start Inv-loop μ-loop
+slice-read-start c = let h = inside (c .before) in omega arith
+
+occurs-before-requires : tie.Need-occurs-before-requires Inv-loop μ-loop
+occurs-before-requires c κs =
+    let w = c .before .before in
+    let l = w .before .before .before in
+    let s = l .before .before .before .before in
+    let at = vertexOf (s .args .faces .now) in
+    ((s .pre .0 .0, omega arith, omega arith), (l .loop .inv .3 .heads (w .wide .result) (inside w) ∙ ap (λ (x : ℕ). latest (λ d. eqb (at d) x) (l .loop .c)) (w .wide .ensures), l .loop .inv .3 .links))
+
+same-length : tie.Need-same-length Inv-loop μ-loop
+same-length c = search needs
+
+same-length-2 : tie.Need-same-length-2 Inv-loop μ-loop
+same-length-2 c = search needs
+
+returns : tie.Need-returns Inv-loop μ-loop
+returns c =
+    let o = c .before in
+    let l = o .before .before .before .before .before .before in
+    (any-found _ _ _ _ (o .before .before .before .before .before .loop-test .taken) (o .occurs-before .ensures) (c .if1 .taken) ∙ sym (doubled-earlier _ _), λ e. absurd (true≢false e))
+
+mul-link : tie.Need-mul-link Inv-loop μ-loop
+mul-link c = omega arith
+
+slice-write-link : tie.Need-slice-write-link Inv-loop μ-loop
+slice-write-link c = omega arith
+
+add-head : tie.Need-add-head Inv-loop μ-loop
+add-head c = omega arith
+
+cast-head : tie.Need-cast-head Inv-loop μ-loop
+cast-head c = search needs
+
+mul-head : tie.Need-mul-head Inv-loop μ-loop
+mul-head c = let h = inside (c .before .before .before .before) in omega arith
+
+slice-write-head : tie.Need-slice-write-head Inv-loop μ-loop
+slice-write-head c = let h = inside (c .before .before .before .before) in omega arith
+
+add-c : tie.Need-add-c Inv-loop μ-loop
+add-c c = omega arith
+
+loop-less : tie.Need-loop-less Inv-loop μ-loop
+loop-less c = omega arith
+
+loop-again : tie.Need-loop-again Inv-loop μ-loop
+loop-again c =
+    let o = c .before in
+    let w = o .before .before .before in
+    let l = w .before .before .before in
+    let h = inside w in (
+      omega arith,
+      search needs,
+      search needs,
+      chained-more _ (l .loop .c) (w .wide .result) _ _ (l .loop .inv .3) (w .wide .ensures) _ _ refl refl h (omega arith) (omega arith),
+      any-more _ _ _ (l .loop .inv .4) (o .occurs-before .ensures) (c .if1 .left),
+    )
+
+same-length-3 : tie.Need-same-length-3 Inv-loop μ-loop
+same-length-3 c = search needs
+
+same-length-4 : tie.Need-same-length-4 Inv-loop μ-loop
+same-length-4 c = search needs
+
+returns-2 : tie.Need-returns-2 Inv-loop μ-loop
+returns-2 c =
+    let l = c .before .loop in
+    let at = vertexOf (c .before .before .before .before .before .args .faces .now) in
+    (any-not _ _ _ (l .inv .4) (c .loop-test .left) ∙ sym (doubled-earlier _ _), λ e. subst (λ (k : ℕ). Chained at k (l .head) (l .link)) (le-antisymm (l .inv .0) (c .loop-test .left)) (l .inv .3))
+
+pub link-corners-spec : {M : Type 1} → statement M
+link-corners-spec =
+    tie.close
+    (tie.spec
+    Inv-loop
+    μ-loop
+    loop-holds
+    mul-wide
+    shared-slice-read-wide
+    wide-requires
+    mul-start
+    slice-read-start
+    occurs-before-requires
+    same-length
+    same-length-2
+    returns
+    mul-link
+    slice-write-link
+    add-head
+    cast-head
+    mul-head
+    slice-write-head
+    add-c
+    loop-less
+    loop-again
+    same-length-3
+    same-length-4
+    returns-2)

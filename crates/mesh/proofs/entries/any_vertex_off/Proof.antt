@@ -1,0 +1,66 @@
+-- `any_vertex_off` meets its contract: the corners passed name vertices below v.
+use mathlib.Core.Path.{_≡_, refl, sym, subst}
+use mathlib.Core.Bool.{true, false}
+use Prim.Native.Nat.{ℕ, _-_, _<_, _≤_}
+use native.Mathlib.Omega.{arith}
+use lib.Dec.{leb}
+use borrow.Author.Needs.{needs}
+use borrow.Author.Tests.{le-leb, lt-leb}
+use Rattle.finite.specs.Fold.{anyBelow}
+use Rattle.finite.proofs.AnyAll.{any-start, any-more, any-found, any-not}
+use Rattle.mesh.specs.Private.{vertexOf}
+use Rattle.mesh.proofs.entries.any_vertex_off.Statement.{statement}
+use Rattle.mesh.proofs.entries.any_vertex_off.Tie as tie
+
+abbrev Inv-loop : tie.InvT-loop
+Inv-loop faces n v c₀ c = (c ≤ n) × (anyBelow (λ d. leb v (vertexOf faces d)) c ≡ false)
+
+abbrev μ-loop : tie.MeasureT-loop
+μ-loop faces n v c₀ c = n - c
+
+loop-holds : tie.Need-loop-holds Inv-loop μ-loop
+loop-holds c = search (any-start, needs)
+
+mul-wide : tie.Need-mul-wide Inv-loop μ-loop
+mul-wide c = omega arith
+
+shared-slice-read-wide : tie.Need-shared-slice-read-wide Inv-loop μ-loop
+shared-slice-read-wide c = omega arith
+
+wide-requires : tie.Need-wide-requires Inv-loop μ-loop
+wide-requires c κs = tt
+
+returns : tie.Need-returns Inv-loop μ-loop
+returns c =
+    let s = c .before .before .before .before .before .before in
+    any-found _ _ _ true (c .before .before .before .loop-test .taken) (sym (le-leb _ _ (subst (λ (x : ℕ). s .args .v ≤ x) (c .before .wide .ensures) (c .if1 .taken)))) refl
+
+add-c : tie.Need-add-c Inv-loop μ-loop
+add-c c = omega arith
+
+loop-less : tie.Need-loop-less Inv-loop μ-loop
+loop-less c = omega arith
+
+loop-again : tie.Need-loop-again Inv-loop μ-loop
+loop-again c =
+    let s = c .before .before .before .before .before .before in
+    (omega arith, any-more _ _ false (c .before .before .before .before .loop .inv .1) (sym (lt-leb _ _ (subst (λ (x : ℕ). x < s .args .v) (c .before .wide .ensures) (c .if1 .left)))) refl)
+
+returns-2 : tie.Need-returns-2 Inv-loop μ-loop
+returns-2 c = search (any-not, needs)
+
+pub any-vertex-off-spec : {M : Type 1} → statement M
+any-vertex-off-spec =
+    tie.close
+    (tie.spec
+    Inv-loop
+    μ-loop
+    loop-holds
+    mul-wide
+    shared-slice-read-wide
+    wide-requires
+    returns
+    add-c
+    loop-less
+    loop-again
+    returns-2)

@@ -1,0 +1,54 @@
+-- `any_vertex_twice` meets its contract: the corners passed have vertices of their own in their faces.
+use mathlib.Core.Path.{_≡_}
+use mathlib.Core.Bool.{false}
+use Prim.Native.Nat.{suc, _-_, _≤_}
+use native.Mathlib.Omega.{arith}
+use lib.Dec.{eqb}
+use borrow.Author.Needs.{needs}
+use Rattle.finite.specs.Fold.{anyBelow}
+use Rattle.finite.proofs.AnyAll.{any-start, any-more, any-found, any-not}
+use Rattle.mesh.specs.Corner.{turn}
+use Rattle.mesh.specs.Private.{vertexOf}
+use Rattle.mesh.proofs.entries.any_vertex_twice.Statement.{statement}
+use Rattle.mesh.proofs.entries.any_vertex_twice.Tie as tie
+
+abbrev Inv-loop : tie.InvT-loop
+Inv-loop faces n c₀ c = (c ≤ n) × (anyBelow (λ d. anyBelow (λ i. eqb (vertexOf faces (turn (suc i) d)) (vertexOf faces d)) 3) c ≡ false)
+
+abbrev μ-loop : tie.MeasureT-loop
+μ-loop faces n c₀ c = n - c
+
+loop-holds : tie.Need-loop-holds Inv-loop μ-loop
+loop-holds c = search (any-start, needs)
+
+vertex-twice-requires : tie.Need-vertex-twice-requires Inv-loop μ-loop
+vertex-twice-requires c κs = search needs
+
+returns : tie.Need-returns Inv-loop μ-loop
+returns c = search (any-found, needs)
+
+add-c : tie.Need-add-c Inv-loop μ-loop
+add-c c = omega arith
+
+loop-less : tie.Need-loop-less Inv-loop μ-loop
+loop-less c = omega arith
+
+loop-again : tie.Need-loop-again Inv-loop μ-loop
+loop-again c = search (any-more, needs)
+
+returns-2 : tie.Need-returns-2 Inv-loop μ-loop
+returns-2 c = search (any-not, needs)
+
+pub any-vertex-twice-spec : {M : Type 1} → statement M
+any-vertex-twice-spec =
+    tie.close
+    (tie.spec
+    Inv-loop
+    μ-loop
+    loop-holds
+    vertex-twice-requires
+    returns
+    add-c
+    loop-less
+    loop-again
+    returns-2)

@@ -1,0 +1,38 @@
+-- `accepted` meets its contract: the half-edges before their twins are the edges, and 4F + B = 2E gives the boundary.
+use mathlib.Core.Path.{_≡_, ap₂, _∙_}
+use Prim.Native.Nat.{ℕ, _+_, _*_, _-_}
+use native.Mathlib.Omega.{arith}
+use lib.Dec.{ltb}
+use Rattle.finite.proofs.Counting.{count-le}
+use Rattle.mesh.specs.Private.{twinOf, vertexOf}
+use Rattle.mesh.specs.HalfEdge.{boundaries}
+use Rattle.mesh.proofs.PhaseLaws.{edges-table, edges-left}
+use Rattle.mesh.proofs.phases.accepted.Statement.{statement}
+use Rattle.mesh.proofs.phases.accepted.Tie as tie
+
+-- the boundary half-edges are what the edges leave over
+left : (c : tie.After-count-edges) → 4 * c .before .before .before .args .f + boundaries (vertexOf (c .before .before .before .args .faces .now)) (4 * c .before .before .before .args .f) ≡ 2 * c .count-edges .result
+left c = edges-left (c .before .before .before .pre) (c .count-edges .result) (c .count-edges .ensures)
+
+mul-n : tie.Need-mul-n
+mul-n c = let i = c .before .before .pre .indices in omega arith
+
+count-edges-requires : tie.Need-count-edges-requires
+count-edges-requires c κs = c .before .before .pre .twins-listed
+
+mul-boundary : tie.Need-mul-boundary
+mul-boundary c =
+    let s = c .before .before .before in
+    omega (arith, s .pre .indices .few, c .count-edges .ensures, count-le (λ d. ltb d (twinOf (s .args .twins .now) d)) (4 * s .args .f))
+
+sub-boundary : tie.Need-sub-boundary
+sub-boundary c = omega (arith, left c)
+
+returns : tie.Need-returns
+returns c =
+    let s = c .before .before .before in
+    let b : 2 * c .count-edges .result - 4 * s .args .f ≡ boundaries (vertexOf (s .args .faces .now)) (4 * s .args .f) = omega (arith, left c) in
+    ap₂ (λ (e x : ℕ). record { vertices = s .args .v; faces = s .args .f; edges = e; boundary = x }) (c .count-edges .ensures ∙ edges-table (s .pre)) b
+
+pub accepted-spec : {M : Type 1} → statement M
+accepted-spec = tie.close (tie.spec mul-n count-edges-requires mul-boundary sub-boundary returns)

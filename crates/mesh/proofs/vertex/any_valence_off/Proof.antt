@@ -1,0 +1,72 @@
+-- `any_valence_off` meets its contract: the vertices passed have valences in their range.
+use mathlib.Core.Path.{_≡_, ap, _∙_}
+use mathlib.Core.Bool.{false}
+use Prim.Native.Nat.{_-_, _≤_}
+use native.Mathlib.Omega.{arith}
+use lib.ListN.{getD}
+use borrow.Author.Needs.{needs}
+use Rattle.finite.specs.Fold.{anyBelow}
+use Rattle.finite.proofs.AnyAll.{any-start, any-more, any-found, any-not}
+use Rattle.mesh.specs.Refusal.{valenceBad}
+use Rattle.mesh.proofs.vertex.any_valence_off.Statement.{statement}
+use Rattle.mesh.proofs.vertex.any_valence_off.Tie as tie
+
+abbrev Inv-loop : tie.InvT-loop
+Inv-loop valences on-boundary v p₀ p = (p ≤ v) × (anyBelow (λ q. valenceBad (getD on-boundary q false) (getD valences q 0)) p ≡ false)
+
+abbrev μ-loop : tie.MeasureT-loop
+μ-loop valences on-boundary v p₀ p = v - p
+
+loop-holds : tie.Need-loop-holds Inv-loop μ-loop
+loop-holds c = search (any-start, needs)
+
+shared-slice-read-valence-bad : tie.Need-shared-slice-read-valence-bad Inv-loop μ-loop
+shared-slice-read-valence-bad c = omega arith
+
+mul-wide : tie.Need-mul-wide Inv-loop μ-loop
+mul-wide c = omega arith
+
+shared-slice-read-wide : tie.Need-shared-slice-read-wide Inv-loop μ-loop
+shared-slice-read-wide c = omega arith
+
+wide-requires : tie.Need-wide-requires Inv-loop μ-loop
+wide-requires c κs = tt
+
+valence-bad-requires : tie.Need-valence-bad-requires Inv-loop μ-loop
+valence-bad-requires c κs = tt
+
+told : (c : tie.After-valence-bad Inv-loop μ-loop) → c .valence-bad .result ≡ valenceBad (getD (c .before .before .before .before .before .before .before .before .args .on-boundary .now) (c .before .before .before .before .before .loop .p) false) (getD (c .before .before .before .before .before .before .before .before .args .valences .now) (c .before .before .before .before .before .loop .p) 0)
+told c = c .valence-bad .ensures ∙ ap (valenceBad (getD (c .before .before .before .before .before .before .before .before .args .on-boundary .now) (c .before .before .before .before .before .loop .p) false)) (c .before .wide .ensures)
+
+returns : tie.Need-returns Inv-loop μ-loop
+returns c = any-found _ _ _ _ (c .before .before .before .before .before .loop-test .taken) (told (c .before)) (c .if1 .taken)
+
+add-p : tie.Need-add-p Inv-loop μ-loop
+add-p c = omega arith
+
+loop-less : tie.Need-loop-less Inv-loop μ-loop
+loop-less c = omega arith
+
+loop-again : tie.Need-loop-again Inv-loop μ-loop
+loop-again c = (omega arith, any-more _ _ _ (c .before .before .before .before .before .before .loop .inv .1) (told (c .before)) (c .if1 .left))
+
+returns-2 : tie.Need-returns-2 Inv-loop μ-loop
+returns-2 c = search (any-not, needs)
+
+pub any-valence-off-spec : {M : Type 1} → statement M
+any-valence-off-spec =
+    tie.close
+    (tie.spec
+    Inv-loop
+    μ-loop
+    loop-holds
+    shared-slice-read-valence-bad
+    mul-wide
+    shared-slice-read-wide
+    wide-requires
+    valence-bad-requires
+    returns
+    add-p
+    loop-less
+    loop-again
+    returns-2)

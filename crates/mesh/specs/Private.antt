@@ -1,0 +1,55 @@
+-- What only the contracts of private functions cite: the tables that the code keeps while it checks a mesh.
+--
+--   refusalOf r       a refusal as the private functions hand it on: its number, 0 for none
+--   vertexOf faces c, twinOf twins c   the vertex of corner c, the twin of half-edge c, as the lists have them
+--   Holds z xs k g    each place p below k of the list xs holds g p
+--   latest p n        one more than the greatest number below n that has p; 0 for none
+--   Chained at c head link   the corners below c, chained by vertex from the last to the first: `head` has the last
+--                     corner at each vertex, `link` the corner at the same vertex before each corner, both plus 1, 0 for none
+--   Indices faces n   the first n numbers of the face list are whole faces, and their vertices have places in the tables
+--   Counted faces twins v f   what the counts of a mesh of v vertices and f faces rest on, with its twins
+use mathlib.Core.Path.{_≡_}
+use mathlib.Core.Bool.{Bool, cond}
+use mathlib.Core.List.{List}
+use mathlib.Core.Option.{Option, none, some}
+use Prim.Native.Nat.{ℕ, zero, suc, _*_, _%_, _≤_, _<_}
+use lib.Dec.{eqb}
+use lib.ListN.{length, getD}
+use Rattle.mesh.specs.Limits.{maxVertices, maxFaces}
+use Rattle.mesh.specs.Corner.{next}
+use Rattle.mesh.specs.HalfEdge.{twin, Simple}
+
+abbrev pub Holds : {A : Type 0} → A → List A → ℕ → (ℕ → A) → Type 0
+Holds z xs k g = (p : ℕ) → p < k → getD xs p z ≡ g p
+
+abbrev pub refusalOf : ℕ → Option ℕ
+refusalOf zero = none
+refusalOf (suc k) = some (suc k)
+
+abbrev pub vertexOf : List ℕ → ℕ → ℕ
+vertexOf faces c = getD faces c 0
+
+abbrev pub twinOf : List ℕ → ℕ → ℕ
+twinOf twins c = getD twins c 0
+
+unfoldable pub latest : (ℕ → Bool) → ℕ → ℕ
+latest p zero = 0
+latest p (suc n) = cond (p n) (suc n) (latest p n)
+
+pub record Chained (at : ℕ → ℕ) (c : ℕ) (head link : List ℕ) : Type 0 where
+  pub heads : Holds 0 head maxVertices (λ p. latest (λ d. eqb (at d) p) c)
+  pub links : Holds 0 link c (λ e. latest (λ d. eqb (at d) (at e)) e)
+
+pub record Indices (faces : List ℕ) (n : ℕ) : Type 0 where
+  pub whole : n % 4 ≡ 0
+  pub few : n ≤ 4 * maxFaces
+  pub listed : n ≤ length faces
+  pub named : (c : ℕ) → c < n → vertexOf faces c < maxVertices
+
+pub record Counted (faces twins : List ℕ) (v f : ℕ) : Type 0 where
+  pub indices : Indices faces (4 * f)
+  pub named : (c : ℕ) → c < 4 * f → vertexOf faces c < v
+  pub simple : Simple (4 * f) (vertexOf faces)
+  pub ends : (c : ℕ) → c < 4 * f → vertexOf faces (next c) ≡ vertexOf faces c → ⊥
+  pub twins-listed : 4 * f ≤ length twins
+  pub twins-are : Holds 0 twins (4 * f) (twin (vertexOf faces) (4 * f))

@@ -1,0 +1,81 @@
+-- When a mesh is turned down: the causes of document 01's table, "When a call says no", each as a Bool rendered from its sentence,
+-- and the table itself in the order of checking. "Checked in the order of the numbers; each looks at the whole mesh before the next begins."
+use mathlib.Core.Bool.{Bool, not, cond, _&&_, _||_}
+use mathlib.Core.List.{List, [], _∷_}
+use Prim.Native.Nat.{ℕ, suc, _*_}
+use lib.Dec.{eqb, ltb, leb}
+use lib.IntN.{natAbs}
+use lib.ListN.{length}
+use Rattle.finite.specs.Fold.{anyBelow}
+use Rattle.finite.specs.Table.{Row, row}
+use Rattle.mesh.specs.Limits.{minVertices, maxVertices, minFaces, maxFaces, maxCoordinate, minValence, maxValence, minBoundaryFaces, maxBoundaryFaces, cornerTag}
+use Rattle.mesh.specs.Corner.{turn}
+use Rattle.mesh.specs.HalfEdge.{doubled}
+use Rattle.mesh.specs.Fan.{valence, onBoundary, fan}
+use Rattle.mesh.specs.IndexedMesh.{IndexedMesh, corners, at, tag, coordinate}
+
+-- x is off the range from a to b
+abbrev pub off : ℕ → ℕ → ℕ → Bool
+off a b x = ltb x a || ltb b x
+
+-- 1: "V or F off its range, or a mesh list of another length", for sizes v, f and lists of these lengths
+unfoldable pub sizesOff : ℕ → ℕ → ℕ → ℕ → ℕ → Bool
+sizesOff v f positions tags indices =
+    off minVertices maxVertices v || (off minFaces maxFaces f
+    || (not (eqb positions (3 * v)) || (not (eqb tags v) || not (eqb indices (4 * f)))))
+
+-- 3: "coordinate off its range"
+unfoldable pub coordinateOff : IndexedMesh → Bool
+coordinateOff M = anyBelow (λ i. ltb maxCoordinate (natAbs (coordinate M i))) (3 * M .vertices)
+
+-- 4: "tag above 1"
+unfoldable pub tagOff : IndexedMesh → Bool
+tagOff M = anyBelow (λ p. ltb cornerTag (tag M p)) (M .vertices)
+
+-- 5: "face names a vertex of V or above"
+unfoldable pub vertexOff : IndexedMesh → Bool
+vertexOff M = anyBelow (λ c. leb (M .vertices) (at M c)) (corners M)
+
+-- 6: "face names a vertex twice": a corner has the vertex of one of the three others of its face
+unfoldable pub vertexTwice : IndexedMesh → Bool
+vertexTwice M = anyBelow (λ c. anyBelow (λ i. eqb (at M (turn (suc i) c)) (at M c)) 3) (corners M)
+
+-- 7: "one side occurs twice the same way round"
+unfoldable pub halfEdgeTwice : IndexedMesh → Bool
+halfEdgeTwice M = doubled (at M) (corners M)
+
+-- 8: "vertex in no face"
+unfoldable pub vertexUnused : IndexedMesh → Bool
+vertexUnused M = anyBelow (λ p. eqb (valence (at M) (corners M) p) 0) (M .vertices)
+
+-- 9: "corners at a vertex form neither one turn nor one chain"
+unfoldable pub fanBroken : IndexedMesh → Bool
+fanBroken M = anyBelow (λ p. not (fan (at M) (corners M) p)) (M .vertices)
+
+-- 10: "n or k off its range", of a vertex with m corners
+abbrev pub valenceBad : Bool → ℕ → Bool
+valenceBad boundary m = cond boundary (off minBoundaryFaces maxBoundaryFaces m) (off minValence maxValence m)
+
+unfoldable pub valenceOff : IndexedMesh → Bool
+valenceOff M = anyBelow (λ p. valenceBad (onBoundary (at M) (corners M) p) (valence (at M) (corners M) p)) (M .vertices)
+
+-- 11: "tag 1 at an inner vertex"
+unfoldable pub innerTagged : IndexedMesh → Bool
+innerTagged M = anyBelow (λ p. eqb (tag M p) cornerTag && not (onBoundary (at M) (corners M) p)) (M .vertices)
+
+-- the rows that are checked before the twins are written: "an earlier refusal does not touch them". Row 2 is the call's own:
+-- whether one of the lists that it was lent is too short
+abbrev pub earlyRows : IndexedMesh → Bool → List Row
+earlyRows M short =
+    row (sizesOff (M .vertices) (M .faces) (length (M .positions)) (length (M .tags)) (length (M .indices))) 1
+    ∷ (row short 2
+    ∷ (row (coordinateOff M) 3
+    ∷ (row (tagOff M) 4
+    ∷ (row (vertexOff M) 5
+    ∷ (row (vertexTwice M) 6
+    ∷ (row (halfEdgeTwice M) 7 ∷ []))))))
+
+-- the rows after it: "After 8 to 11 .. the first 4F mates hold 65535"
+abbrev pub lateRows : IndexedMesh → List Row
+lateRows M =
+    row (vertexUnused M) 8 ∷ (row (fanBroken M) 9 ∷ (row (valenceOff M) 10 ∷ (row (innerTagged M) 11 ∷ [])))
