@@ -1,16 +1,26 @@
 -- The worked examples under a single theorem: what the definitions compute is what is stated.
 use mathlib.Core.List.{List, [], _∷_}
 use mathlib.Core.Path.{_≡_, refl}
+use Prim.Native.Nat.{ℕ, _+_, _*_}
 use lib.IntN.{ℤ, pos, negsuc}
 use lib.ListN.{replicate}
 use Rattle.integer.specs.Nearest.{halfEven, nearestℕ, nearest}
 use Rattle.finite.specs.Fold.{foldBelow}
+use Rattle.finite.specs.Filled.{listBelow, filled}
 use Rattle.mesh.specs.IndexedMesh.{IndexedMesh, corners}
 use Rattle.mesh.specs.HalfEdge.{isTwin, twin, boundary, sameWay, doubled, joins, edges, boundaries}
 use Rattle.mesh.specs.Fan.{valence, onBoundary, around, iterate, fanBy, fan}
 use Rattle.mesh.specs.Refusal.{sizesOff, coordinateOff, tagOff, vertexOff, vertexTwice, halfEdgeTwice, vertexUnused, fanBroken, valenceOff, innerTagged}
 use Rattle.mesh.specs.Answer.{Answer, counts, refusal, meshAnswer, checkAnswer}
-use Rattle.examples.specs.Meshes.{cube, pillow, doubledFace, bowTie, strip, openFanOfEight, openFanOfNine}
+use Rattle.sample.specs.Bernstein.{weight, numerator, rounded}
+use Rattle.sample.specs.Refusal.{faceOff, controlOff, placeOff}
+use Rattle.sample.specs.Answer as Sample
+use Rattle.sample.specs.Answer.{sampleAnswer}
+use Rattle.patch.specs.Mask.{innerMask, edgeMask, boundaryEdgeMask, smoothCornerMask, boundaryCornerMask, vertexMask}
+use Rattle.patch.specs.Point as Point
+use Rattle.patch.specs.Point.{sharp, sharpSum, ringSum, fixed, cornerPoint, innerPoint, edgePoint, alongPoint, beforePoint, point}
+use Rattle.patch.specs.Patch.{owner, kind, patchPoint, patchNumber, patchesAfter}
+use Rattle.examples.specs.Meshes.{square, cube, pillow, doubledFace, bowTie, strip, openFanOfEight, openFanOfNine}
 
 -- an example: what is computed, and what is stated
 pub record Example : Type 0 where
@@ -36,25 +46,55 @@ numbers (refusal k) = pos k ∷ []
 abbrev checked : IndexedMesh → List ℤ
 checked M = numbers (checkAnswer M (replicate (corners M) 0))
 
--- the check's answers: the cube; faces 0 1 2 3 and 3 2 1 0, where every n is 2; the same face twice; two faces with one vertex in
--- common and no half-edge; then, beyond the document, two boundary vertices of two faces, and open fans of eight and nine faces.
--- The roundings: 1/2, 3/2, 5/2, -1/2, -3/2
+-- control point b(i,j) of face f
+abbrev control : IndexedMesh → ℕ → ℕ → ℕ → List ℤ
+control M f i j =
+    patchNumber M (48 * f + 3 * (i + 4 * j)) ∷ patchNumber M (48 * f + 3 * (i + 4 * j) + 1) ∷ patchNumber M (48 * f + 3 * (i + 4 * j) + 2) ∷ []
+
+-- the sample call's answer on the patch list of a mesh
+abbrev sampleNumbers : Sample.Answer → List ℤ
+sampleNumbers (Sample.point x y z) = x ∷ y ∷ z ∷ []
+sampleNumbers (Sample.refusal k) = pos k ∷ []
+
+abbrev sampled : IndexedMesh → ℕ → ℕ → ℕ → ℕ → List ℤ
+sampled M n f a b = sampleNumbers (sampleAnswer (patchesAfter M []) f n a b)
+
+-- three coordinates that are not negative
+abbrev xyz : ℕ → ℕ → ℕ → List ℤ
+xyz x y z = pos x ∷ pos y ∷ pos z ∷ []
+
+-- Those of document 01 that it marks P, in its order: the square's control points and samples; the cube's counts, corner point,
+-- interior point and edge point at (24,24,24); the roundings of 1/2, 3/2, 5/2, -1/2, -3/2; faces 0 1 2 3 and 3 2 1 0, where every n
+-- is 2; the same face twice; two faces with one vertex in common and no half-edge. Then, beyond the document, two faces side by
+-- side with boundary vertices of two faces, and open fans of eight and nine faces.
 pub examples : List Example
 examples =
-    example (checked cube) (pos 8 ∷ pos 6 ∷ pos 12 ∷ pos 0 ∷ [])
-    ∷ example (checked pillow) (pos 10 ∷ [])
-    ∷ example (checked doubledFace) (pos 7 ∷ [])
-    ∷ example (checked bowTie) (pos 9 ∷ [])
-    ∷ example (checked strip) (pos 6 ∷ pos 2 ∷ pos 7 ∷ pos 6 ∷ [])
-    ∷ example (checked openFanOfEight) (pos 18 ∷ pos 8 ∷ pos 25 ∷ pos 18 ∷ [])
-    ∷ example (checked openFanOfNine) (pos 10 ∷ [])
+    example (control square 0 1 0) (xyz 1792 0 0)
+    ∷ example (control square 0 1 1) (xyz 2304 2304 0)
+    ∷ example (control square 0 2 1) (xyz 3072 2304 0)
+    ∷ example (sampled square 2 0 1 0) (xyz 2688 0 0)
+    ∷ example (sampled square 2 0 1 1) (xyz 2688 2688 0)
+    ∷ example (checked cube) (pos 8 ∷ pos 6 ∷ pos 12 ∷ pos 0 ∷ [])
+    ∷ example (control cube 0 0 0) (xyz 3072 3072 3072)
+    ∷ example (control cube 0 1 1) (xyz 1536 1536 6144)
+    ∷ example (control cube 0 1 0) (xyz 1536 3840 3840)
     ∷ example (nearest (pos 1) 2 ∷ []) (pos 0 ∷ [])
     ∷ example (nearest (pos 3) 2 ∷ []) (pos 2 ∷ [])
     ∷ example (nearest (pos 5) 2 ∷ []) (pos 2 ∷ [])
     ∷ example (nearest (negsuc 0) 2 ∷ []) (pos 0 ∷ [])
     ∷ example (nearest (negsuc 2) 2 ∷ []) (negsuc 1 ∷ [])
+    ∷ example (checked pillow) (pos 10 ∷ [])
+    ∷ example (checked doubledFace) (pos 7 ∷ [])
+    ∷ example (checked bowTie) (pos 9 ∷ [])
+    ∷ example (checked strip) (pos 6 ∷ pos 2 ∷ pos 7 ∷ pos 6 ∷ [])
+    ∷ example (control strip 0 2 1) (xyz 1536 768 0)
+    ∷ example (control strip 0 3 1) (xyz 2304 768 256)
+    ∷ example (control strip 0 3 0) (xyz 2304 0 384)
+    ∷ example (control strip 1 1 1) (xyz 3072 768 512)
+    ∷ example (checked openFanOfEight) (pos 18 ∷ pos 8 ∷ pos 25 ∷ pos 18 ∷ [])
+    ∷ example (checked openFanOfNine) (pos 10 ∷ [])
     ∷ []
 
 pub examples-hold : computedAll examples ≡ statedAll examples
-unfolding examples halfEven nearestℕ nearest foldBelow isTwin twin boundary sameWay doubled joins edges boundaries valence onBoundary around iterate fanBy fan sizesOff coordinateOff tagOff vertexOff vertexTwice halfEdgeTwice vertexUnused fanBroken valenceOff innerTagged meshAnswer
+unfolding examples halfEven nearestℕ nearest foldBelow listBelow filled isTwin twin boundary sameWay doubled joins edges boundaries valence onBoundary around iterate fanBy fan sizesOff coordinateOff tagOff vertexOff vertexTwice halfEdgeTwice vertexUnused fanBroken valenceOff innerTagged meshAnswer weight numerator rounded faceOff controlOff placeOff sampleAnswer innerMask edgeMask boundaryEdgeMask smoothCornerMask boundaryCornerMask vertexMask Point.weight sharp sharpSum ringSum fixed cornerPoint innerPoint edgePoint alongPoint beforePoint point owner kind patchPoint patchNumber
 examples-hold = refl

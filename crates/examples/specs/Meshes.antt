@@ -5,6 +5,11 @@ use lib.IntN.{ℤ, pos, negsuc}
 use lib.ListN.{replicate}
 use Rattle.mesh.specs.IndexedMesh.{IndexedMesh, indexed}
 
+-- a square of 21 micrometres
+abbrev pub square : IndexedMesh
+square =
+    indexed 4 1 (pos 0 ∷ pos 0 ∷ pos 0 ∷ pos 21 ∷ pos 0 ∷ pos 0 ∷ pos 21 ∷ pos 21 ∷ pos 0 ∷ pos 0 ∷ pos 21 ∷ pos 0 ∷ []) (replicate 4 0) (0 ∷ 1 ∷ 2 ∷ 3 ∷ [])
+
 -- -24, as the cube has it
 abbrev low : ℤ
 low = negsuc 23
@@ -12,7 +17,7 @@ low = negsuc 23
 abbrev high : ℤ
 high = pos 24
 
--- vertex p has low or high x, y and z by the bits of p from the lowest on; six faces turned outward
+-- vertex p has low or high x, y and z by the bits of p from the lowest on; six faces turned outward, the first z = 24 from (24,24,24) on
 abbrev pub cube : IndexedMesh
 cube = indexed 8 6
     (low ∷ low ∷ low ∷ high ∷ low ∷ low ∷ low ∷ high ∷ low ∷ high ∷ high ∷ low
@@ -38,7 +43,11 @@ bowTie = collapsed 7 2 (0 ∷ 1 ∷ 2 ∷ 3 ∷ 0 ∷ 4 ∷ 5 ∷ 6 ∷ [])
 
 -- two faces side by side: vertices 1 and 4 are boundary vertices of two faces
 abbrev pub strip : IndexedMesh
-strip = collapsed 6 2 (0 ∷ 1 ∷ 4 ∷ 5 ∷ 1 ∷ 2 ∷ 3 ∷ 4 ∷ [])
+strip =
+    indexed 6 2
+    (pos 0 ∷ pos 0 ∷ pos 0 ∷ pos 9 ∷ pos 0 ∷ pos 0 ∷ pos 18 ∷ pos 0 ∷ pos 9
+    ∷ pos 18 ∷ pos 9 ∷ pos 0 ∷ pos 9 ∷ pos 9 ∷ pos 0 ∷ pos 0 ∷ pos 9 ∷ pos 0 ∷ [])
+    (replicate 6 0) (0 ∷ 1 ∷ 4 ∷ 5 ∷ 1 ∷ 2 ∷ 3 ∷ 4 ∷ [])
 
 -- an open fan about vertex 0: each face has the centre, a spoke, an outer vertex and the next spoke
 abbrev pub openFanOfEight : IndexedMesh

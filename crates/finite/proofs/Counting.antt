@@ -2,11 +2,11 @@
 use mathlib.Core.Path.{_≡_, refl, sym, ap, ap₂, _∙_, subst}
 use mathlib.Core.Bool.{Bool, true, false, cond, not, _&&_, false≢true}
 use Prim.Native.Nat.{ℕ, zero, suc, _+_, _≤_, _<_, zero-le}
-use native.Mathlib.Nat.{zero-add, add-zero, add-assoc, add-comm, add-le-add, le-refl, le-antisymm, not-suc-le-zero}
+use native.Mathlib.Nat.{zero-add, add-assoc, add-comm, add-le-add, le-refl, le-antisymm, not-suc-le-zero}
 use native.Mathlib.Numerals.{add-one}
 use native.Mathlib.Omega.{arith}
 use lib.Dec.{eqb, ltb}
-use borrow.Author.Tests.{ne-eqb, eqb-true, eqb-false, lt-ltb, ltb-true}
+use borrow.Author.Tests.{ne-eqb, eqb-true, lt-ltb, ltb-true}
 use Rattle.finite.specs.Fold.{foldBelow, anyBelow, sumBelow, indicator, countBelow}
 use Rattle.finite.proofs.FoldLaws.{Monoid, fold-zero, fold-step, fold-ext, fold-op, fold-select, bool-cases, lt-suc-cases}
 use Rattle.finite.proofs.AnyAll.{any-true, any-false, and-true}
@@ -131,13 +131,6 @@ count-start p = sym (fold-zero 0 _+_ (λ k. indicator (p k)))
 -- a turn that adds the indicator x of the test
 pub count-bit : (p : ℕ → Bool) (i c x : ℕ) (b : Bool) → c ≡ countBelow p i → b ≡ p i → x ≡ indicator b → c + x ≡ countBelow p (i + 1)
 count-bit p i c x b h e q = sym (fold-step 0 _+_ (λ k. indicator (p k)) i ∙ ap₂ _+_ (sym h) (ap indicator (sym e) ∙ sym q))
-
--- a turn in which the test held, and one in which it failed
-pub count-yes : (p : ℕ → Bool) (i c c′ : ℕ) (b : Bool) → c′ ≡ c + 1 → c ≡ countBelow p i → b ≡ p i → b ≡ true → c′ ≡ countBelow p (i + 1)
-count-yes p i c c′ b s h e q = s ∙ count-bit p i c 1 b h e (sym (ap indicator q))
-
-pub count-no : (p : ℕ → Bool) (i c c′ : ℕ) (b : Bool) → c′ ≡ c → c ≡ countBelow p i → b ≡ p i → b ≡ false → c′ ≡ countBelow p (i + 1)
-count-no p i c c′ b s h e q = s ∙ sym (add-zero c) ∙ count-bit p i c 0 b h e (sym (ap indicator q))
 
 pub count-all : (p : ℕ → Bool) (n i c : ℕ) → i ≤ n → n ≤ i → c ≡ countBelow p i → c ≡ countBelow p n
 count-all p n i c a b h = h ∙ ap (countBelow p) (le-antisymm a b)

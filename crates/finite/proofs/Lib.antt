@@ -1,5 +1,6 @@
 -- The laws of the crate.
 pub mod FoldLaws
+pub mod PermutationLaws
 pub mod AnyAll
 pub mod Least
 pub mod Counting

@@ -1,6 +1,7 @@
 //! Rounding of a quotient to the nearest whole number, halves to the even one. The laws of whole numbers stand in `proofs/`.
 ghost use mathlib.Core.Path.{_≡_};
 ghost use Prim.Native.Nat.{_≤_, _^_};
+ghost use lib.Dec.{ltb};
 ghost use lib.IntN.{pos, negℤ, natAbs};
 ghost use Rattle.integer.specs.Nearest.{nearestℕ, nearest};
 
@@ -49,4 +50,12 @@ pub fn round(num: i64, den: u32) -> i64
 {
     let size = round_magnitude(magnitude(num), den);
     if num < 0 { negated(size) } else { size as i64 }
+}
+
+// Returns whether the magnitude of `x` is above `limit`.
+pub fn beyond(x: i32, limit: u32) -> bool
+    ensures { λ r. ⌜ r ≡ ltb limit (natAbs x) ⌝ }
+{
+    let size = magnitude(x as i64);
+    (limit as u64) < size
 }

@@ -105,18 +105,6 @@ module _ {n : ℕ} {tw : ℕ → ℕ} (k : Corners n) (p : Paired n tw) where
       let t : tw (prev c) < n = rw e at q in
       ap at e ∙ j (prev c) (prev-below k c l) t ∙ ap at (next-prev c)
 
--- the steps the other way
-pub reversed : {n : ℕ} {s b : ℕ → ℕ} → Turning n s b → Turning n b s
-reversed g = record {
-  few = g .few;
-  stop = g .stop-back;
-  stop-back = g .stop;
-  on = g .off;
-  off = g .on;
-  back = g .forth;
-  forth = g .back;
-}
-
 -- ---- many steps
 pub iterate-in : (s : ℕ → ℕ) (i c : ℕ) → iterate s (suc i) c ≡ iterate s i (s c)
 unfolding iterate

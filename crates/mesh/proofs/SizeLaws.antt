@@ -1,14 +1,12 @@
 -- What a passed test of sizes gives, and a test of three corners as one after the other.
-use mathlib.Core.Path.{_≡_, refl, sym, ap, _∙_}
-use mathlib.Core.Bool.{Bool, true, false, not, cond, _||_, or-assoc, false≢true}
+use mathlib.Core.Path.{_≡_, sym, ap, _∙_}
+use mathlib.Core.Bool.{Bool, true, false, not, cond, _||_, or-assoc}
 use mathlib.Core.List.{List, []}
-use Prim.Native.Nat.{ℕ, suc, _+_, _-_, _*_, _/_, _≤_, _<_}
+use Prim.Native.Nat.{ℕ, _+_, _-_, _*_, _/_, _≤_, _<_}
 use native.Mathlib.Omega.{arith}
 use lib.Dec.{eqb, ltb}
-use lib.IntN.{ℤ, pos, negsuc, natAbs}
 use lib.ListN.{length, take, drop}
-use lib.Signed.{ltZ}
-use borrow.Author.Tests.{lt-ltb, le-ltb, le-leb, lt-leb, ltb-true, ltb-false, eqb-true, not-false}
+use borrow.Author.Tests.{le-leb, lt-leb, ltb-false, eqb-true, not-false}
 use Rattle.finite.specs.Fold.{foldBelow, anyBelow}
 use Rattle.finite.proofs.AnyAll.{or-false}
 use Rattle.mesh.specs.Limits.{minVertices, maxVertices, minFaces, maxFaces}
@@ -47,15 +45,6 @@ indices-corners i = record { whole = i .whole; fits = omega arith }
 pub any-of-three : (p : ℕ → Bool) → anyBelow p 3 ≡ (p 0 || (p 1 || p 2))
 unfolding foldBelow
 any-of-three p = or-assoc (p 0) (p 1) (p 2)
-
--- beyond -(m + 1), and past m + 1, is a magnitude above m + 1
-pub beyond-below : (m : ℕ) (x : ℤ) → ltZ x (negsuc m) ≡ true → true ≡ ltb (suc m) (natAbs x)
-beyond-below m (pos a) e = absurd (false≢true e)
-beyond-below m (negsuc a) e = sym (lt-ltb (suc m) (suc a) (omega (arith, ltb-true m a e)))
-
-pub beyond-above : (m : ℕ) (x : ℤ) → ltZ x (negsuc m) ≡ false → ltZ (pos (suc m)) x ≡ ltb (suc m) (natAbs x)
-beyond-above m (pos a) e = refl
-beyond-above m (negsuc a) e = sym (le-ltb (suc m) (suc a) (omega (arith, ltb-false m a e)))
 
 -- a test in two steps, of which the first said b
 pub or-found : (b x y : Bool) → b ≡ x → b ≡ true → true ≡ (x || y)

@@ -44,23 +44,13 @@ pub(crate) fn sizes_off(v: usize, f: usize, positions: usize, tags: usize, faces
     faces != 4 * f
 }
 
-// Whether a coordinate is off its range.
-fn coordinate_off(x: i32) -> bool
-    ensures { λ r. ⌜ r ≡ ltb maxCoordinate (natAbs x) ⌝ }
-{
-    if x < -Mesh::MAX_COORDINATE {
-        return true;
-    }
-    Mesh::MAX_COORDINATE < x
-}
-
 // Cause 3, for the first `count` positions.
 pub(crate) fn any_coordinate_off(positions: &[i32], count: usize) -> bool
     requires { ⌜ count ≤ length (now positions) ⌝ }
     ensures { λ r. ⌜ r ≡ anyBelow (λ i. ltb maxCoordinate (natAbs (getD (now (positions .entry)) i (pos 0)))) count ⌝ }
 {
     for i in 0..count {
-        if coordinate_off(positions[i]) {
+        if integer::beyond(positions[i], Mesh::MAX_COORDINATE) {
             return true;
         }
     }

@@ -19,7 +19,7 @@ impl Mesh {
 
     pub const MAX_FACES: usize = 256;
 
-    pub const MAX_COORDINATE: i32 = 1_048_576;
+    pub const MAX_COORDINATE: u32 = 1_048_576;
 
     pub const MIN_VALENCE: usize = 3;
 

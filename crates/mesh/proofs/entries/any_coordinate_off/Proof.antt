@@ -25,22 +25,22 @@ abbrev μ-loop : tie.MeasureT-loop
 loop-holds : tie.Need-loop-holds Inv-loop μ-loop
 loop-holds c = search (any-start, needs)
 
-mul-coordinate-off : tie.Need-mul-coordinate-off Inv-loop μ-loop
-mul-coordinate-off c = omega arith
+mul-beyond : tie.Need-mul-beyond Inv-loop μ-loop
+mul-beyond c = omega arith
 
-shared-slice-copy-out-coordinate-off :
-    tie.Need-shared-slice-copy-out-coordinate-off Inv-loop μ-loop
-shared-slice-copy-out-coordinate-off c = omega arith
+shared-slice-copy-out-beyond :
+    tie.Need-shared-slice-copy-out-beyond Inv-loop μ-loop
+shared-slice-copy-out-beyond c = omega arith
 
-coordinate-off-requires : tie.Need-coordinate-off-requires Inv-loop μ-loop
-coordinate-off-requires c κs = tt
+beyond-requires : tie.Need-beyond-requires Inv-loop μ-loop
+beyond-requires c κs = tt
 
 -- what the call said of the coordinate at i
-told : (c : tie.After-coordinate-off Inv-loop μ-loop) → c .coordinate-off .result ≡ ltb maxCoordinate (natAbs (getD (c .before .before .before .before .args .positions .now) (c .before .before .before .loop .i) (pos 0)))
+told : (c : tie.After-beyond Inv-loop μ-loop) → c .beyond .result ≡ ltb maxCoordinate (natAbs (getD (c .before .before .before .before .args .positions .now) (c .before .before .before .loop .i) (pos 0)))
 told c =
     let x = getD (c .before .before .before .before .args .positions .now) (c .before .before .before .loop .i) (pos 0) in
-    let f : SFits w32 x = record { sfits = c .before .coordinate-off-arg .given } in
-    c .coordinate-off .ensures ∙ ap (λ (z : ℤ). ltb maxCoordinate (natAbs z)) (toZ-ofZ f)
+    let f : SFits w32 x = record { sfits = c .before .beyond-arg .given } in
+    c .beyond .ensures ∙ ap (λ (z : ℤ). ltb maxCoordinate (natAbs z)) (toZ-ofZ f)
 
 returns : tie.Need-returns Inv-loop μ-loop
 returns c = any-found _ _ _ _ (c .before .before .before .loop-test .taken) (told (c .before)) (c .if1 .taken)
@@ -64,9 +64,9 @@ any-coordinate-off-spec =
     Inv-loop
     μ-loop
     loop-holds
-    mul-coordinate-off
-    shared-slice-copy-out-coordinate-off
-    coordinate-off-requires
+    mul-beyond
+    shared-slice-copy-out-beyond
+    beyond-requires
     returns
     add-i
     loop-less

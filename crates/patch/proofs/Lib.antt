@@ -1,0 +1,5 @@
+-- The laws of the control points: the sums of neighbours, what the masks keep, their size, and the list that is written.
+pub mod NeighbourLaws
+pub mod Related
+pub mod PointLaws
+pub mod WrittenLaws

@@ -1,0 +1,37 @@
+-- The control points of an accepted mesh: their divisors are above 0, and none leaves the range of the coordinates.
+--
+--   bounds B     the instance of `Linear` that gives it: a sum of terms within B, with weights that sum to k, is within B k
+use Prim.Native.Nat.{ℕ, _+_, _*_, _≤_, _<_}
+use native.Mathlib.Nat.{mul-le-mul-left}
+use native.Mathlib.Omega.{arith}
+use lib.IntN.{pos, natAbs, _*ℤ_}
+use Rattle.integer.proofs.Laws.{abs-+, abs-*}
+use Rattle.integer.proofs.NearestLaws.{nearest-bounded}
+use Rattle.mesh.specs.Limits.{maxCoordinate}
+use Rattle.mesh.specs.IndexedMesh.{IndexedMesh}
+use Rattle.mesh.specs.Accepted.{Accepted}
+use Rattle.patch.specs.Patch.{patchPoint, control, view}
+use Rattle.patch.proofs.Related.{Linear, Related, patch-related}
+
+bounds : (B : ℕ) → Linear (λ k z _. natAbs z ≤ B * k)
+bounds B = record {
+  nil = omega arith;
+  plus = λ {y = y} {z = z} f g. omega (arith, abs-+ y z);
+  times = λ k {z} h. omega (arith, abs-* (pos k) z, mul-le-mul-left k h);
+}
+
+module _ {M : IndexedMesh} (a : Accepted M) (f m k : ℕ) (face : f < M .faces) (axis : k < 3) where
+  within : Related (λ k z _. natAbs z ≤ maxCoordinate * k) (patchPoint (view M k) (4 * f) m) (patchPoint (view M k) (4 * f) m)
+  within =
+      patch-related (bounds maxCoordinate) a (view M k .value) (view M k .value)
+      (λ p l. omega (arith, a .coordinates (3 * p + k) (omega arith))) (4 * f) m (omega arith)
+
+  pub patch-divisor : 0 < patchPoint (view M k) (4 * f) m .den
+  patch-divisor = within .positive
+
+  -- in units of 1/256, times the divisor
+  pub patch-size : natAbs (pos 256 *ℤ patchPoint (view M k) (4 * f) m .num) ≤ 256 * maxCoordinate * patchPoint (view M k) (4 * f) m .den
+  patch-size = omega (arith, abs-* (pos 256) (patchPoint (view M k) (4 * f) m .num), within .related)
+
+  pub control-bound : natAbs (control (view M k) (4 * f) m) ≤ 256 * maxCoordinate
+  control-bound = nearest-bounded _ _ (256 * maxCoordinate) patch-divisor patch-size

@@ -1,0 +1,37 @@
+-- What stands in the patch list after an accepted mesh was written.
+use mathlib.Core.Path.{_≡_, _∙_}
+use mathlib.Core.List.{List}
+use Prim.Native.Nat.{ℕ, _+_, _*_, _/_, _%_, _≤_, _<_}
+use native.Mathlib.Omega.{arith}
+use lib.IntN.{ℤ, pos, natAbs}
+use lib.ListN.{length, getD}
+use Rattle.finite.proofs.FilledLaws.{length-filled, filled-at}
+use Rattle.mesh.specs.Limits.{maxCoordinate}
+use Rattle.mesh.specs.IndexedMesh.{IndexedMesh}
+use Rattle.mesh.specs.Accepted.{Accepted}
+use Rattle.patch.specs.Patch.{control, view, patchNumber, patchesAfter}
+use Rattle.patch.proofs.PointLaws.{control-bound}
+
+-- place 48f + 3m + k has coordinate k of point m of face f
+place : (f m k : ℕ) → m < 16 → k < 3 → ((48 * f + 3 * m + k) % 3 ≡ k) × ((48 * f + 3 * m + k) / 48 ≡ f) × ((48 * f + 3 * m + k) % 48 / 3 ≡ m)
+place f m k l h = (omega arith, omega arith, omega arith)
+
+pub number-at : (M : IndexedMesh) (f m k : ℕ) → m < 16 → k < 3 → patchNumber M (48 * f + 3 * m + k) ≡ control (view M k) (4 * f) m
+unfolding patchNumber
+number-at M f m k l h = let w = place f m k l h in rw (w .0, w .1, w .2)
+
+pub written-length : (M : IndexedMesh) (d : List ℤ) → 48 * M .faces ≤ length d → length (patchesAfter M d) ≡ length d
+written-length M d l = length-filled (patchNumber M) (48 * M .faces) d l
+
+pub written-at : (M : IndexedMesh) (d : List ℤ) (f m k : ℕ) → f < M .faces → m < 16 → k < 3
+    → getD (patchesAfter M d) (48 * f + 3 * m + k) (pos 0) ≡ control (view M k) (4 * f) m
+written-at M d f m k l b h =
+    filled-at (patchNumber M) (48 * M .faces) (48 * f + 3 * m + k) d (pos 0) (omega arith) ∙ number-at M f m k b h
+
+pub number-bound : {M : IndexedMesh} → Accepted M → (i : ℕ) → i < 48 * M .faces → natAbs (patchNumber M i) ≤ 256 * maxCoordinate
+unfolding patchNumber
+number-bound a i l = control-bound a (i / 48) (i % 48 / 3) (i % 3) (omega arith) (omega arith)
+
+pub written-bound : {M : IndexedMesh} → Accepted M → (d : List ℤ) (i : ℕ) → i < 48 * M .faces
+    → natAbs (getD (patchesAfter M d) i (pos 0)) ≤ 256 * maxCoordinate
+written-bound {M} a d i l = rw (filled-at (patchNumber M) (48 * M .faces) i d (pos 0) l) (number-bound a i l)

@@ -1,0 +1,49 @@
+-- The sixteen control points of a patch, their values, and the list of patches.
+--
+--   owner m, kind m    point m = i + 4j of a patch is this one of the four points of this corner of the face:
+--                          12 corner 3   13 before 3   14 along 2    15 corner 2        j
+--                           8 along 3     9 inner 3    10 inner 2    11 before 2        ^
+--                           4 before 0    5 inner 0     6 inner 1     7 along 1         |
+--                           0 corner 0    1 along 0     2 before 1    3 corner 1        +--> i
+--                      "b(0,0), b(3,0), b(3,3), b(0,3) belong to q0 to q3."
+--   patchPoint S c m   point m of the patch of the face of corner c, where c counts as the face's first corner
+--   control S c m      "256 times the fraction, rounded once to the nearest whole number, halves to the even one"
+--   view M k           coordinate k (x, y, z) of the mesh M
+--   patchNumber M i    what stands at place i of the patch list: coordinate i % 3 of point i % 48 / 3 of face i / 48
+--   patchesAfter M d   the patch list after an accepted mesh was written over d: "places from 48F on are not touched"
+use mathlib.Core.List.{List, [], _∷_}
+use Prim.Native.Nat.{ℕ, _+_, _*_, _/_, _%_}
+use lib.IntN.{ℤ, pos, _*ℤ_}
+use lib.ListN.{getD}
+use Rattle.integer.specs.Nearest.{nearest}
+use Rattle.finite.specs.Filled.{filled}
+use Rattle.mesh.specs.Corner.{turn}
+use Rattle.mesh.specs.IndexedMesh.{IndexedMesh, corners, at, tag, coordinate}
+use Rattle.patch.specs.Mask.{Fraction}
+use Rattle.patch.specs.Point.{View, Kind, corner, along, before, inner, point}
+
+unfoldable pub owner : ℕ → ℕ
+owner m = getD (0 ∷ 0 ∷ 1 ∷ 1 ∷ 0 ∷ 0 ∷ 1 ∷ 1 ∷ 3 ∷ 3 ∷ 2 ∷ 2 ∷ 3 ∷ 3 ∷ 2 ∷ 2 ∷ []) m 0
+
+unfoldable pub kind : ℕ → Kind
+kind m =
+    getD (corner ∷ along ∷ before ∷ corner ∷ before ∷ inner ∷ inner ∷ along
+    ∷ along ∷ inner ∷ inner ∷ before ∷ corner ∷ before ∷ along ∷ corner ∷ []) m inner
+
+unfoldable pub patchPoint : View → ℕ → ℕ → Fraction
+patchPoint S c m = point S (turn (owner m) c) (kind m)
+
+abbrev pub units : Fraction → ℤ
+units q = nearest (pos 256 *ℤ q .num) (q .den)
+
+abbrev pub control : View → ℕ → ℕ → ℤ
+control S c m = units (patchPoint S c m)
+
+abbrev pub view : IndexedMesh → ℕ → View
+view M k = record { n = corners M; at = at M; tag = tag M; value = λ p. coordinate M (3 * p + k) }
+
+unfoldable pub patchNumber : IndexedMesh → ℕ → ℤ
+patchNumber M i = control (view M (i % 3)) (4 * (i / 48)) (i % 48 / 3)
+
+abbrev pub patchesAfter : IndexedMesh → List ℤ → List ℤ
+patchesAfter M d = filled (patchNumber M) (48 * M .faces) d

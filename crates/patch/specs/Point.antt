@@ -1,0 +1,87 @@
+-- The control points that each corner of a face owns, of one coordinate, from the corners, the tags and that coordinate of each vertex.
+--
+--   View            what the points are read from: n corners, the vertex `at c` of each, a tag and a coordinate of each vertex
+--   weight S c      "Let w be n at an inner vertex and 2k at a rim vertex (document 001, also for k = 1)", at the vertex of corner c
+--   sharp S c       half-edge c takes the boundary rule: it has no twin
+--   sharpSum S p    the far ends of the sharp half-edges at p: "r, r' the rim neighbours"
+--   ringSum S p     four times the edge neighbours of p and the vertices across: each edge neighbour is the next of one corner at p
+--                   and the previous of another, so each counts twice here
+--   fixed S p       the corner point of a boundary vertex is the vertex itself: "Rim with tag 1 or with k = 1"
+--   cornerPoint S p    the corner point of vertex p
+--   edgePoint S c d    the edge point on the inner edge of half-edge c, with twin d, near its start
+--   alongPoint S c     the edge point on half-edge c near its start
+--   beforePoint S c    the edge point on the half-edge before c near its end, which is the vertex of c
+--   innerPoint S c     the interior point at corner c
+use mathlib.Core.Bool.{Bool, not, cond, _||_}
+use Prim.Native.Nat.{ℕ, _*_}
+use lib.Dec.{eqb}
+use lib.IntN.{ℤ, pos, _+ℤ_, _*ℤ_}
+use Rattle.finite.specs.Fold.{gather}
+use Rattle.mesh.specs.Limits.{cornerTag}
+use Rattle.mesh.specs.Corner.{next, across, prev}
+use Rattle.mesh.specs.HalfEdge.{twin, boundary}
+use Rattle.mesh.specs.Fan.{valence, onBoundary}
+use Rattle.patch.specs.Mask.{Fraction, innerMask, edgeMask, boundaryEdgeMask, smoothCornerMask, boundaryCornerMask, vertexMask}
+
+pub record View : Type 0 where
+  pub n : ℕ
+  pub at : ℕ → ℕ
+  pub tag : ℕ → ℕ
+  pub value : ℕ → ℤ
+
+-- the coordinate of the vertex of corner c
+abbrev pub x : View → ℕ → ℤ
+x S c = S .value (S .at c)
+
+-- how many faces vertex p has
+abbrev pub faces : View → ℕ → ℕ
+faces S p = valence (S .at) (S .n) p
+
+abbrev pub inside : View → ℕ → Bool
+inside S p = not (onBoundary (S .at) (S .n) p)
+
+unfoldable pub weight : View → ℕ → ℕ
+weight S c = cond (inside S (S .at c)) (faces S (S .at c)) (2 * faces S (S .at c))
+
+unfoldable pub sharp : View → ℕ → Bool
+sharp S c = boundary (S .at) (S .n) c
+
+-- the sum over the corners at p
+abbrev pub sumAt : View → ℕ → (ℕ → ℤ) → ℤ
+sumAt S p term = gather (pos 0) _+ℤ_ (S .at) term (S .n) p
+
+unfoldable pub sharpSum : View → ℕ → ℤ
+sharpSum S p = sumAt S p (λ c. cond (sharp S c) (x S (next c)) (pos 0) +ℤ cond (sharp S (prev c)) (x S (prev c)) (pos 0))
+
+unfoldable pub ringSum : View → ℕ → ℤ
+ringSum S p = sumAt S p (λ c. pos 2 *ℤ x S (next c) +ℤ pos 2 *ℤ x S (prev c) +ℤ x S (across c))
+
+unfoldable pub fixed : View → ℕ → Bool
+fixed S p = eqb (S .tag p) cornerTag || eqb (faces S p) 1
+
+unfoldable pub cornerPoint : View → ℕ → Fraction
+cornerPoint S p =
+    cond (inside S p) (smoothCornerMask (faces S p) (S .value p) (ringSum S p))
+    (cond (fixed S p) (vertexMask (S .value p)) (boundaryCornerMask (S .value p) (sharpSum S p)))
+
+unfoldable pub innerPoint : View → ℕ → Fraction
+innerPoint S c = innerMask (weight S c) (x S c) (x S (next c)) (x S (prev c)) (x S (across c))
+
+unfoldable pub edgePoint : View → ℕ → ℕ → Fraction
+edgePoint S c d = edgeMask (weight S c) (x S c) (x S (next c)) (x S (prev c)) (x S (across d)) (x S (across c)) (x S (prev d))
+
+unfoldable pub alongPoint : View → ℕ → Fraction
+alongPoint S c = cond (sharp S c) (boundaryEdgeMask (x S c) (x S (next c))) (edgePoint S c (twin (S .at) (S .n) c))
+
+unfoldable pub beforePoint : View → ℕ → Fraction
+beforePoint S c = cond (sharp S (prev c)) (boundaryEdgeMask (x S c) (x S (prev c))) (edgePoint S (twin (S .at) (S .n) (prev c)) (prev c))
+
+-- the four points of its face that each corner owns
+pub data Kind : Type 0 where
+  corner along before inner : Kind
+
+unfoldable pub point : View → ℕ → Kind → Fraction
+point S c corner = cornerPoint S (S .at c)
+point S c along = alongPoint S c
+point S c before = beforePoint S c
+point S c inner = innerPoint S c

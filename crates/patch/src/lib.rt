@@ -1,0 +1,1 @@
+// No code yet: the definitions of the control points (specs/).

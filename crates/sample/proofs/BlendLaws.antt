@@ -1,0 +1,88 @@
+-- Sums of four products: they fit 64 bits, they are small where the values are, and two steps of them give the sum of a sample.
+use mathlib.Core.Path.{_≡_, refl, sym, ap, ap₂, _∙_}
+use mathlib.Core.List.{List, [], _∷_}
+use Prim.Native.Nat.{ℕ, _+_, _*_, _^_, _≤_, _<_}
+use native.Mathlib.Omega.{arith}
+use lib.IntN.{ℤ, pos, natAbs, _*ℤ_}
+use lib.ListN.{getD}
+use lib.Signed.{mag}
+use mir.Syntax.{Width, w32, w64}
+use mir.Val.{SFits, toZ, ofZ, hbits}
+use mir.Facts.{toZ-ofZ}
+use Rattle.integer.specs.Nearest.{nearest}
+use Rattle.integer.proofs.Laws.{abs-*-≤, sfits-abs}
+use Rattle.finite.specs.Fold.{foldBelow, sumBelowℤ}
+use Rattle.finite.specs.Filled.{listBelow}
+use Rattle.finite.proofs.FilledLaws.{listBelow-at}
+use Rattle.finite.proofs.IntegerSum.{sum-size}
+use Rattle.sample.specs.Bernstein.{weight, rounded}
+use Rattle.sample.specs.Refusal.{maxControl}
+use Rattle.sample.specs.Private.{controlOf, Small, Steps, Light, Fine, blended, blendedTwice}
+use Rattle.sample.proofs.WeightLaws.{weight-small}
+use Rattle.sample.proofs.SampleLaws.{numerator-rows, rounded-fits}
+
+-- ---- the first i terms
+abbrev pub term : List ℕ → (ℕ → ℤ) → ℕ → ℤ
+term weights h i = pos (getD weights i 0) *ℤ h i
+
+partial-size : {weights : List ℕ} (h : ℕ → ℤ) (B : ℕ) → Light weights → ((i : ℕ) → i < 4 → natAbs (h i) ≤ B)
+    → (i : ℕ) → i ≤ 4 → natAbs (sumBelowℤ (term weights h) i) ≤ i * (2 ^ 15 * B)
+partial-size {weights} h B light fine i l =
+    sum-size (2 ^ 15 * B) (term weights h) i (λ j k. abs-*-≤ (pos (getD weights j 0)) (h j) (light .light j (omega arith)) (fine j (omega arith)))
+
+module _ {weights : List ℕ} {values : List ℤ} (light : Light weights) (fine : Fine values) where
+  abbrev value : ℕ → ℤ
+  value i = getD values i (pos 0)
+
+  pub value-fits : (i : ℕ) → i < 4 → SFits w64 (value i)
+  value-fits i l = sfits-abs (value i) (omega (arith, fine .fine i l))
+
+  pub term-fits : (i : ℕ) → i < 4 → SFits w64 (term weights value i)
+  term-fits i l = sfits-abs (term weights value i) (omega (arith, abs-*-≤ (pos (getD weights i 0)) (value i) (light .light i l) (fine .fine i l)))
+
+  pub partial-fits : (i : ℕ) → i ≤ 4 → SFits w64 (sumBelowℤ (term weights value) i)
+  partial-fits i l = sfits-abs (sumBelowℤ (term weights value) i) (omega (arith, partial-size value (2 ^ 45) light (fine .fine) i l))
+
+-- ---- four values as a list
+pub list-of-four : {A : Type 0} (f : ℕ → A) {w x y z : A} → w ≡ f 0 → x ≡ f 1 → y ≡ f 2 → z ≡ f 3 → w ∷ (x ∷ (y ∷ (z ∷ []))) ≡ listBelow f 4
+unfolding listBelow
+list-of-four f p q r s = ap₂ _∷_ p (ap₂ _∷_ q (ap₂ _∷_ r (ap₂ _∷_ s refl)))
+
+-- what a call gave, read back from its bits
+pub read-back : (w : Width) {r x : ℤ} → mag r < 2 ^ hbits w → r ≡ x → toZ w (ofZ w r) ≡ x
+read-back w ok e = toZ-ofZ (record { sfits = ok }) ∙ e
+
+pub blended-list : (weights : List ℕ) (h : ℕ → ℤ) {values : List ℤ} {r : ℤ} → values ≡ listBelow h 4 → r ≡ blended weights (λ i. getD values i (pos 0)) → r ≡ blended weights h
+unfolding foldBelow listBelow
+blended-list weights h e q = q ∙ ap (λ (xs : List ℤ). blended weights (λ i. getD xs i (pos 0))) e
+
+-- ---- one patch
+pub weights-light : {n a : ℕ} → Steps n a → Light (listBelow (weight n a) 4)
+weights-light {n} {a} s = record { light = λ i l. rw (listBelow-at (weight n a) 4 i 0 l) (weight-small n a (s .within) (s .most) i l) }
+
+module _ {patch : List ℤ} (small : Small patch) (k : ℕ) (below : k < 3) where
+  control-small : (m : ℕ) → m < 16 → natAbs (controlOf patch k m) ≤ maxControl
+  control-small m l = small .small (3 * m + k) (omega arith)
+
+  abbrev column : ℕ → ℕ → ℤ
+  column i j = controlOf patch k (i + 4 * j)
+
+  pub column-fine : (i : ℕ) → i < 4 → Fine (listBelow (column i) 4)
+  column-fine i l = record { fine = λ j q. rw (listBelow-at (column i) 4 j (pos 0) q) (omega (arith, control-small (i + 4 * j) (omega arith))) }
+
+  pub curve-fine : {v : List ℕ} → Light v → Fine (listBelow (λ i. blended v (column i)) 4)
+  curve-fine {v} light =
+      record {
+        fine = λ i l.
+            rw (listBelow-at (λ i. blended v (column i)) 4 i (pos 0) l)
+            (omega (arith, partial-size (column i) maxControl light (λ j q. control-small (i + 4 * j) (omega arith)) 4 (omega arith)));
+      }
+
+  pub sample-fits : {n a b : ℕ} → Steps n a → Steps n b → SFits w32 (rounded n a b (controlOf patch k))
+  sample-fits {n} {a} {b} s t = rounded-fits n a b (s .least) (s .within) (t .within) (controlOf patch k) control-small
+
+-- ---- the sample, by the lists of the weights
+pub rounded-blended : (n a b : ℕ) (g : ℕ → ℤ) {u v : List ℕ} {d : ℕ} → u ≡ listBelow (weight n a) 4 → v ≡ listBelow (weight n b) 4 → d ≡ n ^ 6
+    → nearest (blendedTwice u v g) d ≡ rounded n a b g
+unfolding foldBelow listBelow rounded
+rounded-blended n a b g e f h = ap₂ nearest (ap₂ (λ (u v : List ℕ). blendedTwice u v g) e f ∙ sym (numerator-rows n a b g)) h

@@ -1,0 +1,7 @@
+-- The laws of the crate, from the weights to the answers.
+pub mod WeightLaws
+pub mod SampleLaws
+pub mod BlendLaws
+pub mod PatchLaws
+pub mod RefusalLaws
+pub mod MicrometreLaws

@@ -1,0 +1,105 @@
+-- A number of 32 bits over 256 is a double: the quotient is not rounded, and times 256.0 it is the number again.
+-- 256.0 is `fin false 1 (pos 8)`.
+use mathlib.Core.Path.{_≡_, refl, sym, ap, _∙_, subst}
+use mathlib.Core.Bool.{Bool, true, false}
+use Prim.Native.Nat.{ℕ, suc, _*_, _^_, _≤_, _<_}
+use native.Mathlib.Nat.{mul-one, mul-assoc, mul-right-comm, mul-pos, mul-le-mul-right, eq-of-mul-eq-mul-right, lt-of-le-of-lt, le-of-lt, le-trans}
+use lib.Dec.{lit<, lit≤}
+use lib.IntN.{ℤ, pos, negsuc, natAbs}
+use lib.Signed.{mag}
+use lib.Ieee.{Float, nan, inf, fin, binary64, up, down, unlike, round, div, mul, ofInt, ofBits}
+use lib.Ieee.Fits.{down-pos, mul-fits, ofInt-fits}
+use lib.Ieee.Exact.{HasValue, round-exact}
+use lib.Ieee.Back.{round-whole, whole-unique}
+use Rattle.sample.specs.Answer.{negative, Over256}
+
+same-sign : (s : Bool) → unlike s false ≡ s
+same-sign true = refl
+same-sign false = refl
+
+-- n / 256 and n, from the fractions a / (256 d) and a / d with a = n d
+settle-256 : (x : Float) (s : Bool) (n a d : ℕ) → 0 < d → a ≡ n * d → HasValue x s a (256 * d) → HasValue x s n 256
+settle-256 nan s n a d p e v = v
+settle-256 (inf t) s n a d p e v = v
+settle-256 (fin t m k) s n a d p e v = (
+  v .0,
+  eq-of-mul-eq-mul-right d p (m * up k * 256) (n * down k)
+      (mul-assoc (m * up k) 256 d ∙ v .1 ∙ ap (λ (z : ℕ). z * down k) e ∙ mul-right-comm n d (down k)),
+)
+
+settle-1 : (x : Float) (s : Bool) (n a d : ℕ) → 0 < d → a ≡ n * d → HasValue x s a d → HasValue x s n 1
+settle-1 nan s n a d p e v = v
+settle-1 (inf t) s n a d p e v = v
+settle-1 (fin t m k) s n a d p e v = (
+  v .0,
+  eq-of-mul-eq-mul-right d p (m * up k * 1) (n * down k)
+      (ap (λ (z : ℕ). z * d) (mul-one (m * up k)) ∙ v .1 ∙ ap (λ (z : ℕ). z * down k) e ∙ mul-right-comm n d (down k)),
+)
+
+-- a whole number over 256.0
+quotient : (x : Float) (s : Bool) (n : ℕ) → n ≤ 2 ^ 31 → HasValue x s n 1 → HasValue (div binary64 x (fin false 1 (pos 8))) s n 256
+unfolding div
+quotient nan s n h v = absurd v
+quotient (inf t) s n h v = absurd v
+quotient (fin t m k) s n h v =
+    let a : m * up k * 1 ≡ n * down k = v .1 in
+    let e : m * up k * 1 * 2 ^ 1074 ≡ n * 2 ^ 1066 * (256 * down k) =
+    ap (λ (z : ℕ). z * 2 ^ 1074) a
+    ∙ mul-right-comm n (down k) (2 ^ 1074)
+    ∙ ap (λ (z : ℕ). z * down k) (sym (mul-assoc n (2 ^ 1066) 256))
+    ∙ mul-assoc (n * 2 ^ 1066) 256 (down k) in
+    let small : n < 2 ^ 53 = lt-of-le-of-lt h (lit< tt) in
+    let fine : n * 2 ^ 1066 < 2 ^ 2098 = lt-of-le-of-lt (mul-le-mul-right (2 ^ 1066) h) (lit< tt) in
+    subst (λ (z : Bool). HasValue (round binary64 z (m * up k * 1) (256 * down k)) s n 256) (sym (same-sign t))
+    (settle-256 (round binary64 t (m * up k * 1) (256 * down k)) s n (m * up k * 1) (down k) (down-pos k) a
+    (subst (λ (z : Bool). HasValue (round binary64 t (m * up k * 1) (256 * down k)) z (m * up k * 1) (256 * down k)) (v .0)
+    (round-exact binary64 t (m * up k * 1) (256 * down k) n 1066 (mul-pos (lit< tt) (down-pos k)) small fine e)))
+
+-- a number over 256, times 256.0
+product : (x : Float) (s : Bool) (n : ℕ) → n ≤ 2 ^ 31 → HasValue x s n 256 → HasValue (mul binary64 x (fin false 1 (pos 8))) s n 1
+unfolding mul
+product nan s n h v = absurd v
+product (inf t) s n h v = absurd v
+product (fin t m k) s n h v =
+    let d = down k * 1 in
+    let a : m * up k * 256 ≡ n * d = v .1 ∙ ap (λ (z : ℕ). n * z) (sym (mul-one (down k))) in
+    let p : 0 < d = subst (λ (z : ℕ). 0 < z) (sym (mul-one (down k))) (down-pos k) in
+    let e : m * up k * 256 * 2 ^ 1074 ≡ n * 2 ^ 1074 * d = ap (λ (z : ℕ). z * 2 ^ 1074) a ∙ mul-right-comm n d (2 ^ 1074) in
+    let small : n < 2 ^ 53 = lt-of-le-of-lt h (lit< tt) in
+    let fine : n * 2 ^ 1074 < 2 ^ 2098 = lt-of-le-of-lt (mul-le-mul-right (2 ^ 1074) h) (lit< tt) in
+    subst (λ (z : Bool). HasValue (round binary64 z (m * up k * 256) d) s n 1) (sym (same-sign t))
+    (settle-1 (round binary64 t (m * up k * 256) d) s n (m * up k * 256) d p a
+    (subst (λ (z : Bool). HasValue (round binary64 t (m * up k * 256) d) z (m * up k * 256) d) (v .0)
+    (round-exact binary64 t (m * up k * 256) d n 1074 p small fine e)))
+
+-- `Over256` is `HasValue` at 256
+over-by : (x : Float) (z : ℤ) → HasValue x (negative z) (natAbs z) 256 → Over256 x z
+over-by nan z v = v
+over-by (inf s) z v = v
+over-by (fin s m e) z v = v
+
+over-is : (x : Float) (z : ℤ) → Over256 x z → HasValue x (negative z) (natAbs z) 256
+over-is nan z v = v
+over-is (inf s) z v = v
+over-is (fin s m e) z v = v
+
+whole : (z : ℤ) → natAbs z ≤ 2 ^ 31 → HasValue (ofInt binary64 z) (negative z) (natAbs z) 1
+unfolding ofInt
+whole (pos n) h = round-whole binary64 false n (le-trans h (lit≤ tt))
+whole (negsuc n) h = round-whole binary64 true (suc n) (le-trans h (lit≤ tt))
+
+abs-≤ : (z : ℤ) → mag z < 2 ^ 31 → natAbs z ≤ 2 ^ 31
+abs-≤ (pos n) h = le-of-lt h
+abs-≤ (negsuc n) h = h
+
+-- the division of the code: 4643211215818981376 is the bit pattern of 256.0
+pub over256-exact : (z : ℤ) → mag z < 2 ^ 31 → Over256 (div binary64 (ofInt binary64 z) (ofBits binary64 4643211215818981376)) z
+unfolding ofBits
+over256-exact z h = over-by (div binary64 (ofInt binary64 z) (fin false 1 (pos 8))) z (quotient (ofInt binary64 z) (negative z) (natAbs z) (abs-≤ z h) (whole z (abs-≤ z h)))
+
+-- the way back: a double that is a sample over 256, times 256.0, is the sample
+pub over256-back : (x : Float) (z : ℤ) → mag z < 2 ^ 31 → Over256 x z → mul binary64 x (fin false 1 (pos 8)) ≡ ofInt binary64 z
+over256-back x z h v =
+    whole-unique binary64 (mul binary64 x (fin false 1 (pos 8))) (ofInt binary64 z) (negative z) (natAbs z)
+    (mul-fits binary64 x (fin false 1 (pos 8))) (ofInt-fits binary64 z)
+    (product x (negative z) (natAbs z) (abs-≤ z h) (over-is x z v)) (whole z (abs-≤ z h))

@@ -1,0 +1,62 @@
+-- The weights of a place a from 0 to n: they are the same from the other end, they sum to n^3, they are small, and at an end only the point there counts.
+use mathlib.Core.Path.{_≡_, refl, sym, _∙_, subst}
+use Prim.Native.Nat.{ℕ, zero, suc, _+_, _-_, _*_, _^_, _<_, _≤_, zero-le}
+use native.Mathlib.Nat.{pow-suc, pow-zero, mul-le-mul, sub-zero}
+use native.Mathlib.Omega.{arith}
+use Rattle.finite.specs.Fold.{foldBelow, sumBelow}
+use Rattle.finite.proofs.Counting.{term-le-sum}
+use Rattle.sample.specs.Bernstein.{weight}
+
+pub pow-3 : (n : ℕ) → n ^ 3 ≡ n * n * n
+pow-3 n = rw (pow-suc n 2, pow-suc n 1, pow-suc n 0, pow-zero n) (omega arith)
+
+module _ (n a : ℕ) (h : a ≤ n) where
+  pub weight-flip : (i : ℕ) → i < 4 → weight n (n - a) i ≡ weight n a (3 - i)
+  unfolding weight
+  weight-flip i l = go i l
+    where
+      back : n - (n - a) ≡ a
+      back = omega arith
+
+      go : (i : ℕ) → i < 4 → weight n (n - a) i ≡ weight n a (3 - i)
+      go zero l = rw back
+      go (suc zero) l = rw back (omega arith)
+      go (suc (suc zero)) l = rw back (omega arith)
+      go (suc (suc (suc zero))) l = refl
+      go (suc (suc (suc (suc i)))) l = absurd (omega arith)
+
+  pub weights-sum : weight n a 0 + weight n a 1 + weight n a 2 + weight n a 3 ≡ n ^ 3
+  unfolding weight
+  weights-sum =
+      let b : ℕ = n - a in
+      let e : n ≡ a + b = omega arith in
+      rw pow-3 (subst (λ (m : ℕ). b * b * b + 3 * a * b * b + 3 * a * a * b + a * a * a ≡ m * m * m) (sym e) (omega arith))
+
+  pub weights-sumBelow : sumBelow (weight n a) 4 ≡ n ^ 3
+  unfolding foldBelow
+  weights-sumBelow = omega (arith, weights-sum)
+
+  pub weight-le : (i : ℕ) → i < 4 → weight n a i ≤ n ^ 3
+  weight-le i l = rw weights-sumBelow at (term-le-sum (weight n a) 4 i l)
+
+  pub weight-small : n ≤ 32 → (i : ℕ) → i < 4 → weight n a i ≤ 32768
+  weight-small s i l = omega (arith, weight-le i l, pow-3 n, mul-le-mul (mul-le-mul s s) s)
+
+-- ---- at an end
+pub weight-first : (n : ℕ) → weight n 0 0 ≡ n ^ 3
+unfolding weight
+weight-first n = rw (sub-zero, pow-3)
+
+pub weight-first-others : (n i : ℕ) → 0 < i → weight n 0 i ≡ 0
+unfolding weight
+weight-first-others n zero l = absurd (omega arith)
+weight-first-others n (suc zero) l = omega arith
+weight-first-others n (suc (suc zero)) l = omega arith
+weight-first-others n (suc (suc (suc i))) l = refl
+
+pub weight-last : (n : ℕ) → weight n n 3 ≡ n ^ 3
+unfolding weight
+weight-last n = sym (pow-3 n)
+
+pub weight-last-others : (n i : ℕ) → i < 3 → weight n n i ≡ 0
+weight-last-others n i l = rw sub-zero at (weight-flip n 0 zero-le i (omega arith)) ∙ weight-first-others n (3 - i) (omega arith)

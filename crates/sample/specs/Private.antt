@@ -1,0 +1,39 @@
+-- What only the contracts of private functions cite: one patch as the part of the patch list that is handed on, and sums of four terms.
+--
+--   controlOf patch k m   coordinate k of control point m of the patch
+--   Small patch           48 numbers, none beyond the limit of a control value
+--   Steps n a             N and a place a in their ranges
+--   Light weights, Fine values   four weights and four values whose sums of products fit 64 bits
+--   blended weights h     the values h 0 to h 3, each times its weight, added
+--   blendedTwice u v g    the control values g, blended along v by the weights v, then along u by the weights u
+use mathlib.Core.Path.{_≡_}
+use mathlib.Core.List.{List}
+use Prim.Native.Nat.{ℕ, _+_, _*_, _^_, _≤_, _<_}
+use lib.IntN.{ℤ, pos, natAbs, _*ℤ_}
+use lib.ListN.{length, getD}
+use Rattle.finite.specs.Fold.{sumBelowℤ}
+use Rattle.sample.specs.Refusal.{maxControl, minSteps, maxSteps}
+
+abbrev pub controlOf : List ℤ → ℕ → ℕ → ℤ
+controlOf patch k m = getD patch (3 * m + k) (pos 0)
+
+pub record Small (patch : List ℤ) : Type 0 where
+  pub whole : length patch ≡ 48
+  pub small : (i : ℕ) → i < 48 → natAbs (getD patch i (pos 0)) ≤ maxControl
+
+pub record Steps (n a : ℕ) : Type 0 where
+  pub least : minSteps ≤ n
+  pub most : n ≤ maxSteps
+  pub within : a ≤ n
+
+pub record Light (weights : List ℕ) : Type 0 where
+  pub light : (i : ℕ) → i < 4 → getD weights i 0 ≤ 2 ^ 15
+
+pub record Fine (values : List ℤ) : Type 0 where
+  pub fine : (i : ℕ) → i < 4 → natAbs (getD values i (pos 0)) ≤ 2 ^ 45
+
+abbrev pub blended : List ℕ → (ℕ → ℤ) → ℤ
+blended weights h = sumBelowℤ (λ i. pos (getD weights i 0) *ℤ h i) 4
+
+abbrev pub blendedTwice : List ℕ → List ℕ → (ℕ → ℤ) → ℤ
+blendedTwice u v g = blended u (λ i. blended v (λ j. g (i + 4 * j)))

@@ -1,0 +1,35 @@
+-- When the sample call and the reading say no: "the sample call and the reading know 12 to 14 only", checked in the order of the numbers.
+use mathlib.Core.Bool.{Bool, _||_}
+use mathlib.Core.List.{List, [], _∷_}
+use Prim.Native.Nat.{ℕ, _+_, _*_}
+use lib.Dec.{ltb}
+use lib.IntN.{ℤ, pos, natAbs}
+use lib.ListN.{length, getD}
+use Rattle.finite.specs.Fold.{anyBelow}
+use Rattle.finite.specs.Table.{Row, row}
+
+-- the largest magnitude of a control value: 256 times the coordinate limit of a mesh
+abbrev pub maxControl : ℕ
+maxControl = 268435456
+
+-- "For N from 1 to 32"
+abbrev pub minSteps : ℕ
+minSteps = 1
+
+abbrev pub maxSteps : ℕ
+maxSteps = 32
+
+-- 12: "face number f with 48f + 48 above the patch list's length"
+unfoldable pub faceOff : List ℤ → ℕ → Bool
+faceOff patches f = ltb (length patches) (48 * f + 48)
+
+-- 13: "patch number of that face beyond 268,435,456 either way"
+unfoldable pub controlOff : List ℤ → ℕ → Bool
+controlOff patches f = anyBelow (λ i. ltb maxControl (natAbs (getD patches (48 * f + i) (pos 0)))) 48
+
+-- 14: "N off its range, or a or b above N"
+unfoldable pub placeOff : ℕ → ℕ → ℕ → Bool
+placeOff n a b = ltb n minSteps || (ltb maxSteps n || (ltb n a || ltb n b))
+
+abbrev pub sampleRows : List ℤ → ℕ → ℕ → ℕ → ℕ → List Row
+sampleRows patches f n a b = row (faceOff patches f) 12 ∷ (row (controlOff patches f) 13 ∷ (row (placeOff n a b) 14 ∷ []))

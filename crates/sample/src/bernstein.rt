@@ -1,0 +1,111 @@
+// The sample of one patch at one place: blended along v, then along u, exactly, and rounded once.
+use crate::model::Point;
+ghost use mathlib.Core.Path.{_≡_};
+ghost use Prim.Native.Nat.{_+_, _*_, _^_, _≤_, _<_};
+ghost use lib.IntN.{pos, _+ℤ_, _*ℤ_};
+ghost use lib.ListN.{length, getD};
+ghost use mir.Syntax.{w32, w64};
+ghost use mir.Val.{SFits};
+ghost use Rattle.integer.specs.Nearest.{nearest};
+ghost use Rattle.finite.specs.Filled.{listBelow};
+ghost use Rattle.sample.specs.Bernstein.{weight, rounded};
+ghost use Rattle.sample.specs.Refusal.{maxSteps};
+ghost use Rattle.sample.specs.Private.{controlOf, Small, Steps, Light, Fine, blended, blendedTwice};
+
+// The weights of place a.
+fn weights(n: usize, a: usize) -> [u32; 4]
+    requires { ⌜ Steps n a ⌝ }
+    ensures { λ r. ⌜ r ≡ listBelow (weight n a) 4 ⌝ }
+{
+    let s = a as u32;
+    let t = (n - a) as u32;
+    [t * t * t, 3 * s * t * t, 3 * s * s * t, s * s * s]
+}
+
+// N^6.
+fn divisor(n: usize) -> u32
+    requires { ⌜ n ≤ maxSteps ⌝ }
+    ensures { λ r. ⌜ r ≡ n ^ 6 ⌝ }
+{
+    let m = n as u32;
+    let cube = m * m * m;
+    cube * cube
+}
+
+// One term more of a sum.
+fn add_product(sum: i64, weight: u32, value: i64) -> i64
+    requires { ⌜ SFits w64 (pos weight *ℤ value) × SFits w64 (sum +ℤ pos weight *ℤ value) ⌝ }
+    ensures { λ r. ⌜ r ≡ sum +ℤ pos weight *ℤ value ⌝ }
+{
+    sum + weight as i64 * value
+}
+
+// Four values, each times its weight, added.
+fn blend(weights: [u32; 4], values: [i64; 4]) -> i64
+    requires { ⌜ Light weights × Fine values ⌝ }
+    ensures { λ r. ⌜ r ≡ blended weights (λ i. getD values i (pos 0)) ⌝ }
+{
+    let mut sum: i64 = 0;
+    for i in 0..4 {
+        sum = add_product(sum, weights[i], values[i]);
+    }
+    sum
+}
+
+// Coordinate k of control point m.
+fn control(patch: &[i32], k: usize, m: usize) -> i64
+    requires { ⌜ (length (now patch) ≡ 48) × (k < 3) × (m < 16) ⌝ }
+    ensures { λ r. ⌜ r ≡ controlOf (now (patch .entry)) k m ⌝ }
+{
+    patch[3 * m + k] as i64
+}
+
+// The control values of coordinate k at one i, along v.
+fn column(patch: &[i32], k: usize, i: usize) -> [i64; 4]
+    requires { ⌜ (length (now patch) ≡ 48) × (k < 3) × (i < 4) ⌝ }
+    ensures { λ r. ⌜ r ≡ listBelow (λ j. controlOf (now (patch .entry)) k (i + 4 * j)) 4 ⌝ }
+{
+    [
+        control(patch, k, i),
+        control(patch, k, i + 4),
+        control(patch, k, i + 8),
+        control(patch, k, i + 12),
+    ]
+}
+
+// The control values of coordinate k, blended along v: a curve along u that all samples with one b share.
+fn curve(patch: &[i32], k: usize, v: [u32; 4]) -> [i64; 4]
+    requires { ⌜ Small (now patch) × (k < 3) × Light v ⌝ }
+    ensures { λ r. ⌜ r ≡ listBelow (λ i. blended v (λ j. controlOf (now (patch .entry)) k (i + 4 * j))) 4 ⌝ }
+{
+    [
+        blend(v, column(patch, k, 0)),
+        blend(v, column(patch, k, 1)),
+        blend(v, column(patch, k, 2)),
+        blend(v, column(patch, k, 3)),
+    ]
+}
+
+// Coordinate k of the sample: blended along u too, and rounded once.
+fn coordinate(patch: &[i32], k: usize, u: [u32; 4], v: [u32; 4], divisor: u32) -> i32
+    requires { ⌜ Small (now patch) × (k < 3) × Light u × Light v ⌝ }
+    requires { ⌜ SFits w32 (nearest (blendedTwice u v (controlOf (now patch) k)) divisor) ⌝ }
+    ensures { λ r. ⌜ r ≡ nearest (blendedTwice u v (controlOf (now (patch .entry)) k)) divisor ⌝ }
+{
+    integer::round(blend(u, curve(patch, k, v)), divisor) as i32
+}
+
+// The point of the patch at (a, b).
+pub(crate) fn point(patch: &[i32], n: usize, a: usize, b: usize) -> Point
+    requires { ⌜ Small (now patch) × Steps n a × Steps n b ⌝ }
+    ensures { λ r. ⌜ r ≡ record { x = rounded n a b (controlOf (now (patch .entry)) 0); y = rounded n a b (controlOf (now (patch .entry)) 1); z = rounded n a b (controlOf (now (patch .entry)) 2) } ⌝ }
+{
+    let u = weights(n, a);
+    let v = weights(n, b);
+    let over = divisor(n);
+    Point {
+        x: coordinate(patch, 0, u, v, over),
+        y: coordinate(patch, 1, u, v, over),
+        z: coordinate(patch, 2, u, v, over),
+    }
+}

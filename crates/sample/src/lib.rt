@@ -1,0 +1,52 @@
+//! Samples of the bicubic patches of document 01, as whole numbers of 1/256 micrometre and as doubles in micrometres.
+mod bernstein;
+mod micrometres;
+pub mod model;
+mod refusal;
+
+use crate::bernstein::point;
+use crate::micrometres::in_micrometres;
+use crate::model::Reading;
+use crate::model::Sampled;
+use crate::refusal::any_control_off;
+use crate::refusal::place_off;
+ghost use mathlib.Core.Path.{_≡_};
+ghost use Rattle.sample.specs.Answer.{meaning, sampleAnswer, Reads};
+
+// The sample of face f at (a, b), for document 01's N = n.
+// Returns: x, y and z of the sample, each rounded once, or the number of the refusal.
+// Writes: nothing. Leaves alone: the patch list, of which it reads only the 48 numbers from place 48f on.
+// Refuses, in this order: 12 patch list shorter than 48f + 48, 13 a number of that patch beyond 268,435,456 either way,
+// 14 n off the range from 1 to 32, or a or b above n.
+// Units: patch numbers and sample in 1/256 micrometre.
+pub fn sample(patches: &[i32], f: usize, n: usize, a: usize, b: usize) -> Sampled
+    ensures { λ r. ⌜ meaning r ≡ sampleAnswer (now (patches .entry)) f n a b ⌝ }
+{
+    if patches.len() / 48 <= f {
+        return Sampled::Refused(12);
+    }
+    let at = 48 * f;
+    let end = at + 48;
+    let patch = &patches[at..end];
+    if any_control_off(patch) {
+        return Sampled::Refused(13);
+    }
+    if place_off(n, a, b) {
+        return Sampled::Refused(14);
+    }
+    Sampled::At(point(patch, n, a, b))
+}
+
+// The sample of face f at (a, b), for document 01's N = n, in micrometres.
+// Returns: three doubles, each exactly the coordinate of the sample over 256, or the number of the refusal.
+// Writes: nothing. Leaves alone: the patch list, of which it reads only the 48 numbers from place 48f on.
+// Refuses: as `sample`, in the same order.
+// Units: patch numbers in 1/256 micrometre, reading in micrometres.
+pub fn reading(patches: &[i32], f: usize, n: usize, a: usize, b: usize) -> Reading
+    ensures { λ r. ⌜ Reads r (sampleAnswer (now (patches .entry)) f n a b) ⌝ }
+{
+    match sample(patches, f, n, a, b) {
+        Sampled::At(p) => Reading::At(in_micrometres(p)),
+        Sampled::Refused(k) => Reading::Refused(k),
+    }
+}

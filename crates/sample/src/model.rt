@@ -1,0 +1,36 @@
+// The answers of the sample call and of the reading, and the limits of what they are given.
+
+// A sample, in units of 1/256 micrometre. The limits of document 01 are its constants, named here once.
+pub struct Point {
+    pub x: i32,
+    pub y: i32,
+    pub z: i32,
+}
+
+impl Point {
+    // The largest magnitude of a control value.
+    pub const MAX_CONTROL: u32 = 268_435_456;
+    // The range of document 01's N.
+    pub const MIN_STEPS: usize = 1;
+
+    pub const MAX_STEPS: usize = 32;
+}
+
+// The answer of the sample call: the sample, or the number of the refusal.
+pub enum Sampled {
+    At(Point),
+    Refused(u8),
+}
+
+// A sample in micrometres.
+pub struct Micrometres {
+    pub x: f64,
+    pub y: f64,
+    pub z: f64,
+}
+
+// The answer of the reading: the sample in micrometres, or the number of the refusal.
+pub enum Reading {
+    At(Micrometres),
+    Refused(u8),
+}

@@ -1,0 +1,45 @@
+-- The sample call on the patch list of an accepted mesh: none of its causes to refuse is met, and its samples are those of the control points.
+use mathlib.Core.Path.{_≡_}
+use mathlib.Core.Bool.{false}
+use mathlib.Core.List.{List}
+use Prim.Native.Nat.{ℕ, _+_, _*_, _≤_, _<_}
+use native.Mathlib.Omega.{arith}
+use lib.IntN.{ℤ, pos, natAbs}
+use lib.ListN.{length, getD}
+use borrow.Author.Tests.{le-ltb}
+use Rattle.finite.proofs.AnyAll.{any-none}
+use Rattle.mesh.specs.IndexedMesh.{IndexedMesh}
+use Rattle.mesh.specs.Accepted.{Accepted}
+use Rattle.sample.specs.Bernstein.{rounded, coordinateAt}
+use Rattle.sample.specs.Refusal.{maxControl, minSteps, maxSteps, faceOff, controlOff, placeOff}
+use Rattle.sample.specs.Answer.{point, sampleAnswer}
+use Rattle.sample.proofs.SampleLaws.{rounded-ext}
+use Rattle.patch.specs.Patch.{control, view, patchesAfter}
+use Rattle.patch.proofs.WrittenLaws.{written-length, written-at, written-bound}
+
+-- 12
+face-none : (M : IndexedMesh) (d : List ℤ) (f : ℕ) → 48 * M .faces ≤ length d → f < M .faces → faceOff (patchesAfter M d) f ≡ false
+unfolding faceOff
+face-none M d f long l = le-ltb (length (patchesAfter M d)) (48 * f + 48) (rw (written-length M d long) (omega arith))
+
+-- 13
+control-none : {M : IndexedMesh} → Accepted M → (d : List ℤ) (f : ℕ) → f < M .faces → controlOff (patchesAfter M d) f ≡ false
+unfolding controlOff
+control-none {M} a d f l =
+    any-none _ 48 (λ i b. le-ltb maxControl (natAbs (getD (patchesAfter M d) (48 * f + i) (pos 0))) (written-bound a d (48 * f + i) (omega arith)))
+
+-- 14
+place-none : (n a b : ℕ) → minSteps ≤ n → n ≤ maxSteps → a ≤ n → b ≤ n → placeOff n a b ≡ false
+unfolding placeOff
+place-none n a b least most ha hb = rw (le-ltb n minSteps least, le-ltb maxSteps n most, le-ltb n a ha, le-ltb n b hb)
+
+pub answered : {M : IndexedMesh} → Accepted M → (d : List ℤ) (f n a b : ℕ) → 48 * M .faces ≤ length d → f < M .faces
+    → minSteps ≤ n → n ≤ maxSteps → a ≤ n → b ≤ n
+    → sampleAnswer (patchesAfter M d) f n a b
+    ≡ point (coordinateAt (patchesAfter M d) f n a b 0) (coordinateAt (patchesAfter M d) f n a b 1) (coordinateAt (patchesAfter M d) f n a b 2)
+unfolding sampleAnswer
+answered {M} acc d f n a b long l least most ha hb = rw (face-none M d f long l, control-none acc d f l, place-none n a b least most ha hb)
+
+pub coordinate-written : (M : IndexedMesh) (d : List ℤ) (f n a b k : ℕ) → f < M .faces → k < 3
+    → coordinateAt (patchesAfter M d) f n a b k ≡ rounded n a b (control (view M k) (4 * f))
+coordinate-written M d f n a b k l h = rounded-ext n a b (λ m r. written-at M d f m k l r h)

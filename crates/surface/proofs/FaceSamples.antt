@@ -1,0 +1,77 @@
+-- The samples of a face seen from any of its corners: a face begun later has the same samples at the matching places,
+-- and the samples of each side are those of side 0 seen from the side's corner.
+--
+--   sampleFrom S n c p   the sample at place p of the face of corner c, where c counts as the face's first corner
+use mathlib.Core.Path.{_≡_, refl, sym, ap, ap₂, _∙_}
+use Prim.Native.Nat.{ℕ, zero, suc, _+_, _-_, _*_, _/_, _%_, _≤_, _<_}
+use native.Mathlib.Omega.{arith}
+use lib.IntN.{ℤ}
+use Rattle.finite.specs.Filled.{listBelow}
+use Rattle.finite.proofs.FilledLaws.{agree}
+use Rattle.mesh.proofs.CornerLaws.{turn-none, turn-next, turn-mod}
+use Rattle.mesh.specs.Corner.{turn, next}
+use Rattle.sample.specs.Bernstein.{rounded}
+use Rattle.sample.proofs.SampleLaws.{rounded-ext, rounded-turn}
+use Rattle.patch.specs.Point.{View, Kind, point}
+use Rattle.patch.specs.Patch.{owner, kind, patchPoint, units, control}
+use Rattle.surface.specs.Renumbering.{Place, place, matching, onSide}
+
+abbrev pub sampleFrom : View → ℕ → ℕ → Place → ℤ
+sampleFrom S n c p = rounded n (p .a) (p .b) (control S c)
+
+-- ---- places
+abbrev pub Within : ℕ → Place → Type 0
+Within n p = (p .a ≤ n) × (p .b ≤ n)
+
+pub matching-within : (n s : ℕ) (p : Place) → Within n p → Within n (matching n s p)
+matching-within n zero p w = w
+matching-within n (suc s) p w = matching-within n s (place (p .b) (n - p .a)) (w .1, omega arith)
+
+pub side-within : (n s t : ℕ) → t ≤ n → Within n (onSide n s t)
+side-within n zero t h = (h, omega arith)
+side-within n (suc zero) t h = (omega arith, h)
+side-within n (suc (suc zero)) t h = (omega arith, omega arith)
+side-within n (suc (suc (suc s))) t h = (omega arith, omega arith)
+
+-- a side is side 0 of the face begun at its corner
+side-matches : (n s t : ℕ) → t ≤ n → s < 4 → matching n s (onSide n s t) ≡ place t 0
+side-matches n zero t h l = refl
+side-matches n (suc zero) t h l = ap₂ place refl (omega arith)
+side-matches n (suc (suc zero)) t h l = ap₂ place (omega arith) (omega arith)
+side-matches n (suc (suc (suc zero))) t h l = ap₂ place (omega arith) (omega arith)
+side-matches n (suc (suc (suc (suc s)))) t h l = absurd (omega arith)
+
+-- ---- a face begun one corner later
+-- its point m is the point `turned m` of the face as it was
+abbrev turned : ℕ → ℕ
+turned m = 3 - m / 4 + 4 * (m % 4)
+
+owner-turned : (m : ℕ) → m < 16 → suc (owner m) % 4 ≡ owner (turned m)
+unfolding owner listBelow
+owner-turned m l = agree (λ m. suc (owner m) % 4) (λ m. owner (turned m)) 16 refl m l
+
+kind-turned : (m : ℕ) → m < 16 → kind m ≡ kind (turned m)
+unfolding kind listBelow
+kind-turned m l = agree kind (λ m. kind (turned m)) 16 refl m l
+
+patch-turned : (S : View) (c m : ℕ) → m < 16 → patchPoint S (next c) m ≡ patchPoint S c (turned m)
+unfolding patchPoint
+patch-turned S c m l =
+    ap (λ (d : ℕ). point S d (kind m)) (turn-next (owner m) c ∙ sym (turn-mod (suc (owner m)) c))
+    ∙ ap₂ (λ (i : ℕ) (k : Kind). point S (turn i c) k) (owner-turned m l) (kind-turned m l)
+
+sample-turned : (S : View) (n c a b : ℕ) → a ≤ n → sampleFrom S n (next c) (place b (n - a)) ≡ sampleFrom S n c (place a b)
+sample-turned S n c a b h =
+    rounded-ext n b (n - a) (λ m l. ap units (patch-turned S c m l)) ∙ rounded-turn n a b (control S c) h
+
+-- ---- a face begun s corners later
+pub sample-matching : (S : View) (n s c : ℕ) (p : Place) → Within n p → sampleFrom S n (turn s c) (matching n s p) ≡ sampleFrom S n c p
+sample-matching S n zero c p w = ap (λ (d : ℕ). sampleFrom S n d p) (turn-none c)
+sample-matching S n (suc s) c p w =
+    ap (λ (d : ℕ). sampleFrom S n d (matching n (suc s) p)) (sym (turn-next s c))
+    ∙ sample-matching S n s (next c) (place (p .b) (n - p .a)) (w .1, omega arith)
+    ∙ sample-turned S n c (p .a) (p .b) (w .0)
+
+pub sample-side : (S : View) (n s t c : ℕ) → t ≤ n → s < 4 → sampleFrom S n c (onSide n s t) ≡ sampleFrom S n (turn s c) (place t 0)
+sample-side S n s t c h l =
+    sym (sample-matching S n s c (onSide n s t) (side-within n s t h)) ∙ ap (sampleFrom S n (turn s c)) (side-matches n s t h l)

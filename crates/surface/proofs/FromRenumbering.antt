@@ -1,0 +1,120 @@
+-- A renumbering makes a mesh of the same shape: corner s of face f is corner s - start f, modulo 4, of the face that f has become.
+--
+--   spot g s         corner s, modulo 4, of face g
+--   to r c, from r c the corner that c has become, and the one that has become c
+--   shape r          the two meshes are of one shape
+--   carried r k h    and each vertex takes its tag and its coordinate k along
+use mathlib.Core.Path.{_≡_, ap, _∙_}
+use Prim.Native.Nat.{ℕ, _+_, _-_, _*_, _/_, _%_, _<_}
+use native.Mathlib.Omega.{arith}
+use Rattle.finite.specs.Permutation.{Permutation}
+use Rattle.mesh.specs.Corner.{turn, next}
+use Rattle.mesh.specs.IndexedMesh.{IndexedMesh, corners, at, tag}
+use Rattle.mesh.specs.Accepted.{Accepted}
+use Rattle.mesh.proofs.AcceptedLaws.{accepted-corners}
+use Rattle.patch.specs.Patch.{view}
+use Rattle.surface.specs.Renumbering.{Renumbering}
+use Rattle.surface.proofs.Iso.{Sound, Iso}
+use Rattle.surface.proofs.PointMoves.{Carried}
+
+pub accepted-sound : {M : IndexedMesh} → Accepted M → Sound (corners M) (M .vertices) (at M)
+accepted-sound a = record { whole = accepted-corners a; named = a .named; simple = a .simple }
+
+-- ---- corners by face
+spot : ℕ → ℕ → ℕ
+spot g r = 4 * g + r % 4
+
+spot-is : (c : ℕ) → spot (c / 4) c ≡ c
+unfolding spot
+spot-is c = omega arith
+
+spot-face : (g r : ℕ) → spot g r / 4 ≡ g
+unfolding spot
+spot-face g r = omega arith
+
+spot-corner : (g r : ℕ) → spot g r % 4 ≡ r % 4
+unfolding spot
+spot-corner g r = omega arith
+
+spot-below : (g r n : ℕ) → g < n → spot g r < 4 * n
+unfolding spot
+spot-below g r n l = omega arith
+
+spot-turn : (k g r : ℕ) → turn k (spot g r) ≡ spot g (r + k)
+unfolding spot
+spot-turn k g r = omega arith
+
+spot-same : (g r s : ℕ) → r % 4 ≡ s % 4 → spot g r ≡ spot g s
+unfolding spot
+spot-same g r s e = omega arith
+
+module _ {M M′ : IndexedMesh} (r : Renumbering M M′) where
+  to : ℕ → ℕ
+  to c = spot (r .faces .to (c / 4)) (c + (4 - r .start (c / 4)))
+
+  from : ℕ → ℕ
+  from c = spot (r .faces .from (c / 4)) (c + r .start (r .faces .from (c / 4)))
+
+  from-to : (c : ℕ) → c < corners M → from (to c) ≡ c
+  unfolding to from
+  from-to c l =
+      let b : c / 4 < M .faces = omega arith in
+      let q : to c % 4 ≡ (c + (4 - r .start (c / 4))) % 4 = spot-corner (r .faces .to (c / 4)) _ in
+      let f : r .faces .from (to c / 4) ≡ c / 4 = ap (r .faces .from) (spot-face _ _) ∙ r .faces .from-to (c / 4) b in
+      ap (λ (g : ℕ). spot g (to c + r .start g)) f
+      ∙ spot-same (c / 4) (to c + r .start (c / 4)) c (omega (arith, r .start-below (c / 4) b))
+      ∙ spot-is c
+
+  to-from : (c : ℕ) → c < corners M → to (from c) ≡ c
+  unfolding to from
+  to-from c l =
+      let b : c / 4 < M .faces = omega arith in
+      let g : ℕ = r .faces .from (c / 4) in
+      let q : from c % 4 ≡ (c + r .start g) % 4 = spot-corner g _ in
+      ap (λ (h : ℕ). spot (r .faces .to h) (from c + (4 - r .start h))) (spot-face g _)
+      ∙ ap (λ (h : ℕ). spot h (from c + (4 - r .start g))) (r .faces .to-from (c / 4) b)
+      ∙ spot-same (c / 4) (from c + (4 - r .start g)) c (omega (arith, r .start-below g (r .faces .from-below (c / 4) b)))
+      ∙ spot-is c
+
+  -- corners, as they are renumbered with their faces
+  pub cornerMap : Permutation (corners M)
+  unfolding to from
+  cornerMap = record {
+    to = to;
+    from = from;
+    to-below = λ c l. spot-below _ _ (M .faces) (r .faces .to-below (c / 4) (omega arith));
+    from-below = λ c l. spot-below _ _ (M .faces) (r .faces .from-below (c / 4) (omega arith));
+    from-to = from-to;
+    to-from = to-from;
+  }
+
+  pub next-moves : (c : ℕ) → next (cornerMap .to c) ≡ cornerMap .to (next c)
+  unfolding cornerMap to
+  next-moves c =
+      let e : c / 4 ≡ next c / 4 = omega arith in
+      spot-turn 1 (r .faces .to (c / 4)) (c + (4 - r .start (c / 4)))
+      ∙ spot-same (r .faces .to (c / 4)) _ (next c + (4 - r .start (c / 4))) (omega arith)
+      ∙ ap (λ (g : ℕ). spot (r .faces .to g) (next c + (4 - r .start g))) e
+
+  pub at-moves : (c : ℕ) → c < corners M → at M′ (cornerMap .to c) ≡ r .vertices .to (at M c)
+  unfolding cornerMap to spot
+  at-moves c l =
+      let b : c / 4 < M .faces = omega arith in
+      let e : 4 * (c / 4) + (r .start (c / 4) + (c + (4 - r .start (c / 4))) % 4) % 4 ≡ c = omega (arith, r .start-below (c / 4) b) in
+      r .faces-move (c / 4) _ b (omega arith) ∙ ap (λ (d : ℕ). r .vertices .to (at M d)) e
+
+  -- a face of M′ begins at the corner that the renumbering says
+  pub face-begins : (f : ℕ) → f < M .faces → cornerMap .to (turn (r .start f) (4 * f)) ≡ 4 * r .faces .to f
+  unfolding cornerMap to spot
+  face-begins f b =
+      let s = r .start-below f b in
+      let e : turn (r .start f) (4 * f) / 4 ≡ f = omega arith in
+      let z : (turn (r .start f) (4 * f) + (4 - r .start f)) % 4 ≡ 0 = omega arith in
+      ap (λ (g : ℕ). 4 * r .faces .to g + (turn (r .start f) (4 * f) + (4 - r .start g)) % 4) e ∙ omega arith
+
+  abbrev pub shape : Iso (corners M) (M .vertices) (at M) (at M′)
+  shape = record { corners = cornerMap; vertices = r .vertices; next-moves = λ c l. next-moves c; at-moves = at-moves }
+
+  abbrev pub carried : (k : ℕ) → k < 3
+      → Carried (corners M) (M .vertices) (at M) (at M′) (tag M) (tag M′) (view M k .value) (view M′ k .value)
+  carried k h = record { iso = shape; tag-moves = r .tags-move; value-moves = λ p b. r .positions-move p k b h }

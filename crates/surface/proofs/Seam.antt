@@ -1,0 +1,64 @@
+-- The two faces of an edge meet: the four control points of a half-edge are those of its twin from the other end, and so are its samples.
+use mathlib.Core.Path.{_≡_, sym, ap, _∙_}
+use mathlib.Core.Bool.{false}
+use Prim.Native.Nat.{ℕ, zero, suc, _-_, _*_, _/_, _%_, _≤_, _<_}
+use native.Mathlib.Nat.{mod-lt}
+use native.Mathlib.Omega.{arith}
+use borrow.Author.Tests.{ne-eqb}
+use Rattle.mesh.specs.Limits.{noTwin}
+use Rattle.mesh.specs.Corner.{next, Corners}
+use Rattle.mesh.specs.HalfEdge.{twin, boundary, Simple}
+use Rattle.mesh.proofs.CornerLaws.{prev-next, not-none, turn-none, turn-first}
+use Rattle.mesh.proofs.TwinLaws.{twin-ends, twin-twin}
+use Rattle.sample.proofs.SampleLaws.{rounded-edge-flip}
+use Rattle.patch.specs.Point.{View, sharp, cornerPoint, edgePoint, alongPoint, beforePoint, point}
+use Rattle.patch.specs.Patch.{owner, kind, patchPoint, units, control}
+use Rattle.patch.proofs.NeighbourLaws.{twin-below}
+use Rattle.surface.specs.Renumbering.{place, onSide}
+use Rattle.surface.proofs.FaceSamples.{sampleFrom, sample-side}
+
+-- the edge point on a half-edge that is not sharp near its start, and near its end
+along-inner : (S : View) (c : ℕ) → sharp S c ≡ false → alongPoint S c ≡ edgePoint S c (twin (S .at) (S .n) c)
+unfolding alongPoint
+along-inner S c e = rw e
+
+before-inner : (S : View) (c : ℕ) → sharp S c ≡ false → beforePoint S (next c) ≡ edgePoint S (twin (S .at) (S .n) c) c
+unfolding beforePoint
+before-inner S c e = rw (prev-next c, e)
+
+module _ (S : View) (k : Corners (S .n)) (simple : Simple (S .n) (S .at)) (c : ℕ) (l : c < S .n) (e : boundary (S .at) (S .n) c ≡ false) where
+  abbrev d : ℕ
+  d = twin (S .at) (S .n) c
+
+  inner : sharp S c ≡ false
+  unfolding sharp
+  inner = e
+
+  pub twin-inside : twin (S .at) (S .n) c < S .n
+  twin-inside = twin-below S c inner
+
+  back : twin (S .at) (S .n) d ≡ c
+  back = twin-twin (S .at) k simple c l twin-inside
+
+  inner-twin : sharp S d ≡ false
+  unfolding sharp boundary
+  inner-twin = ne-eqb (twin (S .at) (S .n) d) noTwin (λ q. not-none k c l (sym back ∙ q))
+
+  twin-points : (i : ℕ) → i < 4 → patchPoint S d i ≡ patchPoint S c (3 - i)
+  unfolding patchPoint owner kind point
+  twin-points zero b = ap (cornerPoint S) (ap (S .at) (turn-none d) ∙ twin-ends (S .n) (S .at) c k twin-inside .0)
+  twin-points (suc zero) b = rw turn-none (along-inner S d inner-twin) ∙ ap (edgePoint S d) back ∙ sym (before-inner S c inner)
+  twin-points (suc (suc zero)) b =
+      before-inner S d inner-twin ∙ ap (λ (j : ℕ). edgePoint S j d) back ∙ sym (rw turn-none (along-inner S c inner))
+  twin-points (suc (suc (suc zero))) b =
+      ap (cornerPoint S) (twin-ends (S .n) (S .at) c k twin-inside .1 ∙ ap (S .at) (sym (turn-none c)))
+  twin-points (suc (suc (suc (suc i)))) b = absurd (omega arith)
+
+  -- "the sample at place t of the side and the sample at place N - t of its mate"
+  pub seam : (n t : ℕ) → t ≤ n → sampleFrom S n (4 * (c / 4)) (onSide n (c % 4) t) ≡ sampleFrom S n (4 * (d / 4)) (onSide n (d % 4) (n - t))
+  seam n t h =
+      sample-side S n (c % 4) t (4 * (c / 4)) h (mod-lt c (omega arith))
+      ∙ ap (λ (j : ℕ). sampleFrom S n j (place t 0)) (turn-first c)
+      ∙ sym (rounded-edge-flip n t (control S c) (control S d) h (λ i b. ap units (twin-points i b)))
+      ∙ ap (λ (j : ℕ). sampleFrom S n j (place (n - t) 0)) (sym (turn-first d))
+      ∙ sym (sample-side S n (d % 4) (n - t) (4 * (d / 4)) (omega arith) (mod-lt d (omega arith)))

@@ -1,0 +1,4 @@
+-- The third demand: what a renumbering is, and the claim.
+pub mod Renumbering
+pub mod Claim
+pub mod Witness

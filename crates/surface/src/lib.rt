@@ -1,0 +1,1 @@
+// No code yet: the claim (specs/) and its laws (proofs/).
