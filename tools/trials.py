@@ -1,12 +1,17 @@
 #!/usr/bin/env python3
 """Writes the trials of crates/trials: data/ (a file a trial), args (their names) and stdout (what the program has to print).
 
-What is expected is computed here from document 01 by sets and dictionaries over the whole mesh, and not as the library does it,
-so the gate compares two readings of the document. A trial's name says what it is, and ends in -refused-N where the check says no.
+What is expected is computed here from document 01, of a mesh by sets and dictionaries over the whole of it and of a sample by
+fractions, and not as the library does it, so the gate compares two readings of the document. A trial's name says what it is, and
+ends in -refused-N where the call says no.
 """
 
+import random
 import struct
 from dataclasses import dataclass
+from fractions import Fraction
+from itertools import product
+from math import comb
 from pathlib import Path
 
 CRATE = Path(__file__).resolve().parent.parent / "crates" / "trials"
@@ -19,10 +24,20 @@ TAGS = range(0, 1 + 1)
 INNER_VALENCES = range(3, 16 + 1)
 BOUNDARY_FACES = range(1, 8 + 1)
 NO_MATE = 65535
+CONTROL = 268435456
+CONTROLS = range(-CONTROL, CONTROL + 1)
+STEPS = range(1, 32 + 1)
 
 # What the program fills the lent list with, and the places that it has for a list.
 FILLING = 7
 PLACES = 2048
+
+# What a sample trial's file begins with, and the numbers of a patch.
+SAMPLE = 65535
+PATCH = 48
+
+# The control values of the sample trials, where no others are named.
+RANDOM = random.Random(20250607)
 
 
 # ---- Shapes: a number of vertices and a list of faces, each four vertex numbers.
@@ -133,11 +148,11 @@ def renumbered(shape):
     return Shape([tuple(shape.vertices - 1 - p for p in face) for face in shape.faces])
 
 
-# ---- Trials: the arguments of the check.
+# ---- Mesh trials: the arguments of the check.
 
 
 @dataclass
-class Trial:
+class MeshTrial:
     v: int
     f: int
     positions: list
@@ -147,16 +162,20 @@ class Trial:
 
     def bytes(self):
         """The trial's file, as crates/trials/src/reading.rt has it."""
+        assert self.v != SAMPLE
         sizes = struct.pack("<6H", self.v, self.f, len(self.positions), len(self.tags), len(self.faces), self.twins)
         positions = struct.pack(f"<{len(self.positions)}i", *self.positions)
         return sizes + positions + bytes(self.tags) + struct.pack(f"<{len(self.faces)}H", *self.faces)
+
+    def answer(self):
+        return MeshAnswer(self)
 
 
 def mesh(shape):
     """A shape with positions of its own, smooth, and a lent list three places longer than need be."""
     n = shape.vertices
     positions = [x for p in range(n) for x in (21 * p, p * p % 1009, -p)]
-    return Trial(n, len(shape.faces), positions, [0] * n, [p for face in shape.faces for p in face], 4 * len(shape.faces) + 3)
+    return MeshTrial(n, len(shape.faces), positions, [0] * n, [p for face in shape.faces for p in face], 4 * len(shape.faces) + 3)
 
 
 def changed(trial, **changes):
@@ -175,10 +194,54 @@ def lengthened(trial, name):
     return changed(trial, **{name: getattr(trial, name) + [0]})
 
 
+# ---- Sample trials: the arguments of the sample call and of the reading.
+
+
+@dataclass
+class SampleTrial:
+    numbers: list
+    f: int = 0
+    n: int = 2
+    a: int = 1
+    b: int = 1
+
+    def bytes(self):
+        """The trial's file, as crates/trials/src/reading.rt has it."""
+        head = struct.pack("<H4Q", SAMPLE, self.f, self.n, self.a, self.b)
+        return head + struct.pack(f"<{len(self.numbers)}i", *self.numbers)
+
+    def answer(self):
+        return SampleAnswer(self)
+
+
+def patch(points):
+    """A patch with the control points that are named, {(i, j): (x, y, z)}, and zeros."""
+    return [x for j, i in product(range(4), repeat=2) for x in points.get((i, j), (0, 0, 0))]
+
+
+def cross(values):
+    """A patch with these values for x at i = 0, one for each j, and for y at j = 0, one for each i."""
+    return patch({(i, j): (values[j] if i == 0 else 0, values[i] if j == 0 else 0, 0) for i, j in product(range(4), repeat=2)})
+
+
+def halves(trial):
+    """A trial whose three coordinates lie halfway between whole numbers."""
+    assert all(x.denominator == 2 for x in trial.answer().exact())
+    return trial
+
+
+def random_patches(count):
+    return [RANDOM.randint(-CONTROL, CONTROL) for _ in range(PATCH * count)]
+
+
+def with_number(numbers, place, value):
+    return numbers[:place] + [value] + numbers[place + 1 :]
+
+
 # ---- Document 01, read once more.
 
 
-class Reading:
+class MeshAnswer:
     """What document 01 says of a trial's mesh."""
 
     def __init__(self, trial):
@@ -253,7 +316,40 @@ class Reading:
         return " ".join(map(str, answer + ["twins"] + shown))
 
 
-# ---- The trials.
+class SampleAnswer:
+    """What document 01 says of the sample call and of the reading."""
+
+    def __init__(self, trial):
+        self.trial = trial
+        self.patch = trial.numbers[PATCH * trial.f : PATCH * trial.f + PATCH]
+
+    def causes(self):
+        """The numbers of all causes that are met, in order; the answer is the first."""
+        t = self.trial
+        met = {
+            12: PATCH * t.f + PATCH > len(t.numbers),
+            13: any(x not in CONTROLS for x in self.patch),
+            14: t.n not in STEPS or t.a > t.n or t.b > t.n,
+        }
+        return [number for number, holds in met.items() if holds]
+
+    def exact(self):
+        """The point of the patch, before it is rounded."""
+        t = self.trial
+        bernstein = lambda x: [comb(3, i) * x**i * (1 - x) ** (3 - i) for i in range(4)]
+        u, v = bernstein(Fraction(t.a, t.n)), bernstein(Fraction(t.b, t.n))
+        return [sum(u[i] * v[j] * self.patch[3 * (i + 4 * j) + k] for i in range(4) for j in range(4)) for k in range(3)]
+
+    def line(self):
+        """What the program prints after the trial's name."""
+        causes = self.causes()
+        if causes:
+            return f"refused {causes[0]} reading refused {causes[0]}"
+        # A fraction is rounded to the nearest whole number, halves to the even one.
+        return " ".join(str(round(x)) for x in self.exact()) + " reading exact"
+
+
+# ---- The trials of the mesh check.
 
 
 def accepted():
@@ -287,13 +383,13 @@ def sizes():
     yield "vertices-512-strip", mesh(strip(255))
     yield "vertices-512-faces-256-ring", mesh(ring(256))
     yield "vertices-513-refused-1", mesh(join(grid(2, 2), *[square()] * 126))
-    yield "vertices-65535-refused-1", changed(mesh(square()), v=65535)
+    yield "vertices-65534-refused-1", changed(mesh(square()), v=65534)
     yield "faces-0-refused-1", changed(mesh(square()), f=0, faces=[])
     yield "faces-1-square", mesh(square())
     yield "faces-256-torus", mesh(torus(16, 16))
     yield "faces-257-refused-1", mesh(join(torus(16, 16), square()))
     yield "faces-65535-refused-1", changed(mesh(square()), f=65535)
-    yield "nothing-at-all-refused-1", Trial(0, 0, [], [], [], 0)
+    yield "nothing-at-all-refused-1", MeshTrial(0, 0, [], [], [], 0)
     for name in ("positions", "tags", "faces"):
         yield f"{name}-one-short-refused-1", shortened(mesh(cube()), name)
         yield f"{name}-one-long-refused-1", lengthened(mesh(cube()), name)
@@ -301,6 +397,8 @@ def sizes():
     yield "vertices-one-less-than-positions-refused-1", changed(mesh(cube()), v=7)
     yield "faces-one-less-than-listed-refused-1", changed(mesh(cube()), f=5)
     yield "positions-2048-refused-1", changed(mesh(square()), positions=[0] * PLACES)
+    yield "tags-2049-refused-1", changed(mesh(square()), tags=[0] * (PLACES + 1))
+    yield "faces-2048-refused-1", changed(mesh(square()), faces=[0] * PLACES)
 
 
 def lent():
@@ -438,25 +536,193 @@ def pairs():
     for one in FAULTS:
         for other in range(one + 1, 12):
             trial = with_faults({one, other})
-            assert {one, other} <= set(Reading(trial).causes()), (one, other)
+            assert {one, other} <= set(trial.answer().causes()), (one, other)
             yield f"{FAULTS[one]}-and-{FAULTS[other]}-refused-{one}", trial
     for one in range(1, 11):
         trial = with_faults(set(range(one, 12)))
-        assert Reading(trial).causes() == list(range(one, 12)), one
+        assert trial.answer().causes() == list(range(one, 12)), one
         yield f"{FAULTS[one]}-and-every-later-refused-{one}", trial
+
+
+# ---- The trials of the sample call and of the reading.
+
+
+def sample_faces():
+    """The face number and the length of the list: 12."""
+    three = random_patches(3)
+    yield "sample-first-face-of-3", SampleTrial(three, f=0)
+    yield "sample-middle-face-of-3", SampleTrial(three, f=1)
+    yield "sample-last-face-of-3", SampleTrial(three, f=2)
+    yield "sample-face-3-of-3-refused-12", SampleTrial(three, f=3)
+    yield "sample-face-4-of-3-refused-12", SampleTrial(three, f=4)
+    yield "sample-face-4294967296-refused-12", SampleTrial(three, f=2**32)
+    yield "sample-face-largest-refused-12", SampleTrial(three, f=2**64 - 1)
+    # 48f below 2^64 and 48f + 48 not; 48f + 48, 48f and 48f - 48 multiples of 2^64; half the largest.
+    yield "sample-face-whose-end-overflows-refused-12", SampleTrial(three, f=2**64 // PATCH)
+    yield "sample-face-whose-end-wraps-to-0-refused-12", SampleTrial(three, f=2**60 - 1)
+    yield "sample-face-whose-start-wraps-to-0-refused-12", SampleTrial(three, f=2**60)
+    yield "sample-face-whose-start-wraps-to-48-refused-12", SampleTrial(three, f=2**60 + 1)
+    yield "sample-face-half-the-largest-refused-12", SampleTrial(three, f=2**63)
+    yield "sample-no-numbers-refused-12", SampleTrial([])
+    yield "sample-1-number-refused-12", SampleTrial(three[:1])
+    for length, f, suffix in (
+        (47, 0, "-refused-12"),
+        (48, 0, ""),
+        (48, 1, "-refused-12"),
+        (49, 0, ""),
+        (49, 1, "-refused-12"),
+        (95, 0, ""),
+        (95, 1, "-refused-12"),
+        (96, 1, ""),
+        (143, 2, "-refused-12"),
+    ):
+        yield f"sample-{length}-numbers-face-{f}{suffix}", SampleTrial(three[:length], f=f)
+    longest = random_patches(43)[:PLACES]
+    yield "sample-2048-numbers-face-41", SampleTrial(longest, f=41)
+    yield "sample-2048-numbers-face-42-refused-12", SampleTrial(longest, f=42)
+
+
+def sample_controls():
+    """The control values of the face, and of the others: 13."""
+    one, three = random_patches(1), random_patches(3)
+    for where, place in (("first", 0), ("middle", 23), ("last", 47)):
+        for word, sign in (("", 1), ("minus-", -1)):
+            at, beyond = sign * CONTROL, sign * (CONTROL + 1)
+            yield f"sample-control-{word}268435456-{where}", SampleTrial(with_number(one, place, at))
+            yield f"sample-control-{word}268435457-{where}-refused-13", SampleTrial(with_number(one, place, beyond))
+            # The same place of the middle one of three faces.
+            middle = with_number(three, PATCH + place, at), with_number(three, PATCH + place, beyond)
+            yield f"sample-control-{word}268435456-{where}-middle-face", SampleTrial(middle[0], f=1)
+            yield f"sample-control-{word}268435457-{where}-middle-face-refused-13", SampleTrial(middle[1], f=1)
+    yield "sample-control-2147483647-refused-13", SampleTrial(with_number(one, 10, 2**31 - 1))
+    yield "sample-control-minus-2147483648-refused-13", SampleTrial(with_number(one, 10, -(2**31)))
+    yield "sample-every-control-off-refused-13", SampleTrial([CONTROL + 1] * PATCH)
+    for word, off in (("", 2**31 - 1), ("minus-", -(2**31)), ("just-", CONTROL + 1)):
+        yield f"sample-number-{word}off-first-of-the-list", SampleTrial(with_number(three, 0, off), f=1)
+        yield f"sample-number-{word}off-just-before-the-face", SampleTrial(with_number(three, 47, off), f=1)
+        yield f"sample-number-{word}off-just-after-the-face", SampleTrial(with_number(three, 96, off), f=1)
+        yield f"sample-number-{word}off-last-of-the-list", SampleTrial(with_number(three, 143, off), f=1)
+        yield f"sample-number-{word}off-after-the-only-face", SampleTrial(one + [off])
+    yield "sample-every-number-off-but-the-face", SampleTrial([2**31 - 1] * PATCH + one + [-(2**31)] * PATCH, f=1)
+
+
+def sample_places():
+    """N, a and b: 14."""
+    one = random_patches(1)
+    yield "sample-steps-0-refused-14", SampleTrial(one, n=0, a=0, b=0)
+    yield "sample-steps-0-place-1-1-refused-14", SampleTrial(one, n=0)
+    yield "sample-steps-1", SampleTrial(one, n=1)
+    yield "sample-steps-32", SampleTrial(one, n=32, a=17, b=6)
+    yield "sample-steps-33-refused-14", SampleTrial(one, n=33)
+    yield "sample-steps-33-place-0-0-refused-14", SampleTrial(one, n=33, a=0, b=0)
+    yield "sample-steps-256-refused-14", SampleTrial(one, n=256)
+    yield "sample-steps-4294967298-refused-14", SampleTrial(one, n=2**32 + 2)
+    yield "sample-steps-largest-refused-14", SampleTrial(one, n=2**64 - 1)
+    for n in (1, 5, 32):
+        yield f"sample-{n}-steps-a-at-n", SampleTrial(one, n=n, a=n, b=1)
+        yield f"sample-{n}-steps-b-at-n", SampleTrial(one, n=n, a=1, b=n)
+        yield f"sample-{n}-steps-both-at-n", SampleTrial(one, n=n, a=n, b=n)
+        yield f"sample-{n}-steps-a-above-n-refused-14", SampleTrial(one, n=n, a=n + 1, b=0)
+        yield f"sample-{n}-steps-b-above-n-refused-14", SampleTrial(one, n=n, a=0, b=n + 1)
+        yield f"sample-{n}-steps-both-above-n-refused-14", SampleTrial(one, n=n, a=n + 1, b=n + 1)
+    for word, place in (("4294967296", 2**32), ("largest", 2**64 - 1)):
+        yield f"sample-a-{word}-refused-14", SampleTrial(one, a=place)
+        yield f"sample-b-{word}-refused-14", SampleTrial(one, b=place)
+
+
+def sample_pairs():
+    """Two causes together: the lower number wins."""
+    one = random_patches(1)
+    off = with_number(one, 47, CONTROL + 1)
+    together = {
+        "sample-face-1-of-1-and-steps-33-refused-12": (SampleTrial(one, f=1, n=33), [12, 14]),
+        "sample-face-1-of-1-and-a-above-n-refused-12": (SampleTrial(one, f=1, a=3), [12, 14]),
+        "sample-no-numbers-and-steps-0-refused-12": (SampleTrial([], n=0), [12, 14]),
+        "sample-control-off-and-steps-33-refused-13": (SampleTrial(off, n=33), [13, 14]),
+        "sample-control-off-and-steps-0-refused-13": (SampleTrial(off, n=0), [13, 14]),
+        "sample-control-off-and-b-above-n-refused-13": (SampleTrial(off, b=3), [13, 14]),
+        "sample-47-numbers-one-off-refused-12": (SampleTrial([CONTROL + 1] + one[:46]), [12, 13]),
+        "sample-47-numbers-one-off-and-steps-33-refused-12": (SampleTrial([CONTROL + 1] + one[:46], n=33), [12, 13, 14]),
+    }
+    for name, (trial, causes) in together.items():
+        assert trial.answer().causes() == causes, name
+        yield name, trial
+
+
+def sample_rounding():
+    """Samples of either sign, zero and odd ones, and fractions at and beside a half."""
+    yield "sample-all-zero", SampleTrial(patch({}))
+    yield "sample-all-one", SampleTrial([1] * PATCH, n=3, a=1, b=2)
+    yield "sample-all-minus-one", SampleTrial([-1] * PATCH, n=3, a=1, b=2)
+    yield "sample-odd", SampleTrial([7, -7, 12345679] * 16, n=5, a=2, b=3)
+    yield "sample-even", SampleTrial([8, -8, 12345678] * 16, n=5, a=2, b=3)
+    yield "sample-cancelled-to-zero", SampleTrial(patch({(0, 0): (64, -64, 1), (3, 3): (-64, 64, -1)}))
+    for word, sign in (("", 1), ("minus-", -1)):
+        # With N = 2 the point (1, 0) has an eighth of b(0,0) and of b(3,0), and (1, 1) has a 64th of b(0,0).
+        for odd in (1, 7):
+            controls = [sign * 4 * (odd + more) for more in (0, 2, 4)]
+            yield f"sample-{word}halves-from-{odd}", halves(SampleTrial(patch({(0, 0): controls}), b=0))
+        controls = [sign * (CONTROL - 4 * odd) for odd in (1, 3, 5)]
+        yield f"sample-{word}halves-of-large-controls", halves(SampleTrial(patch({(3, 0): controls}), b=0))
+        for control in (32, 96, 160):
+            controls = [sign * (control + more) for more in (-1, 0, 1)]
+            yield f"sample-{word}half-{control}-64ths-and-beside", SampleTrial(patch({(0, 0): controls}))
+        controls = [sign * x for x in (364, 365, 1094)]
+        yield f"sample-{word}beside-a-half-729ths", SampleTrial(patch({(3, 3): controls}), n=3)
+        controls = [sign * x for x in (256, 768, 1280)]
+        yield f"sample-{word}halves-4-steps", halves(SampleTrial(patch({(0, 0): controls}), n=4, a=2))
+        controls = [sign * x for x in (32, 96, 160)]
+        yield f"sample-{word}halves-32-steps", halves(SampleTrial(patch({(0, 0): controls}), n=32, a=16, b=16))
+    # Rounded along u and again along v x would be another number, and the other way round y.
+    yield "sample-rounded-once-up", SampleTrial(cross((8, 4, 4, 8)))
+    yield "sample-rounded-once-down", SampleTrial(cross((0, 5, 5, 0)))
+
+
+def sample_random():
+    """Random control values at the corners of a patch, on its edges and inside, and for each N at a random place."""
+    for n in (1, 2, 3, 5, 32):
+        two = random_patches(2)
+        for b, a in product(sorted({0, 1, n - 1, n}), repeat=2):
+            yield f"sample-random-{n}-steps-place-{a}-{b}", SampleTrial(two, f=1, n=n, a=a, b=b)
+    for n in STEPS:
+        yield f"sample-random-{n}-steps", SampleTrial(random_patches(1), n=n, a=RANDOM.randint(0, n), b=RANDOM.randint(0, n))
+
+
+def sample_limits():
+    """Every control value at the limit."""
+    signs = {
+        "plus": lambda i, j, k: 1,
+        "minus": lambda i, j, k: -1,
+        "alternating": lambda i, j, k: (-1) ** (i + j + k),
+        "alternating-along-u": lambda i, j, k: (-1) ** (i + k),
+        "alternating-along-v": lambda i, j, k: (-1) ** (j + k),
+        "random": lambda i, j, k: RANDOM.choice((-1, 1)),
+    }
+    for word, sign in signs.items():
+        limits = [CONTROL * sign(i, j, k) for j, i, k in product(range(4), range(4), range(3))]
+        for n, a, b in ((1, 1, 0), (2, 1, 1), (3, 1, 2), (5, 0, 3), (31, 15, 16), (32, 1, 31)):
+            yield f"sample-limits-{word}-{n}-steps", SampleTrial(limits, n=n, a=a, b=b)
+
+
+# ---- Files that are no trial.
 
 
 def files():
     """Files that are no trial, with what the program says of them."""
-    sizes = lambda *numbers: struct.pack("<6H", *numbers)
     whole = mesh(square()).bytes()
-    yield "positions-2049-too-long", sizes(4, 1, PLACES + 1, 4, 4, 7), "too long"
-    yield "tags-2049-too-long", sizes(4, 1, 12, PLACES + 1, 4, 7), "too long"
-    yield "faces-2049-too-long", sizes(4, 1, 12, 4, PLACES + 1, 7), "too long"
-    yield "twins-2049-too-long", sizes(4, 1, 12, 4, 4, PLACES + 1), "too long"
+    sample = SampleTrial(random_patches(1)).bytes()
+    yield "positions-2049-too-long", changed(mesh(square()), positions=[0] * (PLACES + 1)).bytes(), "too long"
+    yield "faces-2049-too-long", changed(mesh(square()), faces=[0] * (PLACES + 1)).bytes(), "too long"
+    yield "twins-2049-too-long", changed(mesh(square()), twins=PLACES + 1).bytes(), "too long"
+    yield "sample-2049-numbers-too-long", SampleTrial([0] * (PLACES + 1)).bytes(), "too long"
     yield "file-empty-not-whole", b"", "not whole"
     yield "file-one-byte-short-not-whole", whole[:-1], "not whole"
     yield "file-one-byte-long-not-whole", whole + b"\0", "not whole"
+    yield "sample-file-first-number-only-not-whole", sample[:2], "not whole"
+    yield "sample-file-head-one-byte-short-not-whole", sample[:33], "not whole"
+    yield "sample-file-one-byte-short-not-whole", sample[:-1], "not whole"
+    yield "sample-file-two-bytes-short-not-whole", sample[:-2], "not whole"
+    yield "sample-file-one-byte-long-not-whole", sample + b"\0", "not whole"
     yield "file-missing", None, "no file"
 
 
@@ -464,13 +730,15 @@ def main():
     data = CRATE / "data"
     data.mkdir(parents=True, exist_ok=True)
     written, lines = {}, []
-    for group in (accepted, sizes, lent, entries, half_edges, vertices, pairs):
+    meshes = (accepted, sizes, lent, entries, half_edges, vertices, pairs)
+    samples = (sample_faces, sample_controls, sample_places, sample_pairs, sample_rounding, sample_random, sample_limits)
+    for group in meshes + samples:
         for name, trial in group():
             assert name not in written, name
-            reading = Reading(trial)
-            assert name.partition("-refused-")[2] == "".join(map(str, reading.causes()[:1])), name
+            answer = trial.answer()
+            assert name.partition("-refused-")[2] == "".join(map(str, answer.causes()[:1])), name
             written[name] = trial.bytes()
-            lines.append(f"{name} {reading.line()}\n")
+            lines.append(f"{name} {answer.line()}\n")
     for name, content, line in files():
         assert name not in written, name
         written[name] = content

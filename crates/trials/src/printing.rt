@@ -1,7 +1,9 @@
 // The parts of a trial's line, on standard output.
-use crate::reading::wide;
 use libc::STDOUT_FILENO;
-use mesh::model::Mesh;
+use mesh::model::Checked;
+use sample::model::Micrometres;
+use sample::model::Reading;
+use sample::model::Sampled;
 
 // Text as it is.
 pub(crate) fn print_text(text: &[u8]) {
@@ -9,17 +11,24 @@ pub(crate) fn print_text(text: &[u8]) {
 }
 
 // A blank and a number.
-fn print_number(n: usize) {
+pub(crate) fn print_number(n: usize) {
     print_text(b" ");
     io::print_decimal(STDOUT_FILENO, n as u64);
 }
 
-// The four counts of an accepted mesh.
-pub(crate) fn print_counts(m: Mesh) {
-    print_number(m.vertices);
-    print_number(m.faces);
-    print_number(m.edges);
-    print_number(m.boundary);
+// The magnitude of a number: for a negative one, one more than that of `n + 1`.
+fn magnitude(n: i32) -> u64 {
+    if n < 0 { (-1 - n) as u64 + 1 } else { n as u64 }
+}
+
+// A blank and a signed number.
+pub(crate) fn print_signed(n: i32) {
+    if n < 0 {
+        print_text(b" -");
+    } else {
+        print_text(b" ");
+    }
+    io::print_decimal(STDOUT_FILENO, magnitude(n));
 }
 
 // The number of a refusal.
@@ -28,25 +37,70 @@ pub(crate) fn print_refusal(n: u8) {
     print_number(n as usize);
 }
 
-// A blank and the last of the first n numbers of a list, or `-` where there is none.
-fn print_last(list: &[u16], n: usize) {
-    if n == 0 {
-        print_text(b" -");
-        return;
+// The answer of the check: the four counts, or the refusal.
+pub(crate) fn print_checked(answer: Checked) {
+    match answer {
+        Checked::Accepted(m) => {
+            print_number(m.vertices);
+            print_number(m.faces);
+            print_number(m.edges);
+            print_number(m.boundary);
+        }
+        Checked::Refused(n) => print_refusal(n),
     }
-    if list.len() < n {
-        print_text(b" -");
-        return;
-    }
-    print_number(wide(list[n - 1]));
 }
 
-// The twins of a mesh of f faces at the places 0, 4f - 1, 4f and the last.
-pub(crate) fn print_twins(twins: &[u16], f: u16) {
-    let n = 4 * wide(f);
+// The number at a place of a list, or `-` where there is none.
+fn print_at(list: &[u16], at: usize) {
+    if at < list.len() {
+        print_number(list[at] as usize);
+    } else {
+        print_text(b" -");
+    }
+}
+
+// The twins at the places 0, n - 1, n and the last; what is before place 0 is no place.
+pub(crate) fn print_twins(twins: &[u16], n: usize) {
     print_text(b" twins");
-    print_last(twins, 1);
-    print_last(twins, n);
-    print_last(twins, n + 1);
-    print_last(twins, twins.len());
+    print_at(twins, 0);
+    print_at(twins, std::num::wrapping_sub_usize(n, 1));
+    print_at(twins, n);
+    print_at(twins, std::num::wrapping_sub_usize(twins.len(), 1));
+}
+
+// The answer of the sample call: the three coordinates, or the refusal.
+pub(crate) fn print_sampled(answer: Sampled) {
+    match answer {
+        Sampled::At(p) => {
+            print_signed(p.x);
+            print_signed(p.y);
+            print_signed(p.z);
+        }
+        Sampled::Refused(n) => print_refusal(n),
+    }
+}
+
+// Whether three doubles are exactly what the sample call answers, over 256.
+fn is_exact(m: Micrometres, answer: Sampled) -> bool {
+    match answer {
+        Sampled::At(p) => {
+            (m.x * 256.0 == p.x as f64) & (m.y * 256.0 == p.y as f64) & (m.z * 256.0 == p.z as f64)
+        }
+        Sampled::Refused(_) => false,
+    }
+}
+
+// The answer of the reading, held against that of the sample call.
+pub(crate) fn print_reading(reading: Reading, answer: Sampled) {
+    print_text(b" reading");
+    match reading {
+        Reading::At(m) => {
+            if is_exact(m, answer) {
+                print_text(b" exact");
+            } else {
+                print_text(b" differs");
+            }
+        }
+        Reading::Refused(n) => print_refusal(n),
+    }
 }

@@ -1,76 +1,99 @@
-// A trial's file: six sizes, V, F and the lengths of the lists of positions, tags, faces and twins, as 16-bit numbers; then the
-// positions as 32-bit two's complement numbers, the tags as bytes and the faces as 16-bit numbers; each low byte first.
+// A trial's file. Each number in it has its low byte first.
+//
+// Of the mesh check: six sizes, V, F and the lengths of the lists of positions, tags, faces and twins, as 16-bit numbers; then the
+// positions as 32-bit two's complement numbers, the tags as bytes and the faces as 16-bit numbers.
+//
+// Of the sample call: 65535 as a 16-bit number, which is V in no trial of the mesh check; then f, N, a and b as 64-bit numbers; then
+// the patch numbers as 32-bit two's complement numbers, to the end of the file.
+use crate::printing::print_text;
 ghost use mathlib.Core.Path.{_≡_};
-ghost use Prim.Native.Nat.{_≤_, _<_};
+ghost use Prim.Native.Nat.{_+_, _^_, _≤_, _<_};
 
-// A 16-bit number as an index.
-pub(crate) fn wide(x: u16) -> usize
-    ensures { λ r. ⌜ (r ≡ x) × (r < 65536) ⌝ }
+// The places of each list that is read or lent.
+pub(crate) const PLACES: usize = 2048;
+
+// The places that a list of n numbers takes up, as far as there are any.
+pub(crate) fn room(n: usize) -> usize
+    ensures { λ r. ⌜ r ≤ 2048 ⌝ }
+{
+    if n < PLACES { n } else { PLACES }
+}
+
+// Whether a trial can be run: the file's length is that of its sizes and lists, and its lists have room. Says why not.
+pub(crate) fn can_run(b: &[u8], length: usize, has_room: bool) -> bool {
+    if b.len() != length {
+        print_text(b" not whole");
+        return false;
+    }
+    if !has_room {
+        print_text(b" too long");
+        return false;
+    }
+    true
+}
+
+// A byte as a number.
+fn wide(x: u8) -> usize
+    ensures { λ r. ⌜ (r ≡ x) × (r < 256) ⌝ }
 {
     x as usize
 }
 
-// The larger of two.
-pub(crate) fn larger(a: usize, b: usize) -> usize
-    ensures { λ r. ⌜ (a ≤ r) × (b ≤ r) ⌝ }
+// The byte at a place; 0 beyond the last.
+fn byte_at(b: &[u8], at: usize) -> usize
+    ensures { λ r. ⌜ r < 256 ⌝ }
 {
-    if a < b { b } else { a }
+    if at < b.len() { wide(b[at]) } else { 0 }
 }
 
-// A byte as a 32-bit number.
-fn wide32(x: u8) -> u32
-    ensures { λ r. ⌜ (r ≡ x) × (r < 256) ⌝ }
+// The 16-bit number at a place.
+pub(crate) fn u16_at(b: &[u8], at: usize) -> usize
+    requires { ⌜ at + 1 < 2 ^ 64 ⌝ }
+    ensures { λ r. ⌜ r < 2 ^ 16 ⌝ }
 {
-    x as u32
+    byte_at(b, at) + 256 * byte_at(b, at + 1)
 }
 
-// The 16-bit number at a place, as 32 bits; 0 where the bytes end before it does.
-fn pair_at(b: &[u8], at: usize) -> u32
-    ensures { λ r. ⌜ r < 65536 ⌝ }
+// The 32-bit number at a place.
+fn u32_at(b: &[u8], at: usize) -> usize
+    requires { ⌜ at + 3 < 2 ^ 64 ⌝ }
+    ensures { λ r. ⌜ r < 2 ^ 32 ⌝ }
 {
-    if b.len() < 2 {
-        return 0;
-    }
-    if b.len() - 2 < at {
-        return 0;
-    }
-    wide32(b[at]) + 256 * wide32(b[at + 1])
+    u16_at(b, at) + 65536 * u16_at(b, at + 2)
 }
 
-// The 16-bit number at a place; 0 where the bytes end before it does.
-pub(crate) fn u16_at(b: &[u8], at: usize) -> u16 {
-    pair_at(b, at) as u16
+// The 64-bit number at a place.
+pub(crate) fn u64_at(b: &[u8], at: usize) -> usize
+    requires { ⌜ at + 7 < 2 ^ 64 ⌝ }
+{
+    u32_at(b, at) + 4294967296 * u32_at(b, at + 4)
 }
 
-// The number of 32 bits, two's complement.
-fn signed(x: u32) -> i32 {
+// The 32-bit two's complement number at a place.
+fn i32_at(b: &[u8], at: usize) -> i32
+    requires { ⌜ at + 3 < 2 ^ 64 ⌝ }
+{
+    let x = u32_at(b, at);
     if x < 2147483648 {
         return x as i32;
     }
     !((4294967295 - x) as i32)
 }
 
-// The 32-bit number at a place; 0 where the bytes end before it does.
-fn i32_at(b: &[u8], at: usize) -> i32 {
-    if b.len() < 4 {
-        return 0;
-    }
-    if b.len() - 4 < at {
-        return 0;
-    }
-    signed(pair_at(b, at) + 65536 * pair_at(b, at + 2))
-}
-
-// Fills the positions from the bytes that start with them.
-pub(crate) fn read_positions(b: &[u8], positions: &mut [i32]) {
-    for i in 0..positions.len() {
-        positions[i] = i32_at(b, 4 * i);
+// Fills a list with the 32-bit numbers from a place on.
+pub(crate) fn read_i32s(b: &[u8], at: usize, list: &mut [i32])
+    requires { ⌜ at < 2 ^ 32 ⌝ }
+{
+    for i in 0..list.len() {
+        list[i] = i32_at(b, at + 4 * i);
     }
 }
 
-// Fills the faces from the bytes that start with them.
-pub(crate) fn read_faces(b: &[u8], faces: &mut [u16]) {
-    for i in 0..faces.len() {
-        faces[i] = u16_at(b, 2 * i);
+// Fills a list with the 16-bit numbers from a place on.
+pub(crate) fn read_u16s(b: &[u8], at: usize, list: &mut [u16])
+    requires { ⌜ at < 2 ^ 32 ⌝ }
+{
+    for i in 0..list.len() {
+        list[i] = u16_at(b, at + 2 * i) as u16;
     }
 }

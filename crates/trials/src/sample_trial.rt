@@ -1,0 +1,57 @@
+// A trial of the sample call and of the reading. Its line goes on
+//
+//     X Y Z reading exact             of a sample that the reading has exactly
+//     refused N reading refused N     of a refused one
+//
+// `exact` says that each of the three doubles times 256 is the coordinate of the sample, and `differs` that one is not, or that the
+// reading has numbers and the sample call refuses.
+use crate::printing::print_reading;
+use crate::printing::print_sampled;
+use crate::reading::PLACES;
+use crate::reading::can_run;
+use crate::reading::read_i32s;
+use crate::reading::room;
+use crate::reading::u64_at;
+ghost use Prim.Native.Nat.{_^_, _<_};
+
+// Where the patch numbers begin.
+const NUMBERS_AT: usize = 34;
+
+// Both calls at one place, with their answers printed.
+pub(crate) fn print_answers(patches: &[i32], f: usize, n: usize, a: usize, b: usize) {
+    let answer = sample::sample(patches, f, n, a, b);
+    print_sampled(answer);
+    print_reading(sample::reading(patches, f, n, a, b), answer);
+}
+
+// The trial with a list for its patch numbers: reads them, and runs both calls.
+fn show(b: &[u8], patches: &mut [i32]) {
+    read_i32s(b, NUMBERS_AT, patches);
+    print_answers(
+        patches,
+        u64_at(b, 2),
+        u64_at(b, 10),
+        u64_at(b, 18),
+        u64_at(b, 26),
+    );
+}
+
+// The number of patch numbers.
+fn count(b: &[u8]) -> usize
+    ensures { λ r. ⌜ r < 2 ^ 61 ⌝ }
+{
+    if b.len() < NUMBERS_AT {
+        return 0;
+    }
+    (b.len() - NUMBERS_AT) / 4
+}
+
+// The trial in a file's bytes.
+pub(crate) fn run(b: &[u8]) {
+    let n = count(b);
+    if !can_run(b, NUMBERS_AT + 4 * n, n <= PLACES) {
+        return;
+    }
+    let mut patches = [0i32; PLACES];
+    show(b, &mut patches[0..room(n)]);
+}
