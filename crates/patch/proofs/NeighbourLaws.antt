@@ -1,4 +1,4 @@
--- The two sums of the corner masks, as document 01 has them: over the edge neighbours and the vertices across, and over the two rim neighbours.
+-- The two sums of the corner masks, as document 01 has them: over the edge neighbours and the vertices across, and over the two boundary neighbours.
 use mathlib.Core.Path.{_≡_, refl, sym, ap, ap₂, _∙_}
 use mathlib.Core.Bool.{Bool, true, false, cond, _&&_}
 use mathlib.Core.Logic.{⊎-elim}
@@ -29,7 +29,7 @@ pub twin-below : (S : View) (c : ℕ) → sharp S c ≡ false → twin (S .at) (
 unfolding sharp boundary
 twin-below S c e = ⊎-elim (λ w. w .0) (λ w. absurd (eqb-false _ _ e (w .0))) (twin-cases (S .n) (S .at) c)
 
--- ---- the two rim neighbours
+-- ---- the two boundary neighbours
 split : (t u v : Bool) (a b : ℤ) → cond t (cond u a (pos 0) +ℤ cond v b (pos 0)) (pos 0) ≡ cond (t && u) a (pos 0) +ℤ cond (t && v) b (pos 0)
 split true u v a b = refl
 split false u v a b = refl
