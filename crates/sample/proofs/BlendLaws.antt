@@ -2,24 +2,26 @@
 use mathlib.Core.Path.{_≡_, refl, sym, ap, ap₂, _∙_}
 use mathlib.Core.List.{List, [], _∷_}
 use Prim.Native.Nat.{ℕ, _+_, _*_, _^_, _≤_, _<_}
+use native.Mathlib.Nat.{mul-comm, one-le-pow}
 use native.Mathlib.Omega.{arith}
 use lib.IntN.{ℤ, pos, natAbs, _*ℤ_}
 use lib.ListN.{getD}
 use lib.Signed.{mag}
-use mir.Syntax.{Width, w32, w64}
+use mir.Syntax.{Width, w64}
 use mir.Val.{SFits, toZ, ofZ, hbits}
 use mir.Facts.{toZ-ofZ}
 use Rattle.integer.specs.Nearest.{nearest}
 use Rattle.integer.proofs.Laws.{abs-*-≤, sfits-abs}
+use Rattle.integer.proofs.NearestLaws.{nearest-meets, nearest-unique}
 use Rattle.finite.specs.Fold.{foldBelow, sumBelowℤ}
 use Rattle.finite.specs.Filled.{listBelow}
 use Rattle.finite.proofs.FilledLaws.{listBelow-at}
 use Rattle.finite.proofs.IntegerSum.{sum-size}
-use Rattle.sample.specs.Bernstein.{weight, rounded}
+use Rattle.sample.specs.Bernstein.{weight, numerator, rounded}
 use Rattle.sample.specs.Refusal.{maxControl}
-use Rattle.sample.specs.Private.{controlOf, Small, Steps, Light, Fine, blended, blendedTwice}
-use Rattle.sample.proofs.WeightLaws.{weight-small}
-use Rattle.sample.proofs.SampleLaws.{numerator-rows, rounded-fits}
+use Rattle.sample.specs.Private.{controlOf, Small, Steps, Light, Fine, Mean, blended, blendedTwice}
+use Rattle.sample.proofs.WeightLaws.{weight-small, sixth-small}
+use Rattle.sample.proofs.SampleLaws.{numerator-rows, rounded-nearest, numerator-bound}
 
 -- ---- the first i terms
 abbrev pub term : List ℕ → (ℕ → ℤ) → ℕ → ℤ
@@ -78,11 +80,25 @@ module _ {patch : List ℤ} (small : Small patch) (k : ℕ) (below : k < 3) wher
             (omega (arith, partial-size (column i) maxControl light (λ j q. control-small (i + 4 * j) (omega arith)) 4 (omega arith)));
       }
 
-  pub sample-fits : {n a b : ℕ} → Steps n a → Steps n b → SFits w32 (rounded n a b (controlOf patch k))
-  sample-fits {n} {a} {b} s t = rounded-fits n a b (s .least) (s .within) (t .within) (controlOf patch k) control-small
+  pub sample-mean : {n a b : ℕ} → Steps n a → Steps n b → Mean (numerator n a b (controlOf patch k)) (n ^ 6)
+  sample-mean {n} {a} {b} s t =
+      record {
+        least = one-le-pow 6 n (s .least);
+        most = sixth-small n (s .most);
+        within = rw mul-comm (numerator-bound n a b (s .within) (t .within) (controlOf patch k) maxControl control-small);
+      }
 
 -- ---- the sample, by the lists of the weights
-pub rounded-blended : (n a b : ℕ) (g : ℕ → ℤ) {u v : List ℕ} {d : ℕ} → u ≡ listBelow (weight n a) 4 → v ≡ listBelow (weight n b) 4 → d ≡ n ^ 6
-    → nearest (blendedTwice u v g) d ≡ rounded n a b g
-unfolding foldBelow listBelow rounded
-rounded-blended n a b g e f h = ap₂ nearest (ap₂ (λ (u v : List ℕ). blendedTwice u v g) e f ∙ sym (numerator-rows n a b g)) h
+module _ (n a b : ℕ) (g : ℕ → ℤ) {u v : List ℕ} {d : ℕ} (e : u ≡ listBelow (weight n a) 4) (f : v ≡ listBelow (weight n b) 4) (h : d ≡ n ^ 6) where
+  blended-numerator : blendedTwice u v g ≡ numerator n a b g
+  unfolding foldBelow listBelow
+  blended-numerator = ap₂ (λ (u v : List ℕ). blendedTwice u v g) e f ∙ sym (numerator-rows n a b g)
+
+  pub blended-mean : Mean (numerator n a b g) (n ^ 6) → Mean (blendedTwice u v g) d
+  blended-mean m = rw (blended-numerator, h) m
+
+  pub rounded-blended : 0 < n → nearest (blendedTwice u v g) d ≡ rounded n a b g
+  rounded-blended some =
+      let p : 0 < n ^ 6 = one-le-pow 6 n some in
+      ap₂ nearest blended-numerator h
+      ∙ nearest-unique (numerator n a b g) (n ^ 6) _ _ p (nearest-meets (numerator n a b g) (n ^ 6) p) (rounded-nearest n a b g some)

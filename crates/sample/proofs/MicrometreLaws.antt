@@ -7,7 +7,7 @@ use native.Mathlib.Nat.{mul-one, mul-assoc, mul-right-comm, mul-pos, mul-le-mul-
 use lib.Dec.{lit<, lit≤}
 use lib.IntN.{ℤ, pos, negsuc, natAbs}
 use lib.Signed.{mag}
-use lib.Ieee.{Float, nan, inf, fin, binary64, up, down, unlike, round, div, mul, ofInt, ofBits}
+use lib.Ieee.{Float, nan, inf, fin, binary64, up, down, unlike, round, div, mul, ofInt}
 use lib.Ieee.Fits.{down-pos, mul-fits, ofInt-fits}
 use lib.Ieee.Exact.{HasValue, round-exact}
 use lib.Ieee.Back.{round-whole, whole-unique}
@@ -92,10 +92,10 @@ abs-≤ : (z : ℤ) → mag z < 2 ^ 31 → natAbs z ≤ 2 ^ 31
 abs-≤ (pos n) h = le-of-lt h
 abs-≤ (negsuc n) h = h
 
--- the division of the code: 4643211215818981376 is the bit pattern of 256.0
-pub over256-exact : (z : ℤ) → mag z < 2 ^ 31 → Over256 (div binary64 (ofInt binary64 z) (ofBits binary64 4643211215818981376)) z
-unfolding ofBits
-over256-exact z h = over-by (div binary64 (ofInt binary64 z) (fin false 1 (pos 8))) z (quotient (ofInt binary64 z) (negative z) (natAbs z) (abs-≤ z h) (whole z (abs-≤ z h)))
+-- the division of the code, by a y that is 256.0
+pub over256-exact : (z : ℤ) (y : Float) → mag z < 2 ^ 31 → y ≡ fin false 1 (pos 8) → Over256 (div binary64 (ofInt binary64 z) y) z
+over256-exact z y h e =
+    rw e (over-by (div binary64 (ofInt binary64 z) (fin false 1 (pos 8))) z (quotient (ofInt binary64 z) (negative z) (natAbs z) (abs-≤ z h) (whole z (abs-≤ z h))))
 
 -- the way back: a double that is a sample over 256, times 256.0, is the sample
 pub over256-back : (x : Float) (z : ℤ) → mag z < 2 ^ 31 → Over256 x z → mul binary64 x (fin false 1 (pos 8)) ≡ ofInt binary64 z

@@ -14,19 +14,17 @@ use Rattle.sample.specs.declared.model.Sampled.the-variants.{At}
 use Rattle.sample.specs.Bernstein.{rounded}
 use Rattle.sample.specs.Refusal.{minSteps, maxSteps, faceOff, controlOff, placeOff}
 use Rattle.sample.specs.Answer.{refusal, meaning, sampleAnswer}
-use Rattle.sample.specs.Private.{controlOf, Steps}
+use Rattle.sample.specs.Private.{controlOf}
 use Rattle.sample.proofs.PatchLaws.{patchOf, patch-coordinate}
 
 -- ---- what a passed test of the place gives
-pub place-on : (n a b : ℕ) → placeOff n a b ≡ false → Steps n a × Steps n b
+pub place-on : (n a b : ℕ) → placeOff n a b ≡ false → (minSteps ≤ n) × (n ≤ maxSteps) × (a ≤ n) × (b ≤ n)
 unfolding placeOff
 place-on n a b e =
     let h₁ = or-false (ltb n minSteps) _ e in
     let h₂ = or-false (ltb maxSteps n) _ (h₁ .1) in
     let h₃ = or-false (ltb n a) (ltb n b) (h₂ .1) in
-    let least = ltb-false n minSteps (h₁ .0) in
-    let most = ltb-false maxSteps n (h₂ .0) in
-    (record { least = least; most = most; within = ltb-false n a (h₃ .0) }, record { least = least; most = most; within = ltb-false n b (h₃ .1) })
+    (ltb-false n minSteps (h₁ .0), ltb-false maxSteps n (h₂ .0), ltb-false n a (h₃ .0), ltb-false n b (h₃ .1))
 
 -- ---- the answer, by the first cause met
 face-off : (patches : List ℤ) (f : ℕ) → length patches / 48 ≤ f → faceOff patches f ≡ true

@@ -1,5 +1,5 @@
--- The laws of a sample, over any control values g: other forms of its sum, what it depends on, a quarter turn of the patch, its edge b = 0,
--- the size of a sample, and its distance from the exact surface.
+-- The laws of a sample, over any control values g: other forms of its sum, how it is rounded, what it depends on, a quarter turn of the patch,
+-- its edge b = 0, the size of its sum, and its distance from the exact surface.
 use mathlib.Core.Path.{_≡_, refl, sym, ap, ap₂, _∙_}
 use mathlib.Core.List.{List}
 use Prim.Native.Nat.{ℕ, zero, suc, _+_, _-_, _*_, _/_, _%_, _^_, _<_, _≤_}
@@ -9,17 +9,14 @@ use lib.IntN.{ℤ, pos, natAbs, _+ℤ_, _-ℤ_, _*ℤ_, zero-*ℤ, +ℤ-assoc, +
 use lib.ListN.{getD, drop}
 use lib.Pow.{pow-add}
 use lib.Seq.{getD-drop}
-use mir.Syntax.{w32}
-use mir.Val.{SFits}
-use Rattle.integer.specs.Nearest.{nearest}
+use Rattle.integer.specs.Nearest.{IsNearest}
 use Rattle.integer.proofs.Difference.{int, nat, _⊕_, _⊝_, _⊛_, prove-eq, read-abs}
-use Rattle.integer.proofs.Laws.{*ℤ-assoc, abs-+, abs-*, sfits-abs}
-use Rattle.integer.proofs.NearestLaws.{nearest-meets, nearest-bounded}
+use Rattle.integer.proofs.Laws.{*ℤ-assoc, abs-+, abs-*}
+use Rattle.integer.proofs.NearestLaws.{nearest-meets}
 use Rattle.finite.specs.Fold.{foldBelow, sumBelow, sumBelowℤ}
 use Rattle.finite.proofs.FoldLaws.{fold-ext, fold-swap}
 use Rattle.finite.proofs.IntegerSum.{sumℤ-monoid, sum-scale}
 use Rattle.sample.specs.Bernstein.{weight, numerator, rounded, coordinateAt}
-use Rattle.sample.specs.Refusal.{maxControl}
 use Rattle.sample.proofs.WeightLaws.{weight-flip, weights-sumBelow, weight-first, weight-first-others}
 
 -- ---- other forms of the sum
@@ -42,6 +39,16 @@ module _ (n a b : ℕ) (g : ℕ → ℤ) where
       fold-ext (pos 0) _+ℤ_ 4 (λ j _. *ℤ-assoc (pos (weight n a i)) (pos (weight n b j)) (g (i + 4 * j)))
       ∙ sum-scale (pos (weight n a i)) (λ j. pos (weight n b j) *ℤ g (i + 4 * j)) 4)
 
+-- ---- a sample by its sum
+-- over n^6 and rounded to the nearest whole number, halves to the even one
+pub rounded-nearest : (n a b : ℕ) (g : ℕ → ℤ) → 0 < n → IsNearest (numerator n a b g) (n ^ 6) (rounded n a b g)
+unfolding rounded
+rounded-nearest n a b g some = nearest-meets (numerator n a b g) (n ^ 6) (one-le-pow 6 n some)
+
+rounded-by-sum : (n a b a′ b′ : ℕ) (g g′ : ℕ → ℤ) → numerator n a b g ≡ numerator n a′ b′ g′ → rounded n a b g ≡ rounded n a′ b′ g′
+unfolding rounded
+rounded-by-sum n a b a′ b′ g g′ e = rw e
+
 -- ---- what a sample depends on
 pub numerator-ext : (n a b : ℕ) {g g′ : ℕ → ℤ} → ((m : ℕ) → m < 16 → g m ≡ g′ m) → numerator n a b g ≡ numerator n a b g′
 unfolding numerator
@@ -49,8 +56,7 @@ numerator-ext n a b h =
     fold-ext (pos 0) _+ℤ_ 4 (λ j k. fold-ext (pos 0) _+ℤ_ 4 (λ i l. ap (λ (z : ℤ). pos (weight n a i * weight n b j) *ℤ z) (h (i + 4 * j) (omega arith))))
 
 pub rounded-ext : (n a b : ℕ) {g g′ : ℕ → ℤ} → ((m : ℕ) → m < 16 → g m ≡ g′ m) → rounded n a b g ≡ rounded n a b g′
-unfolding rounded
-rounded-ext n a b h = ap (λ (z : ℤ). nearest z (n ^ 6)) (numerator-ext n a b h)
+rounded-ext n a b h = rounded-by-sum n a b a b _ _ (numerator-ext n a b h)
 
 -- the 48 numbers from place 48f on
 pub coordinate-ext : (p p′ : List ℤ) (f f′ n a b k : ℕ) → k < 3
@@ -92,8 +98,7 @@ numerator-turn n a b g h =
         (rw (weight-flip n a h j l) (mul-comm (weight n b i) (weight n a (3 - j)))) (omega arith)
 
 pub rounded-turn : (n a b : ℕ) (g : ℕ → ℤ) → a ≤ n → rounded n b (n - a) (quarterTurn g) ≡ rounded n a b g
-unfolding rounded
-rounded-turn n a b g h = ap (λ (z : ℤ). nearest z (n ^ 6)) (numerator-turn n a b g h)
+rounded-turn n a b g h = rounded-by-sum n b (n - a) a b (quarterTurn g) g (numerator-turn n a b g h)
 
 -- ---- the edge b = 0
 -- only the points with j = 0 count
@@ -106,25 +111,16 @@ numerator-edge n a g = numerator-rows n a 0 g ∙ fold-ext (pos 0) _+ℤ_ 4 (λ 
         rw (add-zero, weight-first, weight-first-others n 1 (omega arith), weight-first-others n 2 (omega arith), weight-first-others n 3 (omega arith))
         (simp (zero-*ℤ, +ℤ-idl, +ℤ-idr))
 
-pub rounded-edge-ext : (n a : ℕ) {g g′ : ℕ → ℤ} → ((i : ℕ) → i < 4 → g i ≡ g′ i) → rounded n a 0 g ≡ rounded n a 0 g′
-unfolding rounded
-rounded-edge-ext n a {g} {g′} h =
-    ap (λ (z : ℤ). nearest z (n ^ 6))
-    (numerator-edge n a g
-    ∙ fold-ext (pos 0) _+ℤ_ 4 (λ i l. ap (λ (z : ℤ). pos (weight n a i) *ℤ (pos (n ^ 3) *ℤ z)) (h i l))
-    ∙ sym (numerator-edge n a g′))
-
 -- its four points from the other end
 pub rounded-edge-flip : (n a : ℕ) (g g′ : ℕ → ℤ) → a ≤ n → ((i : ℕ) → i < 4 → g′ i ≡ g (3 - i)) → rounded n (n - a) 0 g′ ≡ rounded n a 0 g
-unfolding rounded
 rounded-edge-flip n a g g′ le h =
-    ap (λ (z : ℤ). nearest z (n ^ 6))
+    rounded-by-sum n (n - a) 0 a 0 g′ g
     (numerator-edge n (n - a) g′
     ∙ fold-ext (pos 0) _+ℤ_ 4 (λ i l. ap₂ (λ (w : ℕ) (z : ℤ). pos w *ℤ (pos (n ^ 3) *ℤ z)) (weight-flip n a le i l) (h i l))
     ∙ sum-flip (λ i. pos (weight n a i) *ℤ (pos (n ^ 3) *ℤ g i))
     ∙ sym (numerator-edge n a g))
 
--- ---- the size of a sample
+-- ---- the size of the sum
 -- K |f m| ≤ B at every m gives K |sum of u m * f m| ≤ (sum of u m) B
 pub weighted : (u : ℕ → ℕ) (f : ℕ → ℤ) (n K B : ℕ) → ((m : ℕ) → m < n → K * natAbs (f m) ≤ B)
     → K * natAbs (sumBelowℤ (λ m. pos (u m) *ℤ f m) n) ≤ sumBelow u n * B
@@ -154,14 +150,6 @@ module _ (n a b : ℕ) (ha : a ≤ n) (hb : b ≤ n) where
 
   pub numerator-bound : (g : ℕ → ℤ) (B : ℕ) → ((m : ℕ) → m < 16 → natAbs (g m) ≤ B) → natAbs (numerator n a b g) ≤ n ^ 6 * B
   numerator-bound g B h = omega (arith, numerator-weighted g 1 B (λ m l. omega (arith, h m l)))
-
-module _ (n a b : ℕ) (some : 0 < n) (ha : a ≤ n) (hb : b ≤ n) where
-  pub rounded-bound : (g : ℕ → ℤ) (B : ℕ) → ((m : ℕ) → m < 16 → natAbs (g m) ≤ B) → natAbs (rounded n a b g) ≤ B
-  unfolding rounded
-  rounded-bound g B h = nearest-bounded (numerator n a b g) (n ^ 6) B (one-le-pow 6 n some) (rw mul-comm (numerator-bound n a b ha hb g B h))
-
-  pub rounded-fits : (g : ℕ → ℤ) → ((m : ℕ) → m < 16 → natAbs (g m) ≤ maxControl) → SFits w32 (rounded n a b g)
-  rounded-fits g h = sfits-abs (rounded n a b g) (omega (arith, rounded-bound g maxControl h))
 
 -- ---- the distance from the exact surface
 -- |z/d - r| ≤ 1/2, with both sides times 2 d q
@@ -197,15 +185,14 @@ pub rounded-near : (n a b : ℕ) → 0 < n → a ≤ n → b ≤ n → (num : �
     → ((m : ℕ) → m < 16 → L ≡ den m * q m)
     → ((m : ℕ) → m < 16 → 2 * natAbs (num m -ℤ g m *ℤ pos (den m)) ≤ den m)
     → natAbs (rounded n a b g *ℤ pos (n ^ 6 * L) -ℤ numerator n a b (λ m. num m *ℤ pos (q m))) ≤ n ^ 6 * L
-unfolding rounded
 rounded-near n a b some ha hb num den q L g common near =
     let e : ℤ = numerator n a b (λ m. num m *ℤ pos (q m)) in
     let s : ℤ = numerator n a b g in
-    let r : ℤ = nearest s (n ^ 6) in
+    let r : ℤ = rounded n a b g in
     let points : 2 * natAbs (e -ℤ s *ℤ pos L) ≤ n ^ 6 * L =
     rw (numerator-difference n a b (λ m. num m *ℤ pos (q m)) g (pos L)) at
     (numerator-weighted n a b ha hb (λ m. num m *ℤ pos (q m) -ℤ g m *ℤ pos L) 2 L
     (λ m l. rw (common m l) (near-scaled (num m) (g m) (den m) (q m) (near m l)))) in
     let last : 2 * natAbs (s *ℤ pos L -ℤ r *ℤ pos (n ^ 6 * L)) ≤ n ^ 6 * L =
-    near-scaled s r (n ^ 6) L (nearest-meets s (n ^ 6) (one-le-pow 6 n some) .near) in
+    near-scaled s r (n ^ 6) L (rounded-nearest n a b g some .near) in
     two-halves (r *ℤ pos (n ^ 6 * L)) (s *ℤ pos L) e (n ^ 6 * L) points last

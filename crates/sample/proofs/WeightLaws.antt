@@ -3,12 +3,19 @@ use mathlib.Core.Path.{_≡_, refl, sym, _∙_, subst}
 use Prim.Native.Nat.{ℕ, zero, suc, _+_, _-_, _*_, _^_, _<_, _≤_, zero-le}
 use native.Mathlib.Nat.{pow-suc, pow-zero, mul-le-mul, sub-zero}
 use native.Mathlib.Omega.{arith}
+use lib.Pow.{pow-add}
 use Rattle.finite.specs.Fold.{foldBelow, sumBelow}
 use Rattle.finite.proofs.Counting.{term-le-sum}
 use Rattle.sample.specs.Bernstein.{weight}
 
 pub pow-3 : (n : ℕ) → n ^ 3 ≡ n * n * n
 pow-3 n = rw (pow-suc n 2, pow-suc n 1, pow-suc n 0, pow-zero n) (omega arith)
+
+pub cube-small : (n : ℕ) → n ≤ 32 → n ^ 3 ≤ 32 ^ 3
+cube-small n s = rw pow-3 (mul-le-mul (mul-le-mul s s) s)
+
+pub sixth-small : (n : ℕ) → n ≤ 32 → n ^ 6 ≤ 32 ^ 6
+sixth-small n s = rw (pow-add n 3 3) (mul-le-mul (cube-small n s) (cube-small n s))
 
 module _ (n a : ℕ) (h : a ≤ n) where
   pub weight-flip : (i : ℕ) → i < 4 → weight n (n - a) i ≡ weight n a (3 - i)
@@ -40,7 +47,7 @@ module _ (n a : ℕ) (h : a ≤ n) where
   weight-le i l = rw weights-sumBelow at (term-le-sum (weight n a) 4 i l)
 
   pub weight-small : n ≤ 32 → (i : ℕ) → i < 4 → weight n a i ≤ 32768
-  weight-small s i l = omega (arith, weight-le i l, pow-3 n, mul-le-mul (mul-le-mul s s) s)
+  weight-small s i l = omega (arith, weight-le i l, cube-small n s)
 
 -- ---- at an end
 pub weight-first : (n : ℕ) → weight n 0 0 ≡ n ^ 3

@@ -4,6 +4,7 @@
 --   Small patch           48 numbers, none beyond the limit of a control value
 --   Steps n a             N and a place a in their ranges
 --   Light weights, Fine values   four weights and four values whose sums of products fit 64 bits
+--   Mean sum divisor      a divisor in the range of N^6, and a sum no larger than that of control values by weights that sum to it
 --   blended weights h     the values h 0 to h 3, each times its weight, added
 --   blendedTwice u v g    the control values g, blended along v by the weights v, then along u by the weights u
 use mathlib.Core.Path.{_≡_}
@@ -31,6 +32,11 @@ pub record Light (weights : List ℕ) : Type 0 where
 
 pub record Fine (values : List ℤ) : Type 0 where
   pub fine : (i : ℕ) → i < 4 → natAbs (getD values i (pos 0)) ≤ 2 ^ 45
+
+pub record Mean (sum : ℤ) (divisor : ℕ) : Type 0 where
+  pub least : 0 < divisor
+  pub most : divisor ≤ maxSteps ^ 6
+  pub within : natAbs sum ≤ maxControl * divisor
 
 abbrev pub blended : List ℕ → (ℕ → ℤ) → ℤ
 blended weights h = sumBelowℤ (λ i. pos (getD weights i 0) *ℤ h i) 4

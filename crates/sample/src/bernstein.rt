@@ -4,13 +4,13 @@ ghost use mathlib.Core.Path.{_≡_};
 ghost use Prim.Native.Nat.{_+_, _*_, _^_, _≤_, _<_};
 ghost use lib.IntN.{pos, _+ℤ_, _*ℤ_};
 ghost use lib.ListN.{length, getD};
-ghost use mir.Syntax.{w32, w64};
+ghost use mir.Syntax.{w64};
 ghost use mir.Val.{SFits};
 ghost use Rattle.integer.specs.Nearest.{nearest};
 ghost use Rattle.finite.specs.Filled.{listBelow};
 ghost use Rattle.sample.specs.Bernstein.{weight, rounded};
 ghost use Rattle.sample.specs.Refusal.{maxSteps};
-ghost use Rattle.sample.specs.Private.{controlOf, Small, Steps, Light, Fine, blended, blendedTwice};
+ghost use Rattle.sample.specs.Private.{controlOf, Small, Steps, Light, Fine, Mean, blended, blendedTwice};
 
 // The weights of place a.
 fn weights(n: usize, a: usize) -> [u32; 4]
@@ -86,13 +86,21 @@ fn curve(patch: &[i32], k: usize, v: [u32; 4]) -> [i64; 4]
     ]
 }
 
+// A sum of control values over the sum of their weights, rounded once: no further from 0 than a control value, so it fits.
+fn rounded_quotient(sum: i64, divisor: u32) -> i32
+    requires { ⌜ Mean sum divisor ⌝ }
+    ensures { λ r. ⌜ r ≡ nearest sum divisor ⌝ }
+{
+    integer::round(sum, divisor) as i32
+}
+
 // Coordinate k of the sample: blended along u too, and rounded once.
 fn coordinate(patch: &[i32], k: usize, u: [u32; 4], v: [u32; 4], divisor: u32) -> i32
     requires { ⌜ Small (now patch) × (k < 3) × Light u × Light v ⌝ }
-    requires { ⌜ SFits w32 (nearest (blendedTwice u v (controlOf (now patch) k)) divisor) ⌝ }
+    requires { ⌜ Mean (blendedTwice u v (controlOf (now patch) k)) divisor ⌝ }
     ensures { λ r. ⌜ r ≡ nearest (blendedTwice u v (controlOf (now (patch .entry)) k)) divisor ⌝ }
 {
-    integer::round(blend(u, curve(patch, k, v)), divisor) as i32
+    rounded_quotient(blend(u, curve(patch, k, v)), divisor)
 }
 
 // The point of the patch at (a, b).

@@ -53,8 +53,11 @@ returns-3 c =
 point-requires : tie.Need-point-requires
 point-requires c κs =
     let e = c .before .before in
-    let p = place-on _ _ _ (sym (c .before .place-off .ensures) ∙ c .if3 .left) in
-    (patch-small _ _ (e .before .before .before .if1 .left) (controls-on e), p .0, p .1)
+    let p = place-on _ _ _ (sym (c .before .place-off .ensures) ∙ c .if3 .left) in (
+      patch-small _ _ (e .before .before .before .if1 .left) (controls-on e),
+      record { least = omega (arith, p .0); most = omega (arith, p .1); within = omega (arith, p .2, p .3) },
+      record { least = omega (arith, p .0); most = omega (arith, p .1); within = omega (arith, p .2, p .3) },
+    )
 
 returns-4 : tie.Need-returns-4
 returns-4 c =

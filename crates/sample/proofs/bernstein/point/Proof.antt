@@ -1,4 +1,4 @@
--- `point` meets its contract: each coordinate is rounded from the sum by the weights of a and of b, over n ^ 6, and fits.
+-- `point` meets its contract: each coordinate is rounded from the sum by the weights of a and of b, over n ^ 6.
 use mathlib.Core.Path.{_≡_, sym, _∙_, subst}
 use mathlib.Core.List.{List}
 use Prim.Native.Nat.{ℕ, _^_, _<_}
@@ -6,11 +6,11 @@ use native.Mathlib.Omega.{arith}
 use lib.IntN.{ℤ}
 use lib.Signed.{mag}
 use mir.Syntax.{w32}
-use mir.Val.{SFits, toZ, ofZ}
+use mir.Val.{toZ, ofZ}
 use Rattle.integer.specs.Nearest.{nearest}
 use Rattle.sample.specs.Bernstein.{rounded}
-use Rattle.sample.specs.Private.{controlOf, Small, Light, blendedTwice}
-use Rattle.sample.proofs.BlendLaws.{read-back, weights-light, sample-fits, rounded-blended}
+use Rattle.sample.specs.Private.{controlOf, Small, Light, Mean, blendedTwice}
+use Rattle.sample.proofs.BlendLaws.{read-back, weights-light, sample-mean, blended-mean, rounded-blended}
 use Rattle.sample.proofs.bernstein.point.Statement.{statement}
 use Rattle.sample.proofs.bernstein.point.Tie as tie
 
@@ -23,7 +23,7 @@ weights-requires-2 c κs = c .before .pre .2
 divisor-requires : tie.Need-divisor-requires
 divisor-requires c κs = c .before .before .pre .1 .most
 
--- at the three calls: the weights, what is divided and rounded, and what coordinate k asks
+-- at the three calls: the weights, what is divided and rounded, what coordinate k asks, and what it gave
 module _ (c : tie.After-divisor) where
   abbrev start : tie.Start
   start = c .before .before .before
@@ -34,14 +34,11 @@ module _ (c : tie.After-divisor) where
   abbrev v : List ℕ
   v = c .before .weights2 .result
 
-  abbrev quotient : ℕ → ℤ
-  quotient k = nearest (blendedTwice u v (controlOf (start .args .patch .now) k)) (c .divisor .result)
+  abbrev sum : ℕ → ℤ
+  sum k = blendedTwice u v (controlOf (start .args .patch .now) k)
 
   abbrev sampled : ℕ → ℤ
   sampled k = rounded (start .args .n) (start .args .a) (start .args .b) (controlOf (start .args .patch .now) k)
-
-  rounds : (k : ℕ) → quotient k ≡ sampled k
-  rounds k = rounded-blended _ _ _ _ (c .before .before .weights .ensures) (c .before .weights2 .ensures) (c .divisor .ensures)
 
   u-light : Light u
   u-light = subst Light (sym (c .before .before .weights .ensures)) (weights-light (start .pre .1))
@@ -49,14 +46,16 @@ module _ (c : tie.After-divisor) where
   v-light : Light v
   v-light = subst Light (sym (c .before .weights2 .ensures)) (weights-light (start .pre .2))
 
-  asked : (k : ℕ) → k < 3 → (Small (start .args .patch .now) × (k < 3) × Light u × Light v) × SFits w32 (quotient k)
+  asked : (k : ℕ) → k < 3 → (Small (start .args .patch .now) × (k < 3) × Light u × Light v) × Mean (sum k) (c .divisor .result)
   asked k l = (
     (start .pre .0, l, u-light, v-light),
-    subst (SFits w32) (sym (rounds k)) (sample-fits (start .pre .0) k l (start .pre .1) (start .pre .2)),
+    blended-mean _ _ _ _ (c .before .before .weights .ensures) (c .before .weights2 .ensures) (c .divisor .ensures) (sample-mean (start .pre .0) k l (start .pre .1) (start .pre .2)),
   )
 
-  told : (k : ℕ) {r : ℤ} → mag r < 2 ^ 31 → r ≡ quotient k → toZ w32 (ofZ w32 r) ≡ sampled k
-  told k ok e = read-back w32 ok (e ∙ rounds k)
+  told : (k : ℕ) {r : ℤ} → mag r < 2 ^ 31 → r ≡ nearest (sum k) (c .divisor .result) → toZ w32 (ofZ w32 r) ≡ sampled k
+  told k ok e =
+      read-back w32 ok
+      (e ∙ rounded-blended _ _ _ _ (c .before .before .weights .ensures) (c .before .weights2 .ensures) (c .divisor .ensures) (start .pre .1 .least))
 
 coordinate-requires : tie.Need-coordinate-requires
 coordinate-requires c κs = asked c 0 (omega arith)

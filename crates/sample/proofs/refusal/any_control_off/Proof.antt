@@ -17,7 +17,7 @@ use Rattle.sample.proofs.refusal.any_control_off.Statement.{statement}
 use Rattle.sample.proofs.refusal.any_control_off.Tie as tie
 
 abbrev Inv-loop : tie.InvT-loop
-Inv-loop patch off₀ i₀ i-end off i = (i ≤ length patch) × (off ≡ anyBelow (λ j. ltb maxControl (natAbs (getD patch j (pos 0)))) i)
+Inv-loop patch off₀ i₀ i-end off i = (off ≡ anyBelow (λ j. ltb maxControl (natAbs (getD patch j (pos 0)))) i) × (i ≤ length patch)
 
 abbrev μ-loop : tie.MeasureT-loop
 μ-loop patch off₀ i₀ i-end off i = length patch - i
@@ -27,7 +27,7 @@ abbrev off : tie.Start Inv-loop μ-loop → ℕ → Bool
 off s j = ltb maxControl (natAbs (getD (s .args .patch .now) j (pos 0)))
 
 loop-holds : tie.Need-loop-holds Inv-loop μ-loop
-loop-holds c = (omega arith, sym (fold-zero false _||_ (off c)))
+loop-holds c = (sym (fold-zero false _||_ (off c)), omega arith)
 
 mul-beyond : tie.Need-mul-beyond Inv-loop μ-loop
 mul-beyond c = omega arith
@@ -54,10 +54,10 @@ told c =
 loop-again : tie.Need-loop-again Inv-loop μ-loop
 loop-again c =
     let l = c .before .before .before in
-    (omega arith, ap₂ _||_ (l .loop .inv .1) (told c) ∙ sym (fold-step false _||_ (off (l .before)) (l .loop .i)))
+    (ap₂ _||_ (l .loop .inv .0) (told c) ∙ sym (fold-step false _||_ (off (l .before)) (l .loop .i)), omega arith)
 
 returns : tie.Need-returns Inv-loop μ-loop
-returns c = c .before .loop .inv .1 ∙ ap (anyBelow (off (c .before .before))) (le-antisymm (c .before .loop .inv .0) (c .loop-test .left))
+returns c = c .before .loop .inv .0 ∙ ap (anyBelow (off (c .before .before))) (le-antisymm (c .before .loop .inv .1) (c .loop-test .left))
 
 pub any-control-off-spec : {M : Type 1} → statement M
 any-control-off-spec =
