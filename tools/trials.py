@@ -1,18 +1,43 @@
 #!/usr/bin/env python3
 """Writes the trials of crates/trials: data/ (a file a trial), args (their names) and stdout (what the program has to print).
 
-What is expected is computed here from document 01, of a mesh by sets and dictionaries over the whole of it and of a sample by
-fractions, and not as the library does it, so the gate compares two readings of the document. A trial's name says what it is, and
-ends in -refused-N where the call says no.
+What is expected is computed here and in patches.py from document 01, of a mesh by sets and dictionaries over the whole of it and of
+control points and samples by fractions, and not as the library does it, so the gate compares two readings of the document. A trial's
+name says what it is, and ends in -refused-N where the call says no.
 """
 
 import random
 import struct
 from dataclasses import dataclass
 from fractions import Fraction
-from itertools import product
+from functools import cached_property
+from itertools import count, product
 from math import comb
 from pathlib import Path
+
+from patches import PATCH, Surface, assert_seams, exact_samples, rounded, shuffled
+from shapes import (
+    Shape,
+    across_twice,
+    begun_later,
+    bow_tie,
+    closed_fan,
+    cube,
+    flipped,
+    glue,
+    grid,
+    isolated,
+    join,
+    moebius,
+    open_fan,
+    pillow,
+    renumbered,
+    ring,
+    square,
+    strip,
+    torus,
+    trapezohedron,
+)
 
 CRATE = Path(__file__).resolve().parent.parent / "crates" / "trials"
 
@@ -28,124 +53,19 @@ CONTROL = 268435456
 CONTROLS = range(-CONTROL, CONTROL + 1)
 STEPS = range(1, 32 + 1)
 
-# What the program fills the lent list with, and the places that it has for a list.
+# What the program fills the lent lists with, and the places that it has for a list, for that of patches, and of that in clear.
 FILLING = 7
 PLACES = 2048
+PATCH_PLACES = 12291
+CLEAR = 816
 
-# What a sample trial's file begins with, and the numbers of a patch.
+# What a sample trial's file begins with, and a patch trial's.
 SAMPLE = 65535
-PATCH = 48
+HEAD = 65533
 
-# The control values of the sample trials, where no others are named.
+# The control values of the sample trials, where no others are named; and the coordinates and renumberings of the patch trials.
 RANDOM = random.Random(20250607)
-
-
-# ---- Shapes: a number of vertices and a list of faces, each four vertex numbers.
-
-
-@dataclass
-class Shape:
-    faces: list
-    vertices: int = 0
-
-    def __post_init__(self):
-        self.vertices = self.vertices or 1 + max(max(face) for face in self.faces)
-
-
-def join(*shapes):
-    """The shapes side by side, the vertices of each numbered after those before it."""
-    faces, vertices = [], 0
-    for shape in shapes:
-        faces += [tuple(vertices + p for p in face) for face in shape.faces]
-        vertices += shape.vertices
-    return Shape(faces, vertices)
-
-
-def glue(one, other):
-    """Two shapes with vertex 0 in common."""
-    rename = lambda p: p + one.vertices - 1 if p else 0
-    return Shape(one.faces + [tuple(map(rename, face)) for face in other.faces])
-
-
-def square():
-    return Shape([(0, 1, 2, 3)])
-
-
-def cube():
-    return Shape([(0, 3, 2, 1), (4, 5, 6, 7), (0, 1, 5, 4), (1, 2, 6, 5), (2, 3, 7, 6), (3, 0, 4, 7)])
-
-
-def strip(n):
-    """n faces in a row, vertices 2i below and 2i + 1 above."""
-    return Shape([(2 * i, 2 * i + 2, 2 * i + 3, 2 * i + 1) for i in range(n)])
-
-
-def ring(n):
-    """A strip of n faces whose ends are joined."""
-    return Shape([tuple(p % (2 * n) for p in face) for face in strip(n).faces])
-
-
-def moebius(n):
-    """A strip of n faces whose ends are joined after half a twist."""
-    twist = {2 * n: 1, 2 * n + 1: 0}
-    return Shape([tuple(twist.get(p, p) for p in face) for face in strip(n).faces])
-
-
-def grid(n, m):
-    """n by m faces."""
-    corners = lambda i, j: ((i, j), (i + 1, j), (i + 1, j + 1), (i, j + 1))
-    return Shape([tuple(a + (n + 1) * b for a, b in corners(i, j)) for j in range(m) for i in range(n)])
-
-
-def torus(n, m):
-    """n by m faces, joined left to right and top to bottom."""
-    corners = lambda i, j: ((i, j), (i + 1, j), (i + 1, j + 1), (i, j + 1))
-    return Shape([tuple(a % n + n * (b % m) for a, b in corners(i, j)) for j in range(m) for i in range(n)])
-
-
-def open_fan(k):
-    """k faces in a row about vertex 0."""
-    return Shape([(0, 2 * i + 1, 2 * i + 2, 2 * i + 3) for i in range(k)])
-
-
-def closed_fan(n):
-    """n faces all round vertex 0."""
-    return Shape([(0, 2 * i + 1, 2 * i + 2, (2 * i + 2) % (2 * n) + 1) for i in range(n)])
-
-
-def trapezohedron(n):
-    """A closed shape: n faces about each of two poles, 0 and 1, and three about each vertex between."""
-    between = lambda i: 2 + i % (2 * n)
-    above = [(0, between(2 * i), between(2 * i + 1), between(2 * i + 2)) for i in range(n)]
-    below = [(1, between(2 * i + 3), between(2 * i + 2), between(2 * i + 1)) for i in range(n)]
-    return Shape(above + below)
-
-
-def pillow():
-    return Shape([(0, 1, 2, 3), (3, 2, 1, 0)])
-
-
-def bow_tie():
-    return glue(square(), square())
-
-
-def isolated():
-    return Shape([], 1)
-
-
-def flipped(shape, f):
-    """The shape with face f turned over."""
-    return Shape([face[::-1] if i == f else face for i, face in enumerate(shape.faces)])
-
-
-def begun_later(shape):
-    """The shape with each face begun one corner later than the one before."""
-    return Shape([face[i % 4 :] + face[: i % 4] for i, face in enumerate(shape.faces)])
-
-
-def renumbered(shape):
-    """The shape with its vertices numbered from the other end."""
-    return Shape([tuple(shape.vertices - 1 - p for p in face) for face in shape.faces])
+PATCH_RANDOM = random.Random(20250608)
 
 
 # ---- Mesh trials: the arguments of the check.
@@ -162,7 +82,7 @@ class MeshTrial:
 
     def bytes(self):
         """The trial's file, as crates/trials/src/reading.rt has it."""
-        assert self.v != SAMPLE
+        assert self.v not in (SAMPLE, HEAD)
         sizes = struct.pack("<6H", self.v, self.f, len(self.positions), len(self.tags), len(self.faces), self.twins)
         positions = struct.pack(f"<{len(self.positions)}i", *self.positions)
         return sizes + positions + bytes(self.tags) + struct.pack(f"<{len(self.faces)}H", *self.faces)
@@ -238,7 +158,64 @@ def with_number(numbers, place, value):
     return numbers[:place] + [value] + numbers[place + 1 :]
 
 
+# ---- Patch trials: the arguments of the patch call, and document 01's N.
+
+
+@dataclass
+class PatchTrial(MeshTrial):
+    n: int
+    patches: int
+
+    def bytes(self):
+        """The trial's file, as crates/trials/src/reading.rt has it."""
+        return struct.pack("<3H", HEAD, self.patches, self.n) + super().bytes()
+
+    def answer(self):
+        return PatchAnswer(self)
+
+
+def patched(trial, n=2):
+    """A mesh trial as one of the patch call, with a list of patches three places longer than need be."""
+    return PatchTrial(**vars(trial), n=n, patches=PATCH * trial.f + 3)
+
+
+def placed(shape, points, n=2):
+    """A shape with the vertices at these points."""
+    return patched(changed(mesh(shape), positions=[x for point in points for x in point]), n)
+
+
+def varied(shape, n):
+    """A shape with coordinates of either sign, small ones along one axis and large ones along another."""
+    sizes = PATCH_RANDOM.sample((30, 3000, 1048576), 3)
+    return placed(shape, [[PATCH_RANDOM.randint(-size, size) for size in sizes] for _ in range(shape.vertices)], n)
+
+
+def with_renumbered(name, trial):
+    """The trial, and the same one renumbered, whose samples are held against its own place by place."""
+    yield name, trial
+    change = shuffled(PATCH_RANDOM, trial.v, trial.f)
+    old = trial.answer()
+    points = change.moved(old.points)
+    other = placed(Shape(change.faces(old.faces)), points, trial.n)
+    changed(other, tags=change.moved(trial.tags))
+    change.assert_same(old.samples, other.answer().samples, trial.n)
+    yield f"{name}-renumbered", other
+
+
 # ---- Document 01, read once more.
+
+
+def spaced(*lists):
+    return " ".join(str(x) for words in lists for x in words)
+
+
+def two_sums(numbers):
+    """The sum of the numbers and that of the sums on the way, as the program has them."""
+    first = second = 0
+    for x in numbers:
+        first += x
+        second += first
+    return [first % 2**32, second % 2**32]
 
 
 class MeshAnswer:
@@ -272,12 +249,15 @@ class MeshAnswer:
         """The vertices whose corners form one turn or one chain, each with the number of its corners."""
         return [(p, len(fans[0])) for p, fans in self.fans.items() if len(fans) == 1]
 
+    def lent_short(self):
+        return self.trial.twins < 4 * self.trial.f
+
     def causes(self):
         """The numbers of all causes that are met, in order; the answer is the first."""
         t = self.trial
         met = {
             1: t.v not in VERTICES or t.f not in FACES or len(t.positions) != 3 * t.v or len(t.tags) != t.v or len(t.faces) != 4 * t.f,
-            2: t.twins < 4 * t.f,
+            2: self.lent_short(),
             3: any(x not in COORDINATES for x in t.positions),
             4: any(x not in TAGS for x in t.tags),
             5: any(p >= t.v for p in t.faces),
@@ -308,12 +288,62 @@ class MeshAnswer:
             written = [NO_MATE if mate is None else mate for mate in self.mates]
         return written + [FILLING] * (self.trial.twins - len(written))
 
+    def words(self):
+        """The answer of the call."""
+        causes = self.causes()
+        return ["refused", causes[0]] if causes else self.counts()
+
     def line(self):
         """What the program prints after the trial's name."""
-        causes, twins, n = self.causes(), self.twins(), 4 * self.trial.f
+        twins, n = self.twins(), 4 * self.trial.f
         shown = [str(twins[i]) if 0 <= i < len(twins) else "-" for i in (0, n - 1, n, len(twins) - 1)]
-        answer = ["refused", causes[0]] if causes else self.counts()
-        return " ".join(map(str, answer + ["twins"] + shown))
+        return spaced(self.words(), ["twins"], shown)
+
+
+class PatchAnswer(MeshAnswer):
+    """What document 01 says of the patch call, and of the samples of what it wrote."""
+
+    def __init__(self, trial):
+        super().__init__(trial)
+        self.points = [tuple(trial.positions[c : c + 3]) for c in range(0, len(trial.positions) - 2, 3)]
+        self.faces = [tuple(quad) for quad in self.quads]
+
+    def lent_short(self):
+        return super().lent_short() or self.trial.patches < PATCH * self.trial.f
+
+    @cached_property
+    def patches(self):
+        """The patch of each face; none of a refused mesh."""
+        if self.causes():
+            return []
+        surface = Surface(self.points, self.trial.tags, self.faces)
+        patches = [surface.patch(f) for f in range(self.trial.f)]
+        assert all(x in CONTROLS for patch in patches for x in patch)
+        return patches
+
+    @cached_property
+    def exact(self):
+        """The samples of each face, before they are rounded."""
+        return [exact_samples(patch, self.trial.n) for patch in self.patches]
+
+    @cached_property
+    def samples(self):
+        samples = [rounded(exact) for exact in self.exact]
+        if samples:
+            assert_seams(samples, self.mates, self.trial.n)
+        return samples
+
+    def line(self):
+        """What the program prints after the trial's name."""
+        t = self.trial
+        written = [x for patch in self.patches for x in patch]
+        after = written + [FILLING] * (t.patches - len(written))
+        lines = [spaced(self.words(), ["twins"], self.twins()), spaced([" patches"], two_sums(after))]
+        lines += [spaced([""], after[at : min(at + PATCH, CLEAR)]) for at in range(0, min(len(after), CLEAR), PATCH)]
+        for samples in self.samples:
+            sums = two_sums(x for sample in samples.values() for x in sample)
+            lines.append(spaced([" samples"], sums, samples[t.n // 2, t.n // 2], ["reading exact"]))
+        return "\n".join(lines)
 
 
 class SampleAnswer:
@@ -704,6 +734,97 @@ def sample_limits():
             yield f"sample-limits-{word}-{n}-steps", SampleTrial(limits, n=n, a=a, b=b)
 
 
+# ---- The trials of the patch call.
+
+
+def tagged(trial, *corners):
+    return changed(trial, tags={p: 1 for p in corners})
+
+
+def patch_examples():
+    """The meshes that document 01 names, and a strip."""
+    at_square = [(0, 0, 0), (21, 0, 0), (21, 21, 0), (0, 21, 0)]
+    at_cube = [(24 * x, 24 * y, 24 * z) for z in (-1, 1) for x, y in ((-1, -1), (1, -1), (1, 1), (-1, 1))]
+    at_strip = [(0, 0, 0), (9, 0, 0), (18, 0, 9), (18, 9, 0), (9, 9, 0), (0, 9, 0)]
+    two = Shape([(0, 1, 4, 5), (1, 2, 3, 4)])
+    for n in (1, 2, 32):
+        yield f"patch-square-{n}-steps", placed(square(), at_square, n)
+        yield f"patch-cube-{n}-steps", placed(cube(), at_cube, n)
+        yield f"patch-strip-{n}-steps", placed(two, at_strip, n)
+    yield "patch-square-one-tag", tagged(placed(square(), at_square), 1)
+    yield "patch-strip-one-tag", tagged(placed(two, at_strip), 1)
+    yield "patch-strip-all-tags", tagged(placed(two, at_strip), *range(6))
+
+
+def patch_shapes():
+    """Closed and open fans of every valence, tags on boundary vertices, and other shapes; each N is among them."""
+    steps = (1 + 7 * i % 32 for i in count())
+    for n in INNER_VALENCES:
+        yield f"patch-closed-fan-{n}", varied(closed_fan(n), next(steps))
+    for k in BOUNDARY_FACES:
+        yield f"patch-open-fan-{k}", varied(open_fan(k), next(steps))
+        yield f"patch-open-fan-{k}-tagged", tagged(varied(open_fan(k), next(steps)), 0)
+    yield "patch-closed-fan-5-tagged", tagged(varied(closed_fan(5), next(steps)), 1, 2, 7)
+    yield "patch-closed-fan-4-all-tags", tagged(varied(closed_fan(4), next(steps)), *range(1, 9))
+    yield "patch-grid-3-by-3", varied(grid(3, 3), next(steps))
+    yield "patch-grid-3-by-2-tagged", tagged(varied(grid(3, 2), next(steps)), 0, 1, 7)
+    yield "patch-ring-4", varied(ring(4), next(steps))
+    yield "patch-torus-3-by-3", varied(torus(3, 3), next(steps))
+    yield "patch-trapezohedron-5", varied(trapezohedron(5), next(steps))
+    yield "patch-across-twice", varied(across_twice(), next(steps))
+    yield "patch-two-cubes-apart", varied(join(cube(), cube()), 4)
+    for word, x in (("", 1048576), ("minus-", -1048576)):
+        yield f"patch-every-coordinate-{word}1048576", placed(closed_fan(3), [(x, x, x)] * 7, 3)
+    signs = [[PATCH_RANDOM.choice((-1048576, 1048576)) for _ in range(3)] for _ in range(13)]
+    yield "patch-every-coordinate-at-a-limit", placed(closed_fan(6), signs, 4)
+
+
+def patch_twice():
+    """Each of these, and renumbered."""
+    for name, trial in (*patch_examples(), *patch_shapes()):
+        yield from with_renumbered(name, trial)
+
+
+def patch_largest():
+    """256 faces; there are samples at a half of either sign, above an even number and above an odd one."""
+    trial = varied(grid(16, 16), 2)
+    samples = [x for exact in trial.answer().exact for sample in exact.values() for x in sample]
+    assert len({(x > 0, x // 1 % 2) for x in samples if x.denominator == 2}) == 4
+    yield "patch-faces-256-grid", trial
+
+
+def patch_lent():
+    """The two lent lists: 2."""
+    yield "patch-list-exact", changed(patched(mesh(cube())), patches=288)
+    yield "patch-list-longest", changed(patched(mesh(cube())), patches=PATCH_PLACES)
+    yield "patch-twins-exact", changed(patched(mesh(cube())), twins=24)
+    yield "patch-list-one-short-refused-2", changed(patched(mesh(cube())), patches=287)
+    yield "patch-list-empty-refused-2", changed(patched(mesh(square())), patches=0)
+    yield "patch-list-a-patch-short-refused-2", changed(patched(mesh(cube())), patches=240)
+    yield "patch-twins-one-short-refused-2", changed(patched(mesh(cube())), twins=23)
+    yield "patch-twins-empty-refused-2", changed(patched(mesh(square())), twins=0)
+    yield "patch-both-lists-one-short-refused-2", changed(patched(mesh(cube())), twins=23, patches=287)
+    yield "patch-list-one-short-twins-exact-refused-2", changed(patched(mesh(cube())), twins=24, patches=287)
+    yield "patch-both-lists-empty-faces-0-refused-1", changed(patched(mesh(square())), f=0, faces=[], twins=0, patches=0)
+    yield "patch-faces-257-refused-1", changed(patched(mesh(grid(257, 1))), patches=48)
+
+
+def patch_refused():
+    """Each cause by itself, which leaves the patch list alone, and with a patch list that is too short; the lowest number wins."""
+
+    def short(causes):
+        trial = patched(with_faults(causes))
+        return changed(trial, patches=PATCH * trial.f - 1)
+
+    for one, fault in FAULTS.items():
+        yield f"patch-{fault}-refused-{one}", patched(with_faults({one}))
+        yield f"patch-list-short-and-{fault}-refused-{min(one, 2)}", short({one})
+    later = set(range(3, 12))
+    yield "patch-every-cause-from-3-refused-3", patched(with_faults(later))
+    yield "patch-list-short-and-every-cause-from-3-refused-2", short(later)
+    yield "patch-twins-short-and-every-cause-from-3-refused-2", patched(with_faults(later | {2}))
+
+
 # ---- Files that are no trial.
 
 
@@ -723,6 +844,13 @@ def files():
     yield "sample-file-one-byte-short-not-whole", sample[:-1], "not whole"
     yield "sample-file-two-bytes-short-not-whole", sample[:-2], "not whole"
     yield "sample-file-one-byte-long-not-whole", sample + b"\0", "not whole"
+    head = placed(square(), [(0, 0, 0)] * 4).bytes()
+    yield "patch-12292-numbers-too-long", changed(patched(mesh(square())), patches=PATCH_PLACES + 1).bytes(), "too long"
+    yield "patch-file-first-number-only-not-whole", head[:2], "not whole"
+    yield "patch-file-head-one-byte-short-not-whole", head[:5], "not whole"
+    yield "patch-file-head-only-not-whole", head[:6], "not whole"
+    yield "patch-file-one-byte-short-not-whole", head[:-1], "not whole"
+    yield "patch-file-one-byte-long-not-whole", head + b"\0", "not whole"
     yield "file-missing", None, "no file"
 
 
@@ -732,7 +860,8 @@ def main():
     written, lines = {}, []
     meshes = (accepted, sizes, lent, entries, half_edges, vertices, pairs)
     samples = (sample_faces, sample_controls, sample_places, sample_pairs, sample_rounding, sample_random, sample_limits)
-    for group in meshes + samples:
+    patches = (patch_twice, patch_largest, patch_lent, patch_refused)
+    for group in meshes + samples + patches:
         for name, trial in group():
             assert name not in written, name
             answer = trial.answer()

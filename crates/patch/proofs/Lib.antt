@@ -3,3 +3,9 @@ pub mod NeighbourLaws
 pub mod Related
 pub mod PointLaws
 pub mod WrittenLaws
+pub mod MaskLaws
+pub mod SumLaws
+pub mod TableLaws
+pub mod FacePointLaws
+pub mod SourceLaws
+pub mod AnswerLaws

@@ -13,7 +13,7 @@ use Rattle.mesh.specs.Accepted.{Accepted}
 use Rattle.patch.specs.Patch.{patchPoint, control, view}
 use Rattle.patch.proofs.Related.{Linear, Related, patch-related}
 
-bounds : (B : ℕ) → Linear (λ k z _. natAbs z ≤ B * k)
+pub bounds : (B : ℕ) → Linear (λ k z _. natAbs z ≤ B * k)
 bounds B = record {
   nil = omega arith;
   plus = λ {y = y} {z = z} f g. omega (arith, abs-+ y z);

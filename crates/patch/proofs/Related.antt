@@ -87,7 +87,7 @@ module _ {R : ℕ → ℤ → ℤ → Type 0} (L : Linear R) where
   vertex-mask hp = record { positive = omega arith; same = refl; related = hp }
 
   -- ---- a sum over the corners at a vertex, with weights of the same sum k at each
-  sum-at : (at : ℕ → ℕ) (p k : ℕ) (f f' : ℕ → ℤ) (n : ℕ) → ((c : ℕ) → c < n → R k (f c) (f' c))
+  pub sum-at : (at : ℕ → ℕ) (p k : ℕ) (f f' : ℕ → ℤ) (n : ℕ) → ((c : ℕ) → c < n → R k (f c) (f' c))
       → R (k * valence at n p) (gather (pos 0) _+ℤ_ at f n p) (gather (pos 0) _+ℤ_ at f' n p)
   unfolding valence foldBelow
   sum-at at p k f f' zero h = cast (let s : 0 ≡ k * 0 = omega arith in s) (L .nil)
@@ -139,7 +139,7 @@ module _ {R : ℕ → ℤ → ℤ → Type 0} (L : Linear R) where
 
     edge-related : (c d : ℕ) → c < corners M → d < corners M → Related R (edgePoint S c d) (edgePoint S' c d)
     unfolding edgePoint weight
-    edge-related c d l k = edge-mask (weight S c) (at-corner c l) (at-turn 1 c l) (at-turn 3 c l) (at-turn 2 d k) (at-turn 2 c l) (at-turn 3 d k)
+    edge-related c d l k = edge-mask _ (at-corner c l) (at-turn 1 c l) (at-turn 3 c l) (at-turn 2 d k) (at-turn 2 c l) (at-turn 3 d k)
 
     along-related : (c : ℕ) → c < corners M → Related R (alongPoint S c) (alongPoint S' c)
     unfolding alongPoint sharp

@@ -21,12 +21,12 @@ unfolding patchNumber
 number-at M f m k l h = let w = place f m k l h in rw (w .0, w .1, w .2)
 
 pub written-length : (M : IndexedMesh) (d : List ℤ) → 48 * M .faces ≤ length d → length (patchesAfter M d) ≡ length d
-written-length M d l = length-filled (patchNumber M) (48 * M .faces) d l
+written-length M d l = length-filled (patchNumber M) _ d (omega arith)
 
 pub written-at : (M : IndexedMesh) (d : List ℤ) (f m k : ℕ) → f < M .faces → m < 16 → k < 3
     → getD (patchesAfter M d) (48 * f + 3 * m + k) (pos 0) ≡ control (view M k) (4 * f) m
 written-at M d f m k l b h =
-    filled-at (patchNumber M) (48 * M .faces) (48 * f + 3 * m + k) d (pos 0) (omega arith) ∙ number-at M f m k b h
+    filled-at (patchNumber M) _ (48 * f + 3 * m + k) d (pos 0) (omega arith) ∙ number-at M f m k b h
 
 pub number-bound : {M : IndexedMesh} → Accepted M → (i : ℕ) → i < 48 * M .faces → natAbs (patchNumber M i) ≤ 256 * maxCoordinate
 unfolding patchNumber

@@ -2,3 +2,5 @@
 pub mod Mask
 pub mod Point
 pub mod Patch
+pub mod Answer
+pub mod Private

@@ -6,17 +6,24 @@ use Prim.Native.Nat.{ℕ, zero, suc, _+_, _-_, _*_, _/_, _%_, _≤_, _<_}
 use native.Mathlib.Omega.{arith}
 use lib.IntN.{ℤ}
 use lib.ListN.{length}
+use borrow.Author.Tests.{le-ltb}
 use Rattle.finite.specs.Permutation.{Permutation}
-use Rattle.mesh.specs.HalfEdge.{twin, boundary}
+use Rattle.mesh.specs.HalfEdge.{twin, boundary, edges, boundaries}
 use Rattle.mesh.specs.IndexedMesh.{IndexedMesh, corners, at}
 use Rattle.mesh.specs.Accepted.{Accepted}
-use Rattle.mesh.proofs.AcceptedLaws.{accepted-corners}
+use Rattle.mesh.specs.Answer.{counts}
+use Rattle.mesh.proofs.AcceptedLaws.{accepted-early, accepted-late, accepted-corners}
+use Rattle.mesh.proofs.PhaseLaws.{answer-accepted}
 use Rattle.sample.specs.Bernstein.{coordinateAt}
-use Rattle.sample.specs.Answer.{Answer, point}
+use Rattle.sample.specs.Answer.{Answer, point, sampleAnswer, meaning as sampled}
 use Rattle.patch.specs.Patch.{view, patchesAfter}
+use Rattle.patch.specs.Answer.{patchAnswer, patchList}
 use Rattle.surface.specs.Renumbering.{Renumbering, Place, place, onSide}
-use Rattle.surface.specs.Claim.{sampleOn}
-use Rattle.surface.specs.Witness.{coordinateOf, Shown}
+use Rattle.surface.specs.Claim.{sampleOn, Claim}
+use Rattle.surface.specs.Witness.{Evaluated, Lent, coordinateOf, Shown}
+use Rattle.surface.specs.declared.model.SamplePlace.{SamplePlace}
+use Rattle.surface.specs.declared.model.Evaluation.{Evaluation}
+use Rattle.surface.proofs.AcceptedMoves.{renumbered-accepted, renumbered-counts}
 use Rattle.surface.proofs.FaceSamples.{side-within}
 use Rattle.surface.proofs.Seam.{twin-inside}
 use Rattle.surface.proofs.ClaimLaws.{claim}
@@ -60,21 +67,57 @@ module _ {M : IndexedMesh} (a : Accepted M) (n : ℕ) (least : 1 ≤ n) (most : 
       let within = side-within n (twin (at M) (corners M) c % 4) (n - t) (omega arith) in
       k .seam c t l h e ∙ sym (k .renumbered (twin (at M) (corners M) c / 4) _ _ (omega arith) (within .0) (within .1))
 
-pub shown : {M M′ : IndexedMesh} → Accepted M → (n : ℕ) → 1 ≤ n → n ≤ 32
-    → (d d′ : List ℤ) → 48 * M .faces ≤ length d → 48 * M′ .faces ≤ length d′
-    → (f : ℕ) (p : Place) (f′ : ℕ) (p′ : Place) (first second : Answer)
-    → first ≡ sampleOn M d n f p → second ≡ sampleOn M′ d′ n f′ p′ → Shown M M′ n f p f′ p′ first second
-shown {M} {M′} a n least most d d′ long long′ f p f′ p′ first second e e′ = record {
-  distance = λ k L q l ha hb h common.
-      let own = claim M M (unchanged M) a n least most d d long long in
-      let is : coordinateOf first k ≡ coordinateAt (patchesAfter M d) f n (p .a) (p .b) k =
-      ap (λ (t : Answer). coordinateOf t k) (e ∙ own .answered f (p .a) (p .b) l ha hb)
-      ∙ coordinate-of (coordinateAt (patchesAfter M d) f n (p .a) (p .b)) k h in
-      rw is (own .distance f (p .a) (p .b) k L q l ha hb h common);
-  seam = λ c t l h b same ef ep ef′ ep′.
-      e ∙ rw (ef, ep)
-      (seam-lists a n least most d long d′ (subst (λ (N : IndexedMesh). 48 * N .faces ≤ length d′) same long′) c t l h b
-      ∙ sym (e′ ∙ rw (ef′, ep′, same)));
-  renumbered = λ r l ha hb ef ep.
-      e ∙ sym (e′ ∙ rw (ef, ep) (claim M M′ r a n least most d d′ long (rw (← (r .same-faces)) long′) .renumbered f (p .a) (p .b) l ha hb));
-}
+-- what the patch call answers for an accepted mesh, on lists that are long enough
+accepted-answer : {M : IndexedMesh} {twins : List ℕ} {patches : List ℤ} → Accepted M → Lent M twins patches
+    → patchAnswer M twins patches ≡ counts (M .vertices) (M .faces) (edges (at M) (corners M) (M .vertices)) (boundaries (at M) (corners M))
+accepted-answer {M} {twins} {patches} a l =
+    rw (le-ltb (length twins) (corners M) (l .twins-long), le-ltb (length patches) (48 * M .faces) (l .patches-long))
+    (sym (answer-accepted M false (accepted-early a) (accepted-late a)))
+
+-- and what stands in the patch list afterwards
+pub accepted-list : {M : IndexedMesh} {twins : List ℕ} {patches : List ℤ} → Accepted M → Lent M twins patches → patchList M twins patches ≡ patchesAfter M patches
+accepted-list {M} {twins} {patches} a l = rw (accepted-answer a l)
+
+module _ {M M′ : IndexedMesh} {d d′ b b′ : List ℕ} {e e′ w w′ : List ℤ} {n : ℕ} {q q′ : SamplePlace} {r r′ : Evaluation}
+    (first : Evaluated M d e n q r b w) (second : Evaluated M′ d′ e′ n q′ r′ b′ w′)
+    (a : Accepted M) (l : Lent M d e) (l′ : Lent M′ d′ e′) (least : 1 ≤ n) (most : n ≤ 32) where
+  abbrev p : Place
+  p = place (q .a) (q .b)
+
+  abbrev p′ : Place
+  p′ = place (q′ .a) (q′ .b)
+
+  -- the samples are those of the claim
+  here : sampled (r .sample) ≡ sampleOn M e n (q .face) p
+  here = first .sample-is ∙ ap (λ (t : List ℤ). sampleAnswer t (q .face) n (q .a) (q .b)) (accepted-list a l)
+
+  there : Accepted M′ → sampled (r′ .sample) ≡ sampleOn M′ e′ n (q′ .face) p′
+  there a′ = second .sample-is ∙ ap (λ (t : List ℤ). sampleAnswer t (q′ .face) n (q′ .a) (q′ .b)) (accepted-list a′ l′)
+
+  own : Claim M M (unchanged M) n e e
+  own = claim M M (unchanged M) a n least most e e (l .patches-long) (l .patches-long)
+
+  gave : q .face < M .faces → q .a ≤ n → q .b ≤ n
+      → sampled (r .sample) ≡ point (coordinateAt (patchesAfter M e) (q .face) n (q .a) (q .b) 0) (coordinateAt (patchesAfter M e) (q .face) n (q .a) (q .b) 1) (coordinateAt (patchesAfter M e) (q .face) n (q .a) (q .b) 2)
+  gave h ha hb = here ∙ own .answered (q .face) (q .a) (q .b) h ha hb
+
+  pub shown : Shown M M′ n (q .face) p (q′ .face) p′ r r′
+  shown = record {
+    taken = first .mesh-is ∙ accepted-answer a l;
+    answered = λ h ha hb. rw (gave h ha hb);
+    distance = λ k L t h ha hb b common.
+        let is : coordinateOf (sampled (r .sample)) k ≡ coordinateAt (patchesAfter M e) (q .face) n (q .a) (q .b) k =
+        ap (λ (t : Answer). coordinateOf t k) (gave h ha hb) ∙ coordinate-of (coordinateAt (patchesAfter M e) (q .face) n (q .a) (q .b)) k b in
+        rw is (own .distance (q .face) (q .a) (q .b) k L t h ha hb b common);
+    seam = λ c t h b inner same ef ep ef′ ep′.
+        here ∙ rw (ef, ep)
+        (seam-lists a n least most e (l .patches-long) e′ (subst (λ (N : IndexedMesh). 48 * N .faces ≤ length e′) same (l′ .patches-long)) c t h b inner
+        ∙ sym (there (subst Accepted (sym same) a) ∙ rw (ef′, ep′, same)));
+    counted = λ s.
+        let k = renumbered-counts a s in
+        first .mesh-is ∙ accepted-answer a l
+        ∙ sym (second .mesh-is ∙ accepted-answer (renumbered-accepted a s) l′ ∙ rw (k .0, k .1, s .same-vertices, s .same-faces));
+    renumbered = λ s h ha hb ef ep.
+        here ∙ sym (there (renumbered-accepted a s)
+        ∙ rw (ef, ep) (claim M M′ s a n least most e e′ (l .patches-long) (rw (← (s .same-faces)) (l′ .patches-long)) .renumbered (q .face) (q .a) (q .b) h ha hb));
+  }

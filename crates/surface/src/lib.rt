@@ -1,1 +1,71 @@
-// No code yet: the claim (specs/) and its laws (proofs/).
+//! The claim about the numbers that the calls give: distance from the exact surface, seams, and independence from the numbering.
+pub mod model;
+
+use crate::model::Evaluation;
+use crate::model::SamplePlace;
+use crate::model::Witness;
+ghost use Rattle.mesh.specs.IndexedMesh.{indexed};
+ghost use Rattle.surface.specs.Witness.{Evaluated, Witnessed};
+
+// The patches of a mesh, and one sample of them.
+// Returns: the answer of the patch call, and that of the sample call on the patch list that it left.
+// Writes, leaves alone, refuses: as `patch::patches` and `sample::sample`.
+pub fn evaluate(
+    v: usize,
+    f: usize,
+    positions: &[i32],
+    tags: &[u8],
+    faces: &[u16],
+    twins: &mut [u16],
+    patches: &mut [i32],
+    n: usize,
+    place: SamplePlace,
+) -> Evaluation
+    ensures { λ r. ⌜ Evaluated (indexed v f (now (positions .entry)) (now (tags .entry)) (now (faces .entry))) (now (twins .entry)) (now (patches .entry)) n place r (now (twins .exit)) (now (patches .exit)) ⌝ }
+{
+    let mesh = patch::patches(v, f, positions, tags, faces, twins, patches);
+    let sample = sample::sample(patches, place.face, n, place.a, place.b);
+    Evaluation { mesh, sample }
+}
+
+// The calls for two meshes, each with its lent lists, and what they show of each other: the claim is about the numbers handed back.
+// Returns: for each mesh the answer of the patch call, and that of the sample call at one place.
+// Writes, leaves alone, refuses: as `patch::patches` and `sample::sample`.
+pub fn witness(
+    v: usize,
+    f: usize,
+    positions: &[i32],
+    tags: &[u8],
+    faces: &[u16],
+    twins: &mut [u16],
+    patches: &mut [i32],
+    v2: usize,
+    f2: usize,
+    positions2: &[i32],
+    tags2: &[u8],
+    faces2: &[u16],
+    twins2: &mut [u16],
+    patches2: &mut [i32],
+    n: usize,
+    place: SamplePlace,
+    place2: SamplePlace,
+) -> Witness
+    ensures { λ r. ⌜ Evaluated (indexed v f (now (positions .entry)) (now (tags .entry)) (now (faces .entry))) (now (twins .entry)) (now (patches .entry)) n place (r .first) (now (twins .exit)) (now (patches .exit)) ⌝ }
+    ensures { λ r. ⌜ Evaluated (indexed v2 f2 (now (positions2 .entry)) (now (tags2 .entry)) (now (faces2 .entry))) (now (twins2 .entry)) (now (patches2 .entry)) n place2 (r .second) (now (twins2 .exit)) (now (patches2 .exit)) ⌝ }
+    ensures { λ r. ⌜ Witnessed (indexed v f (now (positions .entry)) (now (tags .entry)) (now (faces .entry))) (now (twins .entry)) (now (patches .entry)) (indexed v2 f2 (now (positions2 .entry)) (now (tags2 .entry)) (now (faces2 .entry))) (now (twins2 .entry)) (now (patches2 .entry)) n place place2 r ⌝ }
+{
+    Witness {
+        first: evaluate(v, f, positions, tags, faces, twins, patches, n, place),
+        second: evaluate(
+            v2,
+            f2,
+            positions2,
+            tags2,
+            faces2,
+            twins2,
+            patches2,
+            n,
+            place2,
+        ),
+    }
+}

@@ -1,12 +1,16 @@
 // Runs the calls on each trial that an argument names (a file, see reading.rt), and prints one line for it, which begins with the
-// name. mesh_trial.rt and sample_trial.rt say what follows the name. `no file` says that none has that name, `not whole` that the
-// file is longer or shorter than its sizes and lists, and `too long` that a list other than the tags has more than 2,048 places.
+// name; a patch trial has more lines. mesh_trial.rt, patch_trial.rt and sample_trial.rt say what follows the name. `no file` says
+// that none has that name, `not whole` that the file is longer or shorter than its sizes and lists, and `too long` that a list has
+// more places than reading.rt has for it.
 mod mesh_trial;
+mod patch_trial;
 mod printing;
 mod reading;
 mod sample_trial;
+mod sums;
 
 use crate::printing::print_text;
+use crate::reading::head_length;
 use crate::reading::u16_at;
 
 // What the file of a sample trial has where that of a mesh trial has V.
@@ -17,7 +21,8 @@ fn run(b: &[u8]) {
     if u16_at(b, 0) == SAMPLE {
         sample_trial::run(b);
     } else {
-        mesh_trial::run(b);
+        let at = head_length(b);
+        mesh_trial::run(&b[0..at], &b[at..]);
     }
 }
 

@@ -1,10 +1,12 @@
-// A trial of the mesh check. Its line goes on
+// A trial of the mesh check, and the lists of a trial of the patch call. The line of the mesh check goes on
 //
 //     V F E B twins P Q R S       of an accepted mesh
 //     refused N twins P Q R S     of a refused one
 //
 // P to S are the lent twins as they are afterwards, at the places 0, 4F - 1, 4F and the last; `-` is a place that the list does not
-// have. Every place of the list holds 7 before the call.
+// have. Every place of the list holds 7 before the call. The lists of both kinds of trial are read here; patch_trial.rt goes on with
+// those that have a head.
+use crate::patch_trial;
 use crate::printing::print_checked;
 use crate::printing::print_twins;
 use crate::reading::PLACES;
@@ -59,28 +61,45 @@ fn show(b: &[u8], positions: &[i32], faces: &[u16], twins: &mut [u16]) {
     print_twins(twins, 4 * f);
 }
 
+// The trial with its lists: of the check without a head, and of the patch call with one.
+fn with_twins(head: &[u8], b: &[u8], positions: &[i32], faces: &[u16], twins: &mut [u16]) {
+    if head.len() == 0 {
+        show(b, positions, faces, twins);
+    } else {
+        patch_trial::run(
+            head,
+            u16_at(b, 0),
+            u16_at(b, 2),
+            positions,
+            tags(b),
+            faces,
+            twins,
+        );
+    }
+}
+
 // The trial with its positions and a list for its faces: reads the faces, and goes on with a list for the twins.
-fn with_faces(b: &[u8], positions: &[i32], faces: &mut [u16]) {
+fn with_faces(head: &[u8], b: &[u8], positions: &[i32], faces: &mut [u16]) {
     read_u16s(b, faces_at(b), faces);
     let n = room(u16_at(b, 10));
     let mut twins = [7u16; PLACES];
-    show(b, positions, faces, &mut twins[0..n]);
+    with_twins(head, b, positions, faces, &mut twins[0..n]);
 }
 
 // The trial with a list for its positions: reads them, and goes on with a list for the faces.
-fn with_positions(b: &[u8], positions: &mut [i32]) {
+fn with_positions(head: &[u8], b: &[u8], positions: &mut [i32]) {
     read_i32s(b, POSITIONS_AT, positions);
     let n = room(u16_at(b, 8));
     let mut faces = [0u16; PLACES];
-    with_faces(b, positions, &mut faces[0..n]);
+    with_faces(head, b, positions, &mut faces[0..n]);
 }
 
-// The trial in a file's bytes.
-pub(crate) fn run(b: &[u8]) {
-    if !can_run(b, length(b), has_room(b)) {
+// The trial in a file's head and the bytes after it.
+pub(crate) fn run(head: &[u8], b: &[u8]) {
+    if !can_run(b, length(b), has_room(b) & patch_trial::has_room(head)) {
         return;
     }
     let n = room(u16_at(b, 4));
     let mut positions = [0i32; PLACES];
-    with_positions(b, &mut positions[0..n]);
+    with_positions(head, b, &mut positions[0..n]);
 }

@@ -10,14 +10,19 @@ pub(crate) fn print_text(text: &[u8]) {
     io::write_all(STDOUT_FILENO, text);
 }
 
+// A blank and a 64-bit number.
+pub(crate) fn print_wide(n: u64) {
+    print_text(b" ");
+    io::print_decimal(STDOUT_FILENO, n);
+}
+
 // A blank and a number.
 pub(crate) fn print_number(n: usize) {
-    print_text(b" ");
-    io::print_decimal(STDOUT_FILENO, n as u64);
+    print_wide(n as u64);
 }
 
 // The magnitude of a number: for a negative one, one more than that of `n + 1`.
-fn magnitude(n: i32) -> u64 {
+pub(crate) fn magnitude(n: i32) -> u64 {
     if n < 0 { (-1 - n) as u64 + 1 } else { n as u64 }
 }
 
@@ -66,6 +71,35 @@ pub(crate) fn print_twins(twins: &[u16], n: usize) {
     print_at(twins, std::num::wrapping_sub_usize(n, 1));
     print_at(twins, n);
     print_at(twins, std::num::wrapping_sub_usize(twins.len(), 1));
+}
+
+// The numbers at every place of a list.
+pub(crate) fn print_every(list: &[u16]) {
+    for i in 0..list.len() {
+        print_at(list, i);
+    }
+}
+
+// The numbers of a patch, and how many of a patch list are printed: those of 17 patches.
+const PATCH: usize = 48;
+
+const CLEAR: usize = 816;
+
+// A number of the patch list, on a new line where it is the first of a patch.
+fn print_patch_number(at: usize, n: i32) {
+    if at % PATCH == 0 {
+        print_text(b"\n");
+    }
+    print_signed(n);
+}
+
+// The first numbers of a patch list, those of a patch to a line.
+pub(crate) fn print_patches(patches: &[i32]) {
+    for i in 0..patches.len() {
+        if i < CLEAR {
+            print_patch_number(i, patches[i]);
+        }
+    }
 }
 
 // The answer of the sample call: the three coordinates, or the refusal.

@@ -3,14 +3,31 @@
 // Of the mesh check: six sizes, V, F and the lengths of the lists of positions, tags, faces and twins, as 16-bit numbers; then the
 // positions as 32-bit two's complement numbers, the tags as bytes and the faces as 16-bit numbers.
 //
+// Of the patch call: 65533, the length of the list of patches, and N, as 16-bit numbers, which are the file's head; then a file of the
+// mesh check.
+//
 // Of the sample call: 65535 as a 16-bit number, which is V in no trial of the mesh check; then f, N, a and b as 64-bit numbers; then
 // the patch numbers as 32-bit two's complement numbers, to the end of the file.
 use crate::printing::print_text;
 ghost use mathlib.Core.Path.{_≡_};
 ghost use Prim.Native.Nat.{_+_, _^_, _≤_, _<_};
+ghost use lib.ListN.{length};
 
-// The places of each list that is read or lent.
+// What the file of a patch trial has where that of a mesh trial has V.
+const PATCH: usize = 65533;
+
+// The places of each list that is read or lent, but for the tags, which stay in the file, and the patches.
 pub(crate) const PLACES: usize = 2048;
+
+// The length of a file's head: 6 bytes of a patch trial, as far as there are any, and none of a mesh trial.
+pub(crate) fn head_length(b: &[u8]) -> usize
+    ensures { λ r. ⌜ r ≤ length (now (b .entry)) ⌝ }
+{
+    if u16_at(b, 0) != PATCH {
+        return 0;
+    }
+    if b.len() < 6 { b.len() } else { 6 }
+}
 
 // The places that a list of n numbers takes up, as far as there are any.
 pub(crate) fn room(n: usize) -> usize

@@ -1,0 +1,56 @@
+-- What the points of a patch are read from: coordinates are listed and within their range, the listed twins tell which half-edges are sharp,
+-- and two tables tell which point of which corner each of the sixteen is.
+use mathlib.Core.Path.{_≡_, refl, sym, _∙_}
+use mathlib.Core.Bool.{true, false}
+use mathlib.Core.List.{List, [], _∷_, map}
+use Prim.Native.Nat.{ℕ, zero, suc, _+_, _*_, _≤_, _<_}
+use native.Mathlib.Nat.{not-suc-le-zero}
+use native.Mathlib.Omega.{arith}
+use lib.Dec.{ltb}
+use lib.IntN.{ℤ, natAbs}
+use lib.ListN.{length, getD}
+use borrow.Author.Tests.{eq-eqb, ne-eqb, ltb-true}
+use Rattle.finite.specs.Fold.{foldBelow}
+use Rattle.finite.proofs.AnyAll.{all-true}
+use Rattle.mesh.specs.Limits.{maxCoordinate, noTwin}
+use Rattle.mesh.specs.Corner.{turn}
+use Rattle.mesh.specs.HalfEdge.{boundary}
+use Rattle.mesh.specs.Private.{vertexOf, twinOf}
+use Rattle.mesh.proofs.CornerLaws.{turn-below}
+use Rattle.patch.specs.Point.{x, sharp}
+use Rattle.patch.specs.Patch.{owner}
+use Rattle.patch.specs.Private.{seen, Readable, Twins}
+use Rattle.patch.proofs.NeighbourLaws.{twin-below}
+
+-- ---- coordinates
+module _ {positions : List ℤ} {faces weights : List ℕ} {k : ℕ} (r : Readable positions faces weights k) where
+  -- what a function asks that reads the coordinate of the corner i further than c
+  pub turned-asked : (i c : ℕ) → i < 4 → c < length faces → (i < 4) × (turn i c < length faces) × (3 * vertexOf faces (turn i c) + k < length positions)
+  turned-asked i c h l = let b = turn-below (r .corners) i c l in (h, b, r .placed .listed (turn i c) b)
+
+  pub turned-size : (i c : ℕ) → c < length faces → natAbs (x (seen positions faces k) (turn i c)) ≤ maxCoordinate
+  turned-size i c l = r .placed .small (turn i c) (turn-below (r .corners) i c l)
+
+-- ---- twins
+module _ {faces twins : List ℕ} (t : Twins faces twins) (positions : List ℤ) (k c : ℕ) (l : c < length faces) where
+  pub sharp-listed : twinOf twins c ≡ noTwin → sharp (seen positions faces k) c ≡ true
+  unfolding sharp boundary
+  sharp-listed e = eq-eqb _ _ (sym (t .are c l) ∙ e)
+
+  pub not-sharp-listed : (twinOf twins c ≡ noTwin → ⊥) → sharp (seen positions faces k) c ≡ false
+  unfolding sharp boundary
+  not-sharp-listed n = ne-eqb _ _ (λ e. n (t .are c l ∙ e))
+
+  pub twin-listed : (twinOf twins c ≡ noTwin → ⊥) → twinOf twins c < length faces
+  twin-listed n = rw (t .are c l) (twin-below (seen positions faces k) c (not-sharp-listed n))
+
+-- ---- the two tables of a patch
+pub owner-below : (m : ℕ) → m < 16 → owner m < 4
+unfolding foldBelow owner
+owner-below m l = ltb-true _ _ (all-true (λ j. ltb (owner j) 4) 16 refl m l)
+
+-- a table whose entries f gives from those of another
+pub table-at : {A B : Type 0} (f : A → B) (b : B) (xs : List A) (a : A) (m : ℕ) → m < length xs → f (getD xs m a) ≡ getD (map f xs) m b
+table-at f b [] a m l = absurd (not-suc-le-zero l)
+table-at f b (x ∷ xs) a zero l = refl
+table-at f b (x ∷ xs) a (suc m) l = table-at f b xs a m (omega arith)

@@ -1,0 +1,52 @@
+// The patches of an accepted mesh: the tables by vertex, then each patch into its own stretch of the list.
+use crate::tables::fill_tables;
+use crate::writer::write_patch;
+use mesh::model::Mesh;
+ghost use mathlib.Core.Path.{_≡_};
+ghost use Prim.Native.Nat.{_*_, _≤_};
+ghost use lib.ListN.{length};
+ghost use Rattle.mesh.specs.HalfEdge.{twin};
+ghost use Rattle.mesh.specs.IndexedMesh.{indexed};
+ghost use Rattle.mesh.specs.Accepted.{Accepted};
+ghost use Rattle.mesh.specs.Private.{Holds, vertexOf};
+ghost use Rattle.patch.specs.Patch.{patchesAfter};
+
+// Writes the patches of an accepted mesh with its twins.
+pub(crate) fn fill_patches(
+    v: usize,
+    f: usize,
+    positions: &[i32],
+    tags: &[u8],
+    faces: &[u16],
+    twins: &[u16],
+    patches: &mut [i32],
+)
+    requires { ⌜ Accepted (indexed v f (now positions) (now tags) (now faces)) × (48 * f ≤ length (now patches)) ⌝ }
+    requires { ⌜ (4 * f ≤ length (now twins)) × Holds 0 (now twins) (4 * f) (twin (vertexOf (now faces)) (4 * f)) ⌝ }
+    ensures { λ _. ⌜ now (patches .exit) ≡ patchesAfter (indexed v f (now (positions .entry)) (now (tags .entry)) (now (faces .entry))) (now (patches .entry)) ⌝ }
+{
+    let mut weights = [0u16; Mesh::MAX_VERTICES];
+    let mut points = [0i32; 3 * Mesh::MAX_VERTICES];
+    fill_tables(
+        v,
+        f,
+        positions,
+        tags,
+        faces,
+        twins,
+        &mut weights,
+        &mut points,
+    );
+    for g in 0..f {
+        let at = 48 * g;
+        write_patch(
+            positions,
+            faces,
+            twins,
+            &weights,
+            &points,
+            g,
+            &mut patches[at..],
+        );
+    }
+}

@@ -1,0 +1,110 @@
+// The sixteen control points of a patch, from the lists of a mesh, its twins, and the tables of weights and corner points.
+use crate::face_point::along_point;
+use crate::face_point::before_point;
+use crate::face_point::inner_point;
+use crate::values::turned;
+use crate::values::wide;
+ghost use mathlib.Core.Path.{_≡_};
+ghost use Prim.Native.Nat.{_+_, _*_, _≤_, _<_};
+ghost use lib.IntN.{pos};
+ghost use lib.ListN.{length, getD};
+ghost use Rattle.finite.specs.Filled.{filled};
+ghost use Rattle.mesh.specs.Private.{vertexOf};
+ghost use Rattle.patch.specs.Private.{Source, kindOf, pointFrom, numberFrom};
+
+// The four points of its face that each corner owns.
+pub enum Kind {
+    Corner,
+    Along,
+    Before,
+    Inner,
+}
+
+// The corner of the face that owns each of the sixteen points.
+const OWNERS: [usize; 16] = [0, 0, 1, 1, 0, 0, 1, 1, 3, 3, 2, 2, 3, 3, 2, 2];
+// Which of the corner's points each is.
+const KINDS: [Kind; 16] = [
+    Kind::Corner,
+    Kind::Along,
+    Kind::Before,
+    Kind::Corner,
+    Kind::Before,
+    Kind::Inner,
+    Kind::Inner,
+    Kind::Along,
+    Kind::Along,
+    Kind::Inner,
+    Kind::Inner,
+    Kind::Before,
+    Kind::Corner,
+    Kind::Before,
+    Kind::Along,
+    Kind::Corner,
+];
+
+// The corner point of the vertex of corner c, coordinate k, from its table.
+fn vertex_point(faces: &[u16], points: &[i32], k: usize, c: usize) -> i32
+    requires { ⌜ (c < length (now faces)) × (3 * vertexOf (now faces) c + k < length (now points)) ⌝ }
+    ensures { λ r. ⌜ r ≡ getD (now (points .entry)) (3 * vertexOf (now (faces .entry)) c + k) (pos 0) ⌝ }
+{
+    points[3 * wide(faces[c]) + k]
+}
+
+// Coordinate k of a point of corner c.
+fn point_value(
+    positions: &[i32],
+    faces: &[u16],
+    twins: &[u16],
+    weights: &[u16],
+    points: &[i32],
+    k: usize,
+    c: usize,
+    kind: Kind,
+) -> i32
+    requires { ⌜ Source (now positions) (now faces) (now twins) (now weights) (now points) × (k < 3) × (c < length (now faces)) ⌝ }
+    ensures { λ r. ⌜ r ≡ pointFrom (now (positions .entry)) (now (faces .entry)) (now (points .entry)) k c (kindOf kind) ⌝ }
+{
+    match kind {
+        Kind::Corner => vertex_point(faces, points, k, c),
+        Kind::Along => along_point(positions, faces, twins, weights, k, c),
+        Kind::Before => before_point(positions, faces, twins, weights, k, c),
+        Kind::Inner => inner_point(positions, faces, weights, k, c),
+    }
+}
+
+// Number i of the patch of face g.
+fn number(
+    positions: &[i32],
+    faces: &[u16],
+    twins: &[u16],
+    weights: &[u16],
+    points: &[i32],
+    g: usize,
+    i: usize,
+) -> i32
+    requires { ⌜ Source (now positions) (now faces) (now twins) (now weights) (now points) × (4 * g + 4 ≤ length (now faces)) × (i < 48) ⌝ }
+    ensures { λ r. ⌜ r ≡ numberFrom (now (positions .entry)) (now (faces .entry)) (now (points .entry)) g i ⌝ }
+{
+    let m = i / 3;
+    let kind = KINDS[m];
+    let c = turned(OWNERS[m], 4 * g);
+    point_value(positions, faces, twins, weights, points, i % 3, c, kind)
+}
+
+// Writes the patch of face g over the first 48 numbers of the list.
+pub(crate) fn write_patch(
+    positions: &[i32],
+    faces: &[u16],
+    twins: &[u16],
+    weights: &[u16],
+    points: &[i32],
+    g: usize,
+    patch: &mut [i32],
+)
+    requires { ⌜ Source (now positions) (now faces) (now twins) (now weights) (now points) × (4 * g + 4 ≤ length (now faces)) × (48 ≤ length (now patch)) ⌝ }
+    ensures { λ _. ⌜ now (patch .exit) ≡ filled (numberFrom (now (positions .entry)) (now (faces .entry)) (now (points .entry)) g) 48 (now (patch .entry)) ⌝ }
+{
+    for i in 0..48 {
+        patch[i] = number(positions, faces, twins, weights, points, g, i);
+    }
+}

@@ -1,0 +1,41 @@
+-- `witness` meets its contract: what the calls gave is what the definitions say, and of these the claim is proved (`shown`).
+use borrow.Author.Needs.{needs}
+use Rattle.surface.proofs.WitnessLaws.{shown}
+use Rattle.surface.proofs.witness.Statement.{statement}
+use Rattle.surface.proofs.witness.Tie as tie
+
+evaluate-requires : tie.Need-evaluate-requires
+evaluate-requires c κs = search needs
+
+evaluate-requires-2 : tie.Need-evaluate-requires-2
+evaluate-requires-2 c κs = search needs
+
+same-length : tie.Need-same-length
+same-length c = search needs
+
+same-length-2 : tie.Need-same-length-2
+same-length-2 c = search needs
+
+same-length-3 : tie.Need-same-length-3
+same-length-3 c = search needs
+
+same-length-4 : tie.Need-same-length-4
+same-length-4 c = search needs
+
+returns : tie.Need-returns
+returns c =
+    let first = c .before .before .before .before .before .before .before .before .before .evaluate .ensures in
+    let second = c .before .before .before .evaluate2 .ensures in
+    (first, (second, shown first second))
+
+pub witness-spec : {M : Type 1} → statement M
+witness-spec =
+    tie.close
+    (tie.spec
+    evaluate-requires
+    evaluate-requires-2
+    same-length
+    same-length-2
+    same-length-3
+    same-length-4
+    returns)

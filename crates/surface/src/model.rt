@@ -1,0 +1,22 @@
+// What the witness is asked for and what it hands back.
+use mesh::model::Checked;
+use sample::model::Sampled;
+
+// A place of a face, as the sample call is given it.
+pub struct SamplePlace {
+    pub face: usize,
+    pub a: usize,
+    pub b: usize,
+}
+
+// What the calls gave for one mesh: the answer of the patch call, and of the sample call on the patch list that it left.
+pub struct Evaluation {
+    pub mesh: Checked,
+    pub sample: Sampled,
+}
+
+// What the calls gave for two meshes.
+pub struct Witness {
+    pub first: Evaluation,
+    pub second: Evaluation,
+}

@@ -1,0 +1,144 @@
+// A trial of the patch call, and of the samples of what it wrote. Its line goes on
+//
+//     V F E B twins T..       of an accepted mesh
+//     refused N twins T..     of a refused one
+//
+// with every place of the lent twins afterwards. Then come a line `patches` with the two sums of the lent patch list afterwards, its
+// first 816 places in clear, 48 to a line, and for each face of an accepted mesh a line `samples` with the two sums of its samples at
+// all (a, b), b from 0 and within it a from 0, and the sample and the reading at half N. Of numbers x0, x1 .. the two sums are that
+// of the numbers and that of the sums x0, x0 + x1 .. on the way, both modulo 2^32. Every place of both lists holds 7 before the call.
+use crate::printing::print_checked;
+use crate::printing::print_every;
+use crate::printing::print_patches;
+use crate::printing::print_text;
+use crate::reading::u16_at;
+use crate::sample_trial::print_answers;
+use crate::sums::Sums;
+use crate::sums::of_list;
+use crate::sums::print_sums;
+use crate::sums::with_sample;
+use mesh::model::Checked;
+ghost use Prim.Native.Nat.{_≤_, _<_, _^_};
+
+// The places of the list of patches: three more than the largest mesh takes up.
+const PATCH_PLACES: usize = 12291;
+
+// The length of the list of patches.
+fn patch_count(head: &[u8]) -> usize
+    ensures { λ r. ⌜ r < 2 ^ 16 ⌝ }
+{
+    u16_at(head, 2)
+}
+
+// Whether the list of patches has room.
+pub(crate) fn has_room(head: &[u8]) -> bool {
+    patch_count(head) <= PATCH_PLACES
+}
+
+// The places that the list of patches takes up, as far as there are any.
+fn patch_room(head: &[u8]) -> usize
+    ensures { λ r. ⌜ r ≤ 12291 ⌝ }
+{
+    let n = patch_count(head);
+    if n < PATCH_PLACES { n } else { PATCH_PLACES }
+}
+
+// The two sums with the samples of face f at one b.
+fn row_sums(sums: Sums, patches: &[i32], f: usize, n: usize, b: usize) -> Sums
+    requires { ⌜ n < 2 ^ 16 ⌝ }
+{
+    let mut total = sums;
+    for a in 0..n + 1 {
+        total = with_sample(total, sample::sample(patches, f, n, a, b));
+    }
+    total
+}
+
+// The two sums of the samples of face f.
+fn face_sums(patches: &[i32], f: usize, n: usize) -> Sums
+    requires { ⌜ n < 2 ^ 16 ⌝ }
+{
+    let mut sums = Sums {
+        first: 0,
+        second: 0,
+    };
+    for b in 0..n + 1 {
+        sums = row_sums(sums, patches, f, n, b);
+    }
+    sums
+}
+
+// The line of the samples of face f.
+fn print_samples(patches: &[i32], f: usize, n: usize)
+    requires { ⌜ n < 2 ^ 16 ⌝ }
+{
+    print_text(b"\n samples");
+    print_sums(face_sums(patches, f, n));
+    print_answers(patches, f, n, n / 2, n / 2);
+}
+
+// The lines of the samples of f faces.
+fn print_faces(patches: &[i32], f: usize, n: usize)
+    requires { ⌜ n < 2 ^ 16 ⌝ }
+{
+    for g in 0..f {
+        print_samples(patches, g, n);
+    }
+}
+
+// The lists after the call, and the samples of an accepted mesh.
+fn print_lists(answer: Checked, n: usize, twins: &[u16], patches: &[i32])
+    requires { ⌜ n < 2 ^ 16 ⌝ }
+{
+    print_text(b" twins");
+    print_every(twins);
+    print_text(b"\n patches");
+    print_sums(of_list(patches));
+    print_patches(patches);
+    let Checked::Accepted(mesh) = answer else {
+        return;
+    };
+    print_faces(patches, mesh.faces, n);
+}
+
+// The patch call on a mesh and the lent lists, with what it gave printed.
+fn show(
+    n: usize,
+    v: usize,
+    f: usize,
+    positions: &[i32],
+    tags: &[u8],
+    faces: &[u16],
+    twins: &mut [u16],
+    patches: &mut [i32],
+)
+    requires { ⌜ n < 2 ^ 16 ⌝ }
+{
+    let answer = patch::patches(v, f, positions, tags, faces, twins, patches);
+    print_checked(answer);
+    print_lists(answer, n, twins, patches);
+}
+
+// The trial with a file's head and the arguments of the check: goes on with a list for the patches.
+pub(crate) fn run(
+    head: &[u8],
+    v: usize,
+    f: usize,
+    positions: &[i32],
+    tags: &[u8],
+    faces: &[u16],
+    twins: &mut [u16],
+) {
+    let m = patch_room(head);
+    let mut patches = [7i32; PATCH_PLACES];
+    show(
+        u16_at(head, 4),
+        v,
+        f,
+        positions,
+        tags,
+        faces,
+        twins,
+        &mut patches[0..m],
+    );
+}

@@ -1,0 +1,55 @@
+// Two sums over signed numbers: of the numbers, and of the first sums on the way, which the order of the numbers changes. They are kept
+// modulo 2^64 and printed modulo 2^32.
+use crate::printing::magnitude;
+use crate::printing::print_wide;
+use sample::model::Sampled;
+
+// The two sums.
+pub(crate) struct Sums {
+    pub(crate) first: u64,
+    pub(crate) second: u64,
+}
+
+// A signed number added to a number.
+fn plus(total: u64, x: i32) -> u64 {
+    if x < 0 {
+        std::num::wrapping_sub_u64(total, magnitude(x))
+    } else {
+        std::num::wrapping_add_u64(total, magnitude(x))
+    }
+}
+
+// The two sums with one more number.
+fn with_number(sums: Sums, x: i32) -> Sums {
+    let first = plus(sums.first, x);
+    Sums {
+        first,
+        second: std::num::wrapping_add_u64(sums.second, first),
+    }
+}
+
+// The two sums with one more sample; a refused one counts as its number.
+pub(crate) fn with_sample(sums: Sums, answer: Sampled) -> Sums {
+    match answer {
+        Sampled::At(p) => with_number(with_number(with_number(sums, p.x), p.y), p.z),
+        Sampled::Refused(k) => with_number(sums, k as i32),
+    }
+}
+
+// The two sums of a list.
+pub(crate) fn of_list(list: &[i32]) -> Sums {
+    let mut sums = Sums {
+        first: 0,
+        second: 0,
+    };
+    for i in 0..list.len() {
+        sums = with_number(sums, list[i]);
+    }
+    sums
+}
+
+// Both sums, modulo 2^32.
+pub(crate) fn print_sums(sums: Sums) {
+    print_wide(sums.first % 4294967296);
+    print_wide(sums.second % 4294967296);
+}
