@@ -5,7 +5,7 @@ use Prim.Native.Nat.{ℕ, zero, suc, _+_, _-_, _<_, _≤_}
 use native.Mathlib.Nat.{add-zero, add-suc, le-antisymm, le-of-eq, not-suc-le-zero}
 use native.Mathlib.Numerals.{add-one}
 use native.Mathlib.Omega.{arith}
-use lib.ListN.{getD, drop, take, length, set, length-append, length-drop, drop-of-length-le, List·getD-append}
+use lib.ListN.{getD, drop, take, length, set, length-append, length-take, length-drop, drop-of-length-le, List·getD-append}
 use lib.Seq.{drop-cons, set-at, take-at, drop-at, getD-at, take-all, drop-drop, getD-append-add, getD-drop}
 use Rattle.finite.specs.Filled.{listBelow, filled}
 use Rattle.finite.proofs.FoldLaws.{lt-suc-cases}
@@ -92,3 +92,14 @@ module _ {A : Type 0} where
   filled-tail f g m k d l ys h e q =
       let n : length (drop m l) ≤ length l - m = le-of-eq (length-drop m l) in
       rw (q, take-all (length l - m) (drop m l) n, drop-of-length-le (drop m l) n, append-nil) (filled-part f g m k d l h e)
+
+  -- the stretch of w places from m on: it is there, and a list that a loop fills stretch by stretch has one more of them
+  pub stretch-long : (m w : ℕ) (l : List A) → m + w ≤ length l → w ≤ length (take (length l - m) (drop m l))
+  stretch-long m w l h = simp (length-take, length-drop) (omega arith)
+
+  pub filled-stretch : (f g : ℕ → A) (m w n : ℕ) (d l ys : List A) → n ≡ m + w → n ≤ length d → ((j : ℕ) → j < w → g j ≡ f (m + j))
+      → l ≡ filled f m d → ys ≡ filled g w (take (length l - m) (drop m l))
+      → (length (take m l ++ (ys ++ drop (length l - m) (drop m l))) ≡ length d) × (take m l ++ (ys ++ drop (length l - m) (drop m l)) ≡ filled f n d)
+  filled-stretch f g m w n d l ys next long h e q =
+      let more = filled-tail f g m w d l ys h e q ∙ ap (λ (k : ℕ). filled f k d) (sym next) in
+      (ap length more ∙ length-filled f n d long, more)

@@ -3,7 +3,7 @@
 use mathlib.Core.Path.{_≡_, refl, sym, _∙_}
 use mathlib.Core.Bool.{true, false}
 use mathlib.Core.List.{List, [], _∷_, map}
-use Prim.Native.Nat.{ℕ, zero, suc, _+_, _*_, _≤_, _<_}
+use Prim.Native.Nat.{ℕ, zero, suc, _+_, _-_, _*_, _/_, _%_, _≤_, _<_}
 use native.Mathlib.Nat.{not-suc-le-zero}
 use native.Mathlib.Omega.{arith}
 use lib.Dec.{ltb}
@@ -18,8 +18,8 @@ use Rattle.mesh.specs.HalfEdge.{boundary}
 use Rattle.mesh.specs.Private.{vertexOf, twinOf}
 use Rattle.mesh.proofs.CornerLaws.{turn-below}
 use Rattle.patch.specs.Point.{x, sharp}
-use Rattle.patch.specs.Patch.{owner}
-use Rattle.patch.specs.Private.{seen, Readable, Twins}
+use Rattle.patch.specs.Patch.{owner, kind}
+use Rattle.patch.specs.Private.{seen, Readable, Twins, Source, pointFrom, numberFrom}
 use Rattle.patch.proofs.NeighbourLaws.{twin-below}
 
 -- ---- coordinates
@@ -45,6 +45,20 @@ module _ {faces twins : List ℕ} (t : Twins faces twins) (positions : List ℤ)
   twin-listed n = rw (t .are c l) (twin-below (seen positions faces k) c (not-sharp-listed n))
 
 -- ---- the two tables of a patch
+-- the corner of a face that owns a point is one of its corners
+pub owner-listed : {positions points : List ℤ} {faces twins weights : List ℕ} → Source positions faces twins weights points → (g m c : ℕ) → 4 * g + 4 ≤ length faces → c ≡ turn m (4 * g)
+    → c < length faces
+owner-listed t g m c l e = rw e (turn-below (t .readable 0 (omega arith) .corners) m (4 * g) (omega arith))
+
+-- number 3m + k of a patch is coordinate k of its point m
+pub number-point : (positions : List ℤ) (faces : List ℕ) (points : List ℤ) (g m k : ℕ) → k < 3
+    → numberFrom positions faces points g (3 * m + k) ≡ pointFrom positions faces points k (turn (owner m) (4 * g)) (kind m)
+unfolding numberFrom
+number-point positions faces points g m k l =
+    let axis : (3 * m + k) % 3 ≡ k = omega arith in
+    let which : (3 * m + k) / 3 ≡ m = omega arith in
+    rw (axis, which)
+
 pub owner-below : (m : ℕ) → m < 16 → owner m < 4
 unfolding foldBelow owner
 owner-below m l = ltb-true _ _ (all-true (λ j. ltb (owner j) 4) 16 refl m l)

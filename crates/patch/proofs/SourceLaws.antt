@@ -1,7 +1,7 @@
 -- The tables of an accepted mesh are all that its patches are written from, and what is written from them is the patch list.
 use mathlib.Core.Path.{_≡_}
 use mathlib.Core.List.{List}
-use Prim.Native.Nat.{ℕ, _+_, _*_, _/_, _%_, _≤_, _<_}
+use Prim.Native.Nat.{ℕ, _+_, _-_, _*_, _/_, _%_, _≤_, _<_}
 use native.Mathlib.Nat.{lt-of-lt-of-le}
 use native.Mathlib.Omega.{arith}
 use lib.IntN.{ℤ}
@@ -16,6 +16,9 @@ use Rattle.mesh.proofs.AcceptedLaws.{accepted-corners}
 use Rattle.patch.specs.Point.{Kind, corner, along, before, inner, weight, sharp, alongPoint, beforePoint, innerPoint, edgePoint, point}
 use Rattle.patch.specs.Patch.{owner, kind, patchPoint, view, units, patchNumber}
 use Rattle.patch.specs.Private.{vertexWeight, Tables, Readable, Source, pointFrom, numberFrom}
+
+pub face-listed : {M : IndexedMesh} → Accepted M → (g : ℕ) → g < M .faces → 4 * g + 4 ≤ length (M .indices)
+face-listed a g l = omega (arith, a .sized .indices-are)
 
 module _ {M : IndexedMesh} (a : Accepted M) {twins weights : List ℕ} {points : List ℤ} (t : Tables M twins weights points) where
   whole : length (M .indices) ≡ corners M

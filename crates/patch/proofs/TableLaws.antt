@@ -6,7 +6,7 @@ use Prim.Native.Nat.{ℕ, _+_, _*_, _≤_, _<_, zero-le}
 use native.Mathlib.Nat.{lt-of-lt-of-le}
 use native.Mathlib.Omega.{arith}
 use lib.Dec.{eqb}
-use lib.IntN.{ℤ, pos, natAbs, _+ℤ_, _*ℤ_}
+use lib.IntN.{ℤ, pos, natAbs}
 use lib.ListN.{length, getD, set}
 use lib.Seq.{getD-set-same, getD-set-other}
 use borrow.Author.Tests.{eqb-true, eqb-false, not-false}
@@ -24,7 +24,7 @@ use Rattle.mesh.proofs.CornerLaws.{turn-below}
 use Rattle.mesh.proofs.BoundaryLaws.{boundary-vertex}
 use Rattle.mesh.proofs.AcceptedLaws.{accepted-corners}
 use Rattle.patch.specs.Mask.{smoothCornerMask, boundaryCornerMask, vertexMask}
-use Rattle.patch.specs.Point.{View, x, inside, sharp, sharpSum, ringSum, fixed, cornerPoint}
+use Rattle.patch.specs.Point.{View, x, ringTerm, sharpTerm, inside, sharp, sharpSum, ringSum, fixed, cornerPoint}
 use Rattle.patch.specs.Patch.{view}
 use Rattle.patch.specs.Private.{vertexWeight, Placed}
 use Rattle.patch.proofs.MaskLaws.{one, term, _⊞_, size}
@@ -32,12 +32,6 @@ use Rattle.patch.proofs.NeighbourLaws.{sharp-neighbours}
 use Rattle.patch.proofs.SumLaws.{gather-size, count-none}
 
 -- ---- the terms of the two sums
-abbrev pub ringTerm : View → ℕ → ℤ
-ringTerm S c = pos 2 *ℤ x S (next c) +ℤ pos 2 *ℤ x S (prev c) +ℤ x S (across c)
-
-abbrev pub sharpTerm : View → ℕ → ℤ
-sharpTerm S c = cond (sharp S c) (x S (next c)) (pos 0) +ℤ cond (sharp S (prev c)) (x S (prev c)) (pos 0)
-
 pub cond-size : (b : Bool) (z : ℤ) (B : ℕ) → natAbs z ≤ B → natAbs (cond b z (pos 0)) ≤ B
 cond-size true z B h = h
 cond-size false z B h = zero-le
@@ -59,6 +53,10 @@ module _ (S : View) (k : Corners (S .n)) (small : (c : ℕ) → c < S .n → nat
         cond-size (sharp S (prev c)) (x S (prev c)) maxCoordinate (turn-size 3 c l),
       )
 
+faces-weight : (M : IndexedMesh) (p : ℕ) → valence (at M) (corners M) p ≤ vertexWeight (view M 0) p
+unfolding vertexWeight
+faces-weight M p = bool-cases (onBoundary (at M) (corners M) p) (λ e. rw e (omega arith)) (λ e. rw e (omega arith))
+
 module _ {M : IndexedMesh} (a : Accepted M) where
   pub accepted-indices : Indices (M .indices) (corners M)
   accepted-indices = record {
@@ -69,7 +67,7 @@ module _ {M : IndexedMesh} (a : Accepted M) where
   }
 
   -- the weight of a vertex
-  pub weight-range : (p : ℕ) → p < M .vertices → (0 < vertexWeight (view M 0) p) × (vertexWeight (view M 0) p ≤ maxValence)
+  weight-range : (p : ℕ) → p < M .vertices → (0 < vertexWeight (view M 0) p) × (vertexWeight (view M 0) p ≤ maxValence)
   unfolding vertexWeight
   weight-range p l =
       bool-cases (onBoundary (at M) (corners M) p)
@@ -83,9 +81,16 @@ module _ {M : IndexedMesh} (a : Accepted M) where
       small = λ c l. a .coordinates (3 * at M c + k) (omega (arith, a .named c l));
     }
 
-    pub ring-size : (p : ℕ) → natAbs (ringSum (view M k) p) ≤ 5 * maxCoordinate * valence (at M) (corners M) p
+    ring-size : (p : ℕ) → natAbs (ringSum (view M k) p) ≤ 5 * maxCoordinate * valence (at M) (corners M) p
     unfolding ringSum
     ring-size p = gather-size (at M) p (5 * maxCoordinate) _ (corners M) (ring-term-size (view M k) (accepted-corners a) (accepted-placed .small))
+
+    -- what a function asks that makes the corner point of vertex p from the entries of the tables
+    pub corner-asked : (p : ℕ) → p < M .vertices → (w : ℕ) (z r : ℤ) → w ≡ vertexWeight (view M 0) p → z ≡ view M k .value p → r ≡ ringSum (view M k) p
+        → (0 < w) × (w ≤ maxValence) × (natAbs z ≤ maxCoordinate) × (natAbs r ≤ 5 * maxCoordinate * w)
+    corner-asked p l w z r hw hz hr =
+        let range = weight-range p l in
+        rw (hw, hz, hr) (range .0, range .1, a .coordinates (3 * p + k) (omega arith), omega (arith, ring-size p, faces-weight M p))
 
     -- two half-edges at a boundary vertex are boundary
     pub sharp-size : (p : ℕ) → p < M .vertices → inside (view M k) p ≡ false → natAbs (sharpSum (view M k) p) ≤ 2 * maxCoordinate
@@ -102,10 +107,6 @@ module _ (M : IndexedMesh) (p : ℕ) where
   pub inside-count : eqb (gather 0 _+_ (at M) (λ c. indicator (boundary (at M) (corners M) c)) (corners M) p) 0 ≡ inside (view M 0) p
   unfolding onBoundary
   inside-count = count-none (at M) p (boundary (at M) (corners M)) (corners M)
-
-  pub faces-weight : valence (at M) (corners M) p ≤ vertexWeight (view M 0) p
-  unfolding vertexWeight
-  faces-weight = bool-cases (onBoundary (at M) (corners M) p) (λ e. rw e (omega arith)) (λ e. rw e (omega arith))
 
   -- a boundary vertex with one face has the weight 2
   pub corner-entries : (k : ℕ) (i : Bool) (w : ℕ) (z r s : ℤ)

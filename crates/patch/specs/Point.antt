@@ -50,11 +50,18 @@ sharp S c = boundary (S .at) (S .n) c
 abbrev pub sumAt : View → ℕ → (ℕ → ℤ) → ℤ
 sumAt S p term = gather (pos 0) _+ℤ_ (S .at) term (S .n) p
 
+-- what corner c adds to the two sums at its vertex
+abbrev pub sharpTerm : View → ℕ → ℤ
+sharpTerm S c = cond (sharp S c) (x S (next c)) (pos 0) +ℤ cond (sharp S (prev c)) (x S (prev c)) (pos 0)
+
+abbrev pub ringTerm : View → ℕ → ℤ
+ringTerm S c = pos 2 *ℤ x S (next c) +ℤ pos 2 *ℤ x S (prev c) +ℤ x S (across c)
+
 unfoldable pub sharpSum : View → ℕ → ℤ
-sharpSum S p = sumAt S p (λ c. cond (sharp S c) (x S (next c)) (pos 0) +ℤ cond (sharp S (prev c)) (x S (prev c)) (pos 0))
+sharpSum S p = sumAt S p (sharpTerm S)
 
 unfoldable pub ringSum : View → ℕ → ℤ
-ringSum S p = sumAt S p (λ c. pos 2 *ℤ x S (next c) +ℤ pos 2 *ℤ x S (prev c) +ℤ x S (across c))
+ringSum S p = sumAt S p (ringTerm S)
 
 unfoldable pub fixed : View → ℕ → Bool
 fixed S p = eqb (S .tag p) cornerTag || eqb (faces S p) 1

@@ -13,12 +13,11 @@ ghost use lib.ListN.{length, getD};
 ghost use Rattle.finite.specs.Fold.{indicator, gather};
 ghost use Rattle.finite.specs.Filled.{filled};
 ghost use Rattle.mesh.specs.Limits.{maxVertices, maxCoordinate, noTwin};
-ghost use Rattle.mesh.specs.Corner.{next, across, prev};
 ghost use Rattle.mesh.specs.HalfEdge.{twin, boundary};
 ghost use Rattle.mesh.specs.Fan.{valence};
 ghost use Rattle.mesh.specs.IndexedMesh.{indexed};
 ghost use Rattle.mesh.specs.Private.{Holds, vertexOf, twinOf, Indices};
-ghost use Rattle.patch.specs.Point.{x, sharp, sharpSum, ringSum};
+ghost use Rattle.patch.specs.Point.{sharpTerm, ringTerm, sharpSum, ringSum};
 ghost use Rattle.patch.specs.Patch.{view};
 ghost use Rattle.patch.specs.Private.{Placed};
 
@@ -108,7 +107,7 @@ fn ring_of(next: i64, prev: i64, across: i64) -> i64
 fn ring_term(faces: &[u16], f: usize, positions: &[i32], k: usize, c: usize) -> i64
     requires { ⌜ Indices (now faces) (4 * f) × (c < 4 * f) ⌝ }
     requires { ⌜ Placed (now positions) (now faces) (4 * f) k ⌝ }
-    ensures { λ r. ⌜ (let S = view (indexed 0 f (now (positions .entry)) [] (now (faces .entry))) k in r ≡ pos 2 *ℤ x S (next c) +ℤ pos 2 *ℤ x S (prev c) +ℤ x S (across c)) ⌝ }
+    ensures { λ r. ⌜ r ≡ ringTerm (view (indexed 0 f (now (positions .entry)) [] (now (faces .entry))) k) c ⌝ }
 {
     let next = corner_value(positions, faces, k, turned(1, c));
     let prev = corner_value(positions, faces, k, turned(3, c));
@@ -120,7 +119,7 @@ fn ring_term(faces: &[u16], f: usize, positions: &[i32], k: usize, c: usize) -> 
 fn fill_ring(faces: &[u16], f: usize, positions: &[i32], k: usize, terms: &mut [i64])
     requires { ⌜ Indices (now faces) (4 * f) × (4 * f ≤ length (now terms)) ⌝ }
     requires { ⌜ Placed (now positions) (now faces) (4 * f) k ⌝ }
-    ensures { λ _. ⌜ (let S = view (indexed 0 f (now (positions .entry)) [] (now (faces .entry))) k in now (terms .exit) ≡ filled (λ c. pos 2 *ℤ x S (next c) +ℤ pos 2 *ℤ x S (prev c) +ℤ x S (across c)) (4 * f) (now (terms .entry))) ⌝ }
+    ensures { λ _. ⌜ now (terms .exit) ≡ filled (ringTerm (view (indexed 0 f (now (positions .entry)) [] (now (faces .entry))) k)) (4 * f) (now (terms .entry)) ⌝ }
 {
     for c in 0..4 * f {
         terms[c] = ring_term(faces, f, positions, k, c);
@@ -155,7 +154,7 @@ fn sharp_term(faces: &[u16], twins: &[u16], f: usize, positions: &[i32], k: usiz
     requires { ⌜ Indices (now faces) (4 * f) × (4 * f ≤ length (now twins)) × (c < 4 * f) ⌝ }
     requires { ⌜ Holds 0 (now twins) (4 * f) (twin (vertexOf (now faces)) (4 * f)) ⌝ }
     requires { ⌜ Placed (now positions) (now faces) (4 * f) k ⌝ }
-    ensures { λ r. ⌜ (let S = view (indexed 0 f (now (positions .entry)) [] (now (faces .entry))) k in r ≡ cond (sharp S c) (x S (next c)) (pos 0) +ℤ cond (sharp S (prev c)) (x S (prev c)) (pos 0)) ⌝ }
+    ensures { λ r. ⌜ r ≡ sharpTerm (view (indexed 0 f (now (positions .entry)) [] (now (faces .entry))) k) c ⌝ }
 {
     let before = turned(3, c);
     let leaving = sharp_value(faces, twins, positions, k, c, turned(1, c));
@@ -175,7 +174,7 @@ fn fill_sharp(
     requires { ⌜ Indices (now faces) (4 * f) × (4 * f ≤ length (now twins)) × (4 * f ≤ length (now terms)) ⌝ }
     requires { ⌜ Holds 0 (now twins) (4 * f) (twin (vertexOf (now faces)) (4 * f)) ⌝ }
     requires { ⌜ Placed (now positions) (now faces) (4 * f) k ⌝ }
-    ensures { λ _. ⌜ (let S = view (indexed 0 f (now (positions .entry)) [] (now (faces .entry))) k in now (terms .exit) ≡ filled (λ c. cond (sharp S c) (x S (next c)) (pos 0) +ℤ cond (sharp S (prev c)) (x S (prev c)) (pos 0)) (4 * f) (now (terms .entry))) ⌝ }
+    ensures { λ _. ⌜ now (terms .exit) ≡ filled (sharpTerm (view (indexed 0 f (now (positions .entry)) [] (now (faces .entry))) k)) (4 * f) (now (terms .entry)) ⌝ }
 {
     for c in 0..4 * f {
         terms[c] = sharp_term(faces, twins, f, positions, k, c);

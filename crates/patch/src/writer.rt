@@ -72,23 +72,42 @@ fn point_value(
     }
 }
 
-// Number i of the patch of face g.
-fn number(
+// Writes a point of corner c over the first three numbers of the list.
+fn write_point(
+    positions: &[i32],
+    faces: &[u16],
+    twins: &[u16],
+    weights: &[u16],
+    points: &[i32],
+    c: usize,
+    kind: Kind,
+    point: &mut [i32],
+)
+    requires { ⌜ Source (now positions) (now faces) (now twins) (now weights) (now points) × (c < length (now faces)) × (3 ≤ length (now point)) ⌝ }
+    ensures { λ _. ⌜ now (point .exit) ≡ filled (λ k. pointFrom (now (positions .entry)) (now (faces .entry)) (now (points .entry)) k c (kindOf kind)) 3 (now (point .entry)) ⌝ }
+{
+    for k in 0..3 {
+        point[k] = point_value(positions, faces, twins, weights, points, k, c, kind);
+    }
+}
+
+// Writes point m of the patch of face g over the first three numbers of the list.
+fn write_numbered(
     positions: &[i32],
     faces: &[u16],
     twins: &[u16],
     weights: &[u16],
     points: &[i32],
     g: usize,
-    i: usize,
-) -> i32
-    requires { ⌜ Source (now positions) (now faces) (now twins) (now weights) (now points) × (4 * g + 4 ≤ length (now faces)) × (i < 48) ⌝ }
-    ensures { λ r. ⌜ r ≡ numberFrom (now (positions .entry)) (now (faces .entry)) (now (points .entry)) g i ⌝ }
+    m: usize,
+    point: &mut [i32],
+)
+    requires { ⌜ Source (now positions) (now faces) (now twins) (now weights) (now points) × (4 * g + 4 ≤ length (now faces)) × (m < 16) × (3 ≤ length (now point)) ⌝ }
+    ensures { λ _. ⌜ now (point .exit) ≡ filled (λ k. numberFrom (now (positions .entry)) (now (faces .entry)) (now (points .entry)) g (3 * m + k)) 3 (now (point .entry)) ⌝ }
 {
-    let m = i / 3;
     let kind = KINDS[m];
     let c = turned(OWNERS[m], 4 * g);
-    point_value(positions, faces, twins, weights, points, i % 3, c, kind)
+    write_point(positions, faces, twins, weights, points, c, kind, point);
 }
 
 // Writes the patch of face g over the first 48 numbers of the list.
@@ -104,7 +123,17 @@ pub(crate) fn write_patch(
     requires { ⌜ Source (now positions) (now faces) (now twins) (now weights) (now points) × (4 * g + 4 ≤ length (now faces)) × (48 ≤ length (now patch)) ⌝ }
     ensures { λ _. ⌜ now (patch .exit) ≡ filled (numberFrom (now (positions .entry)) (now (faces .entry)) (now (points .entry)) g) 48 (now (patch .entry)) ⌝ }
 {
-    for i in 0..48 {
-        patch[i] = number(positions, faces, twins, weights, points, g, i);
+    for m in 0..16 {
+        let at = 3 * m;
+        write_numbered(
+            positions,
+            faces,
+            twins,
+            weights,
+            points,
+            g,
+            m,
+            &mut patch[at..],
+        );
     }
 }

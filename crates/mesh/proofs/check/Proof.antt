@@ -43,7 +43,10 @@ passed c = early-passed _ _ (none-early c)
 room : (c : tie.Else1) → 4 * start (c .before .before .before) .args .f ≤ length (start (c .before .before .before) .args .twins .now)
 room c = ltb-false (length (start (c .before .before .before) .args .twins .now)) (4 * start (c .before .before .before) .args .f) (passed c .long)
 
--- the list of twins holds the twins
+-- the list of twins is as long as it was, and holds the twins
+kept : (c : tie.After-fill-twins) → 4 * start (c .before .before .before .before .before .before .before) .args .f ≤ length (c .fill-twins .last .1 .1 .1 .1 .0)
+kept c = rw (c .fill-twins .kept .1 .1 .1 .1 .0) (room (c .before .before .before .before))
+
 written : (c : tie.After-fill-twins) → Holds 0 (c .fill-twins .last .1 .1 .1 .1 .0) (4 * start (c .before .before .before .before .before .before .before) .args .f) (twin (vertexOf (start (c .before .before .before .before .before .before .before) .args .faces .now)) (4 * start (c .before .before .before .before .before .before .before) .args .f))
 written c p l = ap (λ (t : List ℕ). getD t p 0) (c .fill-twins .ensures) ∙ filled-at _ _ _ _ 0 l
 
@@ -93,15 +96,13 @@ late-refusal-requires c κs =
     let e₁ = t .before .before .before .before in
     let r = e₁ .before .before .before in
     let p = passed e₁ in
-    ((p .indices, p .simple, p .sized .vertices-high, le-of-eq (sym (p .sized .tags-are))), ((omega (arith, room e₁), omega arith), (written t, r .early-refusal .ensures .1 (e₁ .if1 .left) .heads)))
+    ((p .indices, p .simple, p .sized .vertices-high, le-of-eq (sym (p .sized .tags-are))), ((kept t, omega arith), (written t, r .early-refusal .ensures .1 (e₁ .if1 .left) .heads)))
 
 clear-twins-requires : tie.Need-clear-twins-requires
-clear-twins-requires c κs =
-    let e₁ = c .before .before .before .before .before .before .before .before .before .before .before in
-    omega (arith, room e₁)
+clear-twins-requires c κs = kept (c .before .before .before .before .before .before .before)
 
 same-length : tie.Need-same-length
-same-length c = search needs
+same-length c = c .before .before .clear-twins .kept .1 .0 ∙ c .before .before .before .before .before .before .before .before .before .before .fill-twins .kept .1 .1 .1 .1 .0
 
 returns-2 : tie.Need-returns-2
 returns-2 c =
@@ -119,10 +120,10 @@ accepted-requires c κs =
     let t = c .before .before .before .before .before .before .before in
     let e₁ = t .before .before .before .before in
     let p = passed e₁ in
-    record { indices = p .indices; named = p .named; simple = p .simple; ends = p .ends; twins-listed = omega (arith, room e₁); twins-are = written t }
+    record { indices = p .indices; named = p .named; simple = p .simple; ends = p .ends; twins-listed = kept t; twins-are = written t }
 
 same-length-2 : tie.Need-same-length-2
-same-length-2 c = search needs
+same-length-2 c = c .before .before .before .before .before .before .before .before .fill-twins .kept .1 .1 .1 .1 .0
 
 returns-3 : tie.Need-returns-3
 returns-3 c =

@@ -1,6 +1,7 @@
 -- `clear_twins` meets its contract: the places passed hold "no twin", and the others what they held.
 use mathlib.Core.Path.{_≡_, refl}
 use Prim.Native.Nat.{_-_, _≤_}
+use native.Mathlib.Numerals.{add-one-le, add-one-dec}
 use native.Mathlib.Omega.{arith}
 use lib.ListN.{length}
 use borrow.Author.Needs.{needs}
@@ -29,13 +30,13 @@ add-c : tie.Need-add-c Inv-loop μ-loop
 add-c c = omega arith
 
 loop-less : tie.Need-loop-less Inv-loop μ-loop
-loop-less c = omega arith
+loop-less c = add-one-dec _ _ (c .loop-test .taken)
 
 loop-again : tie.Need-loop-again Inv-loop μ-loop
-loop-again c = (omega arith, search needs, filled-more _ _ _ _ _ (omega arith) (c .before .loop .inv .2) refl)
+loop-again c = (add-one-le (c .loop-test .taken), search needs, filled-more _ _ _ _ _ (omega arith) (c .before .loop .inv .2) refl)
 
 same-length : tie.Need-same-length Inv-loop μ-loop
-same-length c = search needs
+same-length c = c .before .loop .inv .1
 
 returns : tie.Need-returns Inv-loop μ-loop
 returns c = search (filled-all, needs)

@@ -3,9 +3,10 @@ use mathlib.Core.Bool.{true≢false, false}
 use mathlib.Core.Path.{_≡_, refl, sym, ap, _∙_, subst}
 use Prim.Native.Nat.{ℕ, _-_, _<_, _≤_}
 use native.Mathlib.Nat.{le-antisymm}
+use native.Mathlib.Numerals.{add-one-le, add-one-dec}
 use native.Mathlib.Omega.{arith}
 use lib.Dec.{eqb}
-use lib.ListN.{length}
+use lib.ListN.{length, length-set}
 use borrow.Author.Needs.{needs}
 use Rattle.finite.specs.Fold.{anyBelow}
 use Rattle.finite.proofs.AnyAll.{any-start, any-more, any-found, any-not}
@@ -59,10 +60,10 @@ occurs-before-requires c κs =
     ((s .pre .0 .0, omega arith, omega arith), (l .loop .inv .3 .heads (w .wide .result) (inside w) ∙ ap (λ (x : ℕ). latest (λ d. eqb (at d) x) (l .loop .c)) (w .wide .ensures), l .loop .inv .3 .links))
 
 same-length : tie.Need-same-length Inv-loop μ-loop
-same-length c = search needs
+same-length c = c .before .before .before .before .before .before .before .loop .inv .1
 
 same-length-2 : tie.Need-same-length-2 Inv-loop μ-loop
-same-length-2 c = search needs
+same-length-2 c = c .before .before .before .before .before .before .before .loop .inv .2
 
 returns : tie.Need-returns Inv-loop μ-loop
 returns c =
@@ -92,26 +93,25 @@ add-c : tie.Need-add-c Inv-loop μ-loop
 add-c c = omega arith
 
 loop-less : tie.Need-loop-less Inv-loop μ-loop
-loop-less c = omega arith
+loop-less c = add-one-dec _ _ (c .before .before .before .before .before .before .loop-test .taken)
 
 loop-again : tie.Need-loop-again Inv-loop μ-loop
 loop-again c =
     let o = c .before in
     let w = o .before .before .before in
-    let l = w .before .before .before in
-    let h = inside w in (
-      omega arith,
-      search needs,
-      search needs,
-      chained-more _ (l .loop .c) (w .wide .result) _ _ (l .loop .inv .3) (w .wide .ensures) _ _ refl refl h (omega arith) (omega arith),
+    let l = w .before .before .before in (
+      add-one-le (c .before .before .before .before .before .before .loop-test .taken),
+      length-set (l .loop .head) (w .wide .result) _ ∙ l .loop .inv .1,
+      length-set (l .loop .link) (l .loop .c) _ ∙ l .loop .inv .2,
+      chained-more _ (l .loop .c) (w .wide .result) _ _ (l .loop .inv .3) (w .wide .ensures) _ _ refl refl (inside w) (slice-write-head c) (slice-write-link c),
       any-more _ _ _ (l .loop .inv .4) (o .occurs-before .ensures) (c .if1 .left),
     )
 
 same-length-3 : tie.Need-same-length-3 Inv-loop μ-loop
-same-length-3 c = search needs
+same-length-3 c = c .before .loop .inv .1
 
 same-length-4 : tie.Need-same-length-4 Inv-loop μ-loop
-same-length-4 c = search needs
+same-length-4 c = c .before .loop .inv .2
 
 returns-2 : tie.Need-returns-2 Inv-loop μ-loop
 returns-2 c =

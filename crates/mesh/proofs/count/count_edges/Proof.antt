@@ -3,6 +3,7 @@ use mathlib.Core.List.{List}
 use mathlib.Core.Path.{_≡_, ap}
 use mathlib.Core.Bool.{Bool}
 use Prim.Native.Nat.{ℕ, _-_, _≤_}
+use native.Mathlib.Numerals.{add-one-le, add-one-dec}
 use native.Mathlib.Omega.{arith}
 use lib.Dec.{ltb}
 use borrow.Author.Needs.{needs}
@@ -46,12 +47,12 @@ add-c : tie.Need-add-c Inv-loop μ-loop
 add-c c = omega arith
 
 loop-less : tie.Need-loop-less Inv-loop μ-loop
-loop-less c = omega arith
+loop-less c = add-one-dec _ _ (c .before .before .before .loop-test .taken)
 
 loop-again : tie.Need-loop-again Inv-loop μ-loop
 loop-again c =
     let l = c .before .before .before .before in
-    (omega arith, count-bit (leads (l .before .before .args .twins .now)) (l .loop .c) (l .loop .count) (c .bit .result) _ (l .loop .inv .1) (ap (ltb (l .loop .c)) (c .before .wide .ensures)) (c .bit .ensures))
+    (add-one-le (c .before .before .before .loop-test .taken), count-bit (leads (l .before .before .args .twins .now)) (l .loop .c) (l .loop .count) (c .bit .result) _ (l .loop .inv .1) (ap (ltb (l .loop .c)) (c .before .wide .ensures)) (c .bit .ensures))
 
 returns : tie.Need-returns Inv-loop μ-loop
 returns c = search (count-all, needs)

@@ -2,6 +2,7 @@
 use mathlib.Core.Path.{_≡_, refl, sym, subst}
 use mathlib.Core.Bool.{true, false}
 use Prim.Native.Nat.{ℕ, _-_, _<_, _≤_}
+use native.Mathlib.Numerals.{add-one-le, add-one-dec}
 use native.Mathlib.Omega.{arith}
 use lib.Dec.{leb}
 use borrow.Author.Needs.{needs}
@@ -39,12 +40,12 @@ add-c : tie.Need-add-c Inv-loop μ-loop
 add-c c = omega arith
 
 loop-less : tie.Need-loop-less Inv-loop μ-loop
-loop-less c = omega arith
+loop-less c = add-one-dec _ _ (c .before .before .before .loop-test .taken)
 
 loop-again : tie.Need-loop-again Inv-loop μ-loop
 loop-again c =
     let s = c .before .before .before .before .before .before in
-    (omega arith, any-more _ _ false (c .before .before .before .before .loop .inv .1) (sym (lt-leb _ _ (subst (λ (x : ℕ). x < s .args .v) (c .before .wide .ensures) (c .if1 .left)))) refl)
+    (add-one-le (c .before .before .before .loop-test .taken), any-more _ _ false (c .before .before .before .before .loop .inv .1) (sym (lt-leb _ _ (subst (λ (x : ℕ). x < s .args .v) (c .before .wide .ensures) (c .if1 .left)))) refl)
 
 returns-2 : tie.Need-returns-2 Inv-loop μ-loop
 returns-2 c = search (any-not, needs)

@@ -9,7 +9,7 @@ returns : tie.Need-returns
 returns c = search (or-yes, or-no, lt-ltb, le-ltb, needs)
 
 returns-2 : tie.Need-returns-2
-returns-2 c = search (or-yes, or-no, lt-ltb, le-ltb, needs)
+returns-2 c = search (or-no, le-ltb, needs)
 
 pub off-range-spec : {M : Type 1} → statement M
 off-range-spec = tie.close (tie.spec returns returns-2)

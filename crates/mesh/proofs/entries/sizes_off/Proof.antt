@@ -15,14 +15,14 @@ off-range-requires c κs = tt
 
 returns : tie.Need-returns
 unfolding sizesOff
-returns c = search (or-found, or-passed, or-yes, or-no, not-no, not-yes, ne-eqb, eq-eqb, needs) depth 12
+returns c = search (or-found, or-passed, or-yes, or-no, needs) depth 12
 
 off-range-requires-2 : tie.Need-off-range-requires-2
 off-range-requires-2 c κs = tt
 
 returns-2 : tie.Need-returns-2
 unfolding sizesOff
-returns-2 c = search (or-found, or-passed, or-yes, or-no, not-no, not-yes, ne-eqb, eq-eqb, needs) depth 12
+returns-2 c = search (or-found, or-passed, or-yes, or-no, needs) depth 12
 
 mul-if3 : tie.Need-mul-if3
 mul-if3 c =
@@ -31,7 +31,7 @@ mul-if3 c =
 
 returns-3 : tie.Need-returns-3
 unfolding sizesOff
-returns-3 c = search (or-found, or-passed, or-yes, or-no, not-no, not-yes, ne-eqb, eq-eqb, needs) depth 12
+returns-3 c = search (or-found, or-passed, or-yes, or-no, not-no, ne-eqb, needs) depth 12
 
 returns-4 : tie.Need-returns-4
 unfolding sizesOff
@@ -44,7 +44,7 @@ mul-result c =
 
 returns-5 : tie.Need-returns-5
 unfolding sizesOff
-returns-5 c = search (or-found, or-passed, or-yes, or-no, not-no, not-yes, ne-eqb, eq-eqb, needs) depth 12
+returns-5 c = search (or-passed, or-no, not-no, not-yes, eq-eqb, needs) depth 12
 
 pub sizes-off-spec : {M : Type 1} → statement M
 sizes-off-spec =

@@ -1,11 +1,11 @@
 -- `early_refusal` meets its contract: the phases run in the order of the table, and each says its cause.
 use mathlib.Core.Path.{sym, _∙_}
 use Prim.Native.Nat.{_*_}
+use native.Mathlib.Nat.{suc-ne-zero}
 use native.Mathlib.Omega.{arith}
 use lib.Dec.{ltb}
 use lib.ListN.{length}
 use borrow.Author.Tests.{lt-ltb, le-ltb}
-use borrow.Author.Needs.{needs}
 use Rattle.mesh.specs.Accepted.{Sized}
 use Rattle.mesh.specs.Refusal.{coordinateOff, tagOff, vertexOff, vertexTwice, halfEdgeTwice}
 use Rattle.mesh.specs.IndexedMesh.{IndexedMesh, indexed}
@@ -39,7 +39,7 @@ sizes-off-requires c κs = tt
 returns : tie.Need-returns
 returns c =
     let s = c .before .before .before .before .before .before in
-    (early-1 (mesh s) (ltb (s .args .twins) (4 * s .args .f)) (sym (c .before .sizes-off .ensures) ∙ c .if1 .taken), λ e. absurd (let bad : ⊥ = omega arith in bad))
+    (early-1 (mesh s) (ltb (s .args .twins) (4 * s .args .f)) (sym (c .before .sizes-off .ensures) ∙ c .if1 .taken), λ e. absurd (suc-ne-zero _ e))
 
 mul-n : tie.Need-mul-n
 mul-n c = let z = sized c in omega arith
@@ -47,7 +47,7 @@ mul-n c = let z = sized c in omega arith
 returns-2 : tie.Need-returns-2
 returns-2 c =
     let e₁ = c .before in
-    (early-2 (mesh (start e₁)) _ (sym (e₁ .before .sizes-off .ensures) ∙ e₁ .if1 .left) (lt-ltb _ _ (c .if2 .taken)), λ e. absurd (let bad : ⊥ = omega arith in bad))
+    (early-2 (mesh (start e₁)) _ (sym (e₁ .before .sizes-off .ensures) ∙ e₁ .if1 .left) (lt-ltb _ _ (c .if2 .taken)), λ e. absurd (suc-ne-zero _ e))
 
 mul-any-coordinate-off : tie.Need-mul-any-coordinate-off
 mul-any-coordinate-off c = let z = sized (c .before) in omega arith
@@ -60,7 +60,7 @@ unfolding coordinateOff tagOff vertexOff vertexTwice halfEdgeTwice
 returns-3 c =
     let e₂ = c .before .before in
     let e₁ = e₂ .before in
-    (early-3 (mesh (start e₁)) _ (sym (e₁ .before .sizes-off .ensures) ∙ e₁ .if1 .left) (le-ltb _ _ (e₂ .if2 .left)) (sym (c .before .any-coordinate-off .ensures) ∙ c .if3 .taken), λ e. absurd (let bad : ⊥ = omega arith in bad))
+    (early-3 (mesh (start e₁)) _ (sym (e₁ .before .sizes-off .ensures) ∙ e₁ .if1 .left) (le-ltb _ _ (e₂ .if2 .left)) (sym (c .before .any-coordinate-off .ensures) ∙ c .if3 .taken), λ e. absurd (suc-ne-zero _ e))
 
 any-tag-off-requires : tie.Need-any-tag-off-requires
 any-tag-off-requires c κs = let z = sized (c .before .before .before) in omega arith
@@ -71,7 +71,7 @@ returns-4 c =
     let e₃ = c .before .before in
     let e₂ = e₃ .before .before in
     let e₁ = e₂ .before in
-    (early-4 (mesh (start e₁)) _ (sym (e₁ .before .sizes-off .ensures) ∙ e₁ .if1 .left) (le-ltb _ _ (e₂ .if2 .left)) (sym (e₃ .before .any-coordinate-off .ensures) ∙ e₃ .if3 .left) (sym (c .before .any-tag-off .ensures) ∙ c .if4 .taken), λ e. absurd (let bad : ⊥ = omega arith in bad))
+    (early-4 (mesh (start e₁)) _ (sym (e₁ .before .sizes-off .ensures) ∙ e₁ .if1 .left) (le-ltb _ _ (e₂ .if2 .left)) (sym (e₃ .before .any-coordinate-off .ensures) ∙ e₃ .if3 .left) (sym (c .before .any-tag-off .ensures) ∙ c .if4 .taken), λ e. absurd (suc-ne-zero _ e))
 
 any-vertex-off-requires : tie.Need-any-vertex-off-requires
 any-vertex-off-requires c κs = let z = sized (c .before .before .before .before .before) in omega arith
@@ -83,7 +83,7 @@ returns-5 c =
     let e₃ = e₄ .before .before in
     let e₂ = e₃ .before .before in
     let e₁ = e₂ .before in
-    (early-5 (mesh (start e₁)) _ (sym (e₁ .before .sizes-off .ensures) ∙ e₁ .if1 .left) (le-ltb _ _ (e₂ .if2 .left)) (sym (e₃ .before .any-coordinate-off .ensures) ∙ e₃ .if3 .left) (sym (e₄ .before .any-tag-off .ensures) ∙ e₄ .if4 .left) (sym (c .before .any-vertex-off .ensures) ∙ c .if5 .taken), λ e. absurd (let bad : ⊥ = omega arith in bad))
+    (early-5 (mesh (start e₁)) _ (sym (e₁ .before .sizes-off .ensures) ∙ e₁ .if1 .left) (le-ltb _ _ (e₂ .if2 .left)) (sym (e₃ .before .any-coordinate-off .ensures) ∙ e₃ .if3 .left) (sym (e₄ .before .any-tag-off .ensures) ∙ e₄ .if4 .left) (sym (c .before .any-vertex-off .ensures) ∙ c .if5 .taken), λ e. absurd (suc-ne-zero _ e))
 
 any-vertex-twice-requires : tie.Need-any-vertex-twice-requires
 any-vertex-twice-requires c κs = indices c
@@ -96,7 +96,7 @@ returns-6 c =
     let e₃ = e₄ .before .before in
     let e₂ = e₃ .before .before in
     let e₁ = e₂ .before in
-    (early-6 (mesh (start e₁)) _ (sym (e₁ .before .sizes-off .ensures) ∙ e₁ .if1 .left) (le-ltb _ _ (e₂ .if2 .left)) (sym (e₃ .before .any-coordinate-off .ensures) ∙ e₃ .if3 .left) (sym (e₄ .before .any-tag-off .ensures) ∙ e₄ .if4 .left) (sym (e₅ .before .any-vertex-off .ensures) ∙ e₅ .if5 .left) (sym (c .before .any-vertex-twice .ensures) ∙ c .if6 .taken), λ e. absurd (let bad : ⊥ = omega arith in bad))
+    (early-6 (mesh (start e₁)) _ (sym (e₁ .before .sizes-off .ensures) ∙ e₁ .if1 .left) (le-ltb _ _ (e₂ .if2 .left)) (sym (e₃ .before .any-coordinate-off .ensures) ∙ e₃ .if3 .left) (sym (e₄ .before .any-tag-off .ensures) ∙ e₄ .if4 .left) (sym (e₅ .before .any-vertex-off .ensures) ∙ e₅ .if5 .left) (sym (c .before .any-vertex-twice .ensures) ∙ c .if6 .taken), λ e. absurd (suc-ne-zero _ e))
 
 link-corners-requires : tie.Need-link-corners-requires
 link-corners-requires c κs =
@@ -106,10 +106,10 @@ link-corners-requires c κs =
     ((indices e₅, s .pre .0 .0, omega (arith, s .pre .0 .1)), s .pre .1)
 
 same-length : tie.Need-same-length
-same-length c = search needs
+same-length c = c .before .before .before .before .before .link-corners .kept .1 .1 .0
 
 same-length-2 : tie.Need-same-length-2
-same-length-2 c = search needs
+same-length-2 c = c .before .before .before .before .before .link-corners .kept .1 .1 .1 .0
 
 returns-7 : tie.Need-returns-7
 unfolding coordinateOff tagOff vertexOff vertexTwice halfEdgeTwice
@@ -120,13 +120,13 @@ returns-7 c =
     let e₃ = e₄ .before .before in
     let e₂ = e₃ .before .before in
     let e₁ = e₂ .before in
-    (early-7 (mesh (start e₁)) _ (sym (e₁ .before .sizes-off .ensures) ∙ e₁ .if1 .left) (le-ltb _ _ (e₂ .if2 .left)) (sym (e₃ .before .any-coordinate-off .ensures) ∙ e₃ .if3 .left) (sym (e₄ .before .any-tag-off .ensures) ∙ e₄ .if4 .left) (sym (e₅ .before .any-vertex-off .ensures) ∙ e₅ .if5 .left) (sym (e₆ .before .any-vertex-twice .ensures) ∙ e₆ .if6 .left) (sym (c .before .before .before .before .before .link-corners .ensures .0) ∙ c .if7 .taken), λ e. absurd (let bad : ⊥ = omega arith in bad))
+    (early-7 (mesh (start e₁)) _ (sym (e₁ .before .sizes-off .ensures) ∙ e₁ .if1 .left) (le-ltb _ _ (e₂ .if2 .left)) (sym (e₃ .before .any-coordinate-off .ensures) ∙ e₃ .if3 .left) (sym (e₄ .before .any-tag-off .ensures) ∙ e₄ .if4 .left) (sym (e₅ .before .any-vertex-off .ensures) ∙ e₅ .if5 .left) (sym (e₆ .before .any-vertex-twice .ensures) ∙ e₆ .if6 .left) (sym (c .before .before .before .before .before .link-corners .ensures .0) ∙ c .if7 .taken), λ e. absurd (suc-ne-zero _ e))
 
 same-length-3 : tie.Need-same-length-3
-same-length-3 c = search needs
+same-length-3 c = c .before .before .before .before .before .link-corners .kept .1 .1 .0
 
 same-length-4 : tie.Need-same-length-4
-same-length-4 c = search needs
+same-length-4 c = c .before .before .before .before .before .link-corners .kept .1 .1 .1 .0
 
 returns-8 : tie.Need-returns-8
 unfolding coordinateOff tagOff vertexOff vertexTwice halfEdgeTwice

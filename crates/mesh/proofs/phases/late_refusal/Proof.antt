@@ -38,6 +38,9 @@ valence-off c =
     let k = m .before .before .before .before .before .before .before .before .before in
     c .any-valence-off .ensures ∙ valence-table _ (start (k .before) .pre .0 .2) (k .count-corners .last .1 .1 .0) _ (k .count-corners .ensures) (m .mark-boundary .last .1 .1 .1 .0) _ (m .mark-boundary .ensures)
 
+valences : (c : tie.Else3) → valenceOff (mesh (start (c .before .before .before .before .before .before .before .before .before .before .before .before .before .before .before))) ≡ false
+valences c = sym (valence-off (c .before)) ∙ c .if3 .left
+
 tagged : (c : tie.After-any-inner-tagged) → c .any-inner-tagged .result ≡ innerTagged (mesh (start (c .before .before .before .before .before .before .before .before .before .before .before .before .before .before .before .before .before)))
 unfolding innerTagged
 tagged c =
@@ -117,14 +120,14 @@ returns-4 c =
     let e₃ = c .before .before .before in
     let e₂ = e₃ .before .before .before .before .before .before .before in
     let e₁ = e₂ .before .before .before in
-    late-11 (mesh (start (e₁ .before .before .before .before .before))) (used e₁) (fans e₂) (sym (valence-off (e₃ .before)) ∙ e₃ .if3 .left) (sym (tagged (c .before)) ∙ c .if4 .taken)
+    late-11 (mesh (start (e₁ .before .before .before .before .before))) (used e₁) (fans e₂) (valences e₃) (sym (tagged (c .before)) ∙ c .if4 .taken)
 
 returns-5 : tie.Need-returns-5
 returns-5 c =
     let e₃ = c .before .before .before in
     let e₂ = e₃ .before .before .before .before .before .before .before in
     let e₁ = e₂ .before .before .before in
-    late-none (mesh (start (e₁ .before .before .before .before .before))) (used e₁) (fans e₂) (sym (valence-off (e₃ .before)) ∙ e₃ .if3 .left) (sym (tagged (c .before)) ∙ c .if4 .left)
+    late-none (mesh (start (e₁ .before .before .before .before .before))) (used e₁) (fans e₂) (valences e₃) (sym (tagged (c .before)) ∙ c .if4 .left)
 
 pub late-refusal-spec : {M : Type 1} → statement M
 late-refusal-spec =

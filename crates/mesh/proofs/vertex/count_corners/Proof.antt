@@ -2,6 +2,7 @@
 use mathlib.Core.Path.{_≡_, refl, ap, _∙_}
 use Prim.Native.Nat.{_+_, ℕ, _-_, _<_, _≤_}
 use native.Mathlib.Nat.{le-antisymm}
+use native.Mathlib.Numerals.{add-one-le, add-one-dec}
 use native.Mathlib.Omega.{arith}
 use lib.Dec.{eqb}
 use lib.ListN.{length}
@@ -63,7 +64,7 @@ add-c : tie.Need-add-c Inv-loop μ-loop
 add-c c = omega arith
 
 loop-less : tie.Need-loop-less Inv-loop μ-loop
-loop-less c = omega arith
+loop-less c = add-one-dec _ _ (c .before .before .before .loop-test .taken)
 
 loop-again : tie.Need-loop-again Inv-loop μ-loop
 loop-again c =
@@ -71,10 +72,10 @@ loop-again c =
     let l = w .before .before .before in
     let s = l .before .before .before in
     let h = inside w in
-    (omega arith, search needs, gathered-more sum-monoid (vertexOf (s .args .faces .now)) (λ d. 1) maxVertices (l .loop .c) (w .wide .result) _ (l .loop .valences) (omega arith) (w .wide .ensures) refl (l .loop .inv .2))
+    (add-one-le (c .before .before .before .loop-test .taken), search needs, gathered-more sum-monoid (vertexOf (s .args .faces .now)) (λ d. 1) maxVertices (l .loop .c) (w .wide .result) _ (l .loop .valences) (omega arith) (w .wide .ensures) refl (l .loop .inv .2))
 
 same-length : tie.Need-same-length Inv-loop μ-loop
-same-length c = search needs
+same-length c = c .before .loop .inv .1
 
 returns : tie.Need-returns Inv-loop μ-loop
 unfolding valence

@@ -3,6 +3,7 @@ use mathlib.Core.Path.{_≡_, refl, ap, _∙_}
 use mathlib.Core.Bool.{false, _||_}
 use Prim.Native.Nat.{ℕ, _-_, _<_, _≤_}
 use native.Mathlib.Nat.{le-antisymm}
+use native.Mathlib.Numerals.{add-one-le, add-one-dec}
 use native.Mathlib.Omega.{arith}
 use lib.Dec.{eqb}
 use lib.ListN.{length, getD}
@@ -60,7 +61,7 @@ add-c : tie.Need-add-c Inv-loop μ-loop
 add-c c = omega arith
 
 loop-less : tie.Need-loop-less Inv-loop μ-loop
-loop-less c = omega arith
+loop-less c = add-one-dec _ _ (c .before .before .before .before .before .loop-test .taken)
 
 loop-again : tie.Need-loop-again Inv-loop μ-loop
 unfolding boundary
@@ -71,14 +72,14 @@ loop-again c =
     let at = vertexOf (s .args .faces .now) in
     let h = inside w in
     let t = s .pre .1 .0 (l .loop .c) (w .before .before .loop-test .taken) in (
-      omega arith,
+      add-one-le (c .before .before .before .before .before .loop-test .taken),
       search needs,
       gathered-more any-monoid at (boundary at (s .args .n)) maxVertices (l .loop .c) (w .wide .result) _ (l .loop .on-boundary) (omega arith) (w .wide .ensures)
           (c .either .ensures ∙ ap (λ (x : ℕ). getD (l .loop .on-boundary) (w .wide .result) false || eqb x noTwin) t) (l .loop .inv .2),
     )
 
 same-length : tie.Need-same-length Inv-loop μ-loop
-same-length c = search needs
+same-length c = c .before .loop .inv .1
 
 returns : tie.Need-returns Inv-loop μ-loop
 unfolding onBoundary

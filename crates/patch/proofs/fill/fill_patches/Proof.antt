@@ -1,15 +1,16 @@
--- `fill_patches` meets its contract: the tables are all that a patch is written from, and each patch fills the next 48 places.
-use mathlib.Core.Path.{_≡_, refl, ap, _∙_}
-use Prim.Native.Nat.{ℕ, _+_, _*_, _-_, _≤_}
+-- `fill_patches` meets its contract: from the tables, 48 numbers are written for each face, from 48 times its number on.
+use mathlib.Core.Path.{_≡_, refl}
+use Prim.Native.Nat.{_+_, _*_, _-_, _≤_}
+use native.Mathlib.Numerals.{add-one-le, add-one-dec}
 use native.Mathlib.Omega.{arith}
 use lib.ListN.{length}
 use borrow.Author.Needs.{needs}
 use Rattle.finite.specs.Filled.{filled}
-use Rattle.finite.proofs.FilledLaws.{filled-start, filled-tail, filled-all}
+use Rattle.finite.proofs.FilledLaws.{filled-start, filled-all, stretch-long, filled-stretch}
 use Rattle.mesh.specs.IndexedMesh.{IndexedMesh, indexed}
 use Rattle.patch.specs.Patch.{patchNumber}
 use Rattle.patch.specs.Private.{Tables}
-use Rattle.patch.proofs.SourceLaws.{source, number-from}
+use Rattle.patch.proofs.SourceLaws.{source, face-listed, number-from}
 use Rattle.patch.proofs.fill.fill_patches.Statement.{statement}
 use Rattle.patch.proofs.fill.fill_patches.Tie as tie
 
@@ -33,13 +34,13 @@ slice-aggregate-fill-tables-2 : tie.Need-slice-aggregate-fill-tables-2 Inv-loop 
 slice-aggregate-fill-tables-2 c = search needs
 
 fill-tables-requires : tie.Need-fill-tables-requires Inv-loop μ-loop
-fill-tables-requires c κs = search needs
+fill-tables-requires c κs = let s = c .before .before .before .before .before in (s .pre .0 .0, ((s .pre .1 .0, search needs, search needs), s .pre .1 .1))
 
 loop-holds : tie.Need-loop-holds Inv-loop μ-loop
 loop-holds c = (omega arith, refl, filled-start _ _, c .before .before .fill-tables .ensures)
 
 mul-at : tie.Need-mul-at Inv-loop μ-loop
-mul-at c = search needs
+mul-at c = omega arith
 
 slice-aggregate-write-patch : tie.Need-slice-aggregate-write-patch Inv-loop μ-loop
 slice-aggregate-write-patch c = search needs
@@ -48,45 +49,45 @@ slice-aggregate-write-patch-2 : tie.Need-slice-aggregate-write-patch-2 Inv-loop 
 slice-aggregate-write-patch-2 c = search needs
 
 mul-write-patch : tie.Need-mul-write-patch Inv-loop μ-loop
-mul-write-patch c = search needs
+mul-write-patch c = omega arith
 
 sub-write-patch : tie.Need-sub-write-patch Inv-loop μ-loop
-sub-write-patch c = search needs
+sub-write-patch c = omega arith
 
 part-write-patch-start : tie.Need-part-write-patch-start Inv-loop μ-loop
-part-write-patch-start c = search needs
+part-write-patch-start c = omega arith
 
 part-write-patch-end : tie.Need-part-write-patch-end Inv-loop μ-loop
-part-write-patch-end c = search needs
+part-write-patch-end c = omega arith
 
 write-patch-requires : tie.Need-write-patch-requires Inv-loop μ-loop
 write-patch-requires c κs =
     let l = c .before .before .before .before in
-    let a = start l .pre .0 .0 in
-    (source a (l .loop .inv .3), omega (arith, a .sized .indices-are), search needs)
+    let s = start l in
+    let a = s .pre .0 .0 in
+    let below = c .before .before .before .loop-test .taken in (
+      source a (l .loop .inv .3),
+      face-listed a (l .loop .g) below,
+      stretch-long (48 * l .loop .g) 48 (l .loop .patches) (omega (arith, s .pre .0 .1, l .loop .inv .1, below)),
+    )
 
 add-g : tie.Need-add-g Inv-loop μ-loop
-add-g c = search needs
+add-g c = omega arith
 
 loop-less : tie.Need-loop-less Inv-loop μ-loop
-loop-less c = search needs
+loop-less c = add-one-dec _ _ (c .before .before .before .before .before .loop-test .taken)
 
 loop-again : tie.Need-loop-again Inv-loop μ-loop
 loop-again c =
     let l = c .before .before .before .before .before .before in
     let s = start l in
-    let a = s .pre .0 .0 in
-    let g = l .loop .g in
-    let next : 48 * g + 48 ≡ 48 * (g + 1) = omega arith in (
-      omega arith,
-      search needs,
-      filled-tail (patchNumber (mesh s)) _ (48 * g) 48 (s .args .patches .now) (l .loop .patches) _ (λ j b. number-from a (l .loop .inv .3) g j (omega arith) b) (l .loop .inv .2) (c .before .write-patch .ensures)
-          ∙ ap (λ (k : ℕ). filled (patchNumber (mesh s)) k (s .args .patches .now)) next,
-      l .loop .inv .3,
-    )
+    let below = c .before .before .before .before .before .loop-test .taken in
+    let w = filled-stretch (patchNumber (mesh s)) _ (48 * l .loop .g) 48 (48 * (l .loop .g + 1)) (s .args .patches .now) (l .loop .patches) _ (omega arith) (omega (arith, s .pre .0 .1, below))
+    (λ j h. number-from (s .pre .0 .0) (l .loop .inv .3) (l .loop .g) j below h) (l .loop .inv .2) (c .before .write-patch .ensures) in
+    (add-one-le below, w .0, w .1, l .loop .inv .3)
 
 same-length : tie.Need-same-length Inv-loop μ-loop
-same-length c = search needs
+same-length c = c .before .loop .inv .1
 
 returns : tie.Need-returns Inv-loop μ-loop
 returns c = filled-all _ _ _ _ _ (omega (arith, c .before .loop .inv .0)) (omega arith) (c .before .loop .inv .2)

@@ -1,6 +1,7 @@
 -- `fill_boundary` meets its contract: the places passed hold their terms, and the others what they held.
 use mathlib.Core.Path.{_≡_}
 use Prim.Native.Nat.{_-_, _≤_}
+use native.Mathlib.Numerals.{add-one-le, add-one-dec}
 use native.Mathlib.Omega.{arith}
 use lib.IntN.{pos}
 use lib.ListN.{length}
@@ -44,13 +45,13 @@ add-c : tie.Need-add-c Inv-loop μ-loop
 add-c c = omega arith
 
 loop-less : tie.Need-loop-less Inv-loop μ-loop
-loop-less c = omega arith
+loop-less c = add-one-dec _ _ (c .before .before .loop-test .taken)
 
 loop-again : tie.Need-loop-again Inv-loop μ-loop
-loop-again c = (omega arith, search needs, filled-more _ _ _ _ _ (omega arith) (c .before .before .before .loop .inv .2) (read-back w64 (c .boundary-term .ok) (c .boundary-term .ensures)))
+loop-again c = (add-one-le (c .before .before .loop-test .taken), search needs, filled-more _ _ _ _ _ (omega arith) (c .before .before .before .loop .inv .2) (read-back w64 (c .boundary-term .ok) (c .boundary-term .ensures)))
 
 same-length : tie.Need-same-length Inv-loop μ-loop
-same-length c = search needs
+same-length c = c .before .loop .inv .1
 
 returns : tie.Need-returns Inv-loop μ-loop
 returns c = search (filled-all, needs)

@@ -2,6 +2,7 @@
 use mathlib.Core.Path.{_≡_, refl}
 use mathlib.Core.List.{[]}
 use Prim.Native.Nat.{_-_, _*_, _≤_}
+use native.Mathlib.Numerals.{add-one-le, add-one-dec}
 use native.Mathlib.Omega.{arith}
 use lib.ListN.{length}
 use mir.Syntax.{w64}
@@ -9,9 +10,9 @@ use borrow.Author.Needs.{needs}
 use Rattle.finite.specs.Filled.{filled}
 use Rattle.finite.proofs.FilledLaws.{filled-start, filled-more, filled-all}
 use Rattle.mesh.specs.IndexedMesh.{indexed}
+use Rattle.patch.specs.Point.{ringTerm}
 use Rattle.patch.specs.Patch.{view}
 use Rattle.patch.proofs.SumLaws.{read-back}
-use Rattle.patch.proofs.TableLaws.{ringTerm}
 use Rattle.patch.proofs.sums.fill_ring.Statement.{statement}
 use Rattle.patch.proofs.sums.fill_ring.Tie as tie
 
@@ -41,13 +42,13 @@ add-c : tie.Need-add-c Inv-loop μ-loop
 add-c c = omega arith
 
 loop-less : tie.Need-loop-less Inv-loop μ-loop
-loop-less c = omega arith
+loop-less c = add-one-dec _ _ (c .before .loop-test .taken)
 
 loop-again : tie.Need-loop-again Inv-loop μ-loop
-loop-again c = (omega arith, search needs, filled-more _ _ _ _ _ (omega arith) (c .before .before .loop .inv .2) (read-back w64 (c .ring-term .ok) (c .ring-term .ensures)))
+loop-again c = (add-one-le (c .before .loop-test .taken), search needs, filled-more _ _ _ _ _ (omega arith) (c .before .before .loop .inv .2) (read-back w64 (c .ring-term .ok) (c .ring-term .ensures)))
 
 same-length : tie.Need-same-length Inv-loop μ-loop
-same-length c = search needs
+same-length c = c .before .loop .inv .1
 
 returns : tie.Need-returns Inv-loop μ-loop
 returns c = filled-all _ _ _ _ _ (c .before .loop .inv .0) (c .loop-test .left) (c .before .loop .inv .2)

@@ -7,10 +7,10 @@ use borrow.Author.Needs.{needs}
 use Rattle.mesh.specs.IndexedMesh.{indexed}
 use Rattle.mesh.specs.Private.{vertexOf}
 use Rattle.mesh.proofs.SizeLaws.{indices-corners}
-use Rattle.patch.specs.Point.{View, ringSum}
+use Rattle.patch.specs.Point.{View, ringSum, ringTerm}
 use Rattle.patch.specs.Patch.{view}
 use Rattle.patch.proofs.SumLaws.{filled-size, filled-gather}
-use Rattle.patch.proofs.TableLaws.{ringTerm, ring-term-size}
+use Rattle.patch.proofs.TableLaws.{ring-term-size}
 use Rattle.patch.proofs.sums.ring_sums.Statement.{statement}
 use Rattle.patch.proofs.sums.ring_sums.Tie as tie
 

@@ -2,14 +2,14 @@
 use mathlib.Core.Path.{_≡_, refl, ap, _∙_}
 use Prim.Native.Nat.{ℕ, _-_, _*_, _<_, _≤_}
 use native.Mathlib.Nat.{le-antisymm}
+use native.Mathlib.Numerals.{add-one-le, add-one-dec}
 use native.Mathlib.Omega.{arith}
 use lib.Dec.{eqb}
 use lib.IntN.{pos, natAbs, _+ℤ_}
-use lib.ListN.{length, getD}
+use lib.ListN.{length, getD, length-set}
 use mir.Syntax.{w64}
 use mir.Val.{SFits}
 use mir.Facts.{toZ-ofZ}
-use borrow.Author.Needs.{needs}
 use Rattle.finite.specs.Fold.{gather}
 use Rattle.finite.proofs.Gather.{Gathered, gathered-none, gathered-more}
 use Rattle.finite.proofs.IntegerSum.{sumℤ-monoid}
@@ -103,7 +103,7 @@ add-c : tie.Need-add-c Inv-loop μ-loop
 add-c c = omega arith
 
 loop-less : tie.Need-loop-less Inv-loop μ-loop
-loop-less c = omega arith
+loop-less c = add-one-dec _ _ (c .before .before .before .before .before .loop-test .taken)
 
 loop-again : tie.Need-loop-again Inv-loop μ-loop
 loop-again c =
@@ -111,14 +111,14 @@ loop-again c =
     let l = turn (c .before) in
     let s = start (c .before) in
     let h = inside w in (
-      omega arith,
-      search needs,
+      add-one-le (c .before .before .before .before .before .loop-test .taken),
+      length-set (l .loop .sums) (w .wide .result) _ ∙ l .loop .inv .1,
       gathered-more sumℤ-monoid (vertexOf (s .args .faces .now)) (λ d. getD (s .args .terms .now) d (pos 0)) maxVertices (l .loop .c) (w .wide .result) _ (l .loop .sums)
           (omega arith) (w .wide .ensures) (read-back w64 (c .plus .ok) (simp (toZ-ofZ (sum-fits (c .before)), toZ-ofZ (term-fits (c .before))) at (c .plus .ensures))) (l .loop .inv .2),
     )
 
 same-length : tie.Need-same-length Inv-loop μ-loop
-same-length c = search needs
+same-length c = c .before .loop .inv .1
 
 returns : tie.Need-returns Inv-loop μ-loop
 returns c = λ p h.

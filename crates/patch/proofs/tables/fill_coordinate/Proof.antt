@@ -2,10 +2,11 @@
 use mathlib.Core.Path.{_≡_, refl, sym, ap, _∙_}
 use Prim.Native.Nat.{ℕ, _+_, _-_, _*_, _<_, _≤_}
 use native.Mathlib.Nat.{not-suc-le-zero}
+use native.Mathlib.Numerals.{add-one-le, add-one-dec}
 use native.Mathlib.Omega.{arith}
 use lib.Dec.{eqb}
 use lib.IntN.{ℤ, pos, natAbs}
-use lib.ListN.{length, getD, getD-replicate}
+use lib.ListN.{length, getD, getD-replicate, length-set}
 use mir.Syntax.{w32, w64}
 use mir.Val.{SFits, toZ, ofZ}
 use mir.Facts.{toZ-ofZ}
@@ -16,7 +17,7 @@ use Rattle.patch.specs.Point.{View, inside, sharp, sharpSum, ringSum, co
 use Rattle.patch.specs.Patch.{view, units}
 use Rattle.patch.specs.Private.{vertexWeight}
 use Rattle.patch.proofs.SumLaws.{read-back}
-use Rattle.patch.proofs.TableLaws.{accepted-indices, accepted-placed, ring-size, sharp-size, weight-range, faces-weight, inside-count, corner-entries, strided-more, strided-other}
+use Rattle.patch.proofs.TableLaws.{accepted-indices, accepted-placed, corner-asked, sharp-size, inside-count, corner-entries, strided-more, strided-other}
 use Rattle.patch.proofs.tables.fill_coordinate.Statement.{statement}
 use Rattle.patch.proofs.tables.fill_coordinate.Tie as tie
 
@@ -146,11 +147,9 @@ corner-point-requires : tie.Need-corner-point-requires Inv-loop μ-loop
 corner-point-requires c κs =
     let s = start (head c) in
     let a = s .pre .0 .0 in
-    let w = weight-range a (p c) (below c) in
-    let r = ring-size a (s .args .k) (s .pre .1 .0 .0) (p c) in
-    rw (value-read c, ring-read c, sharp-read c, weight-read c) (
-      (w .0, w .1, a .coordinates (3 * p c + s .args .k) (omega (arith, below c, s .pre .1 .0 .0)), omega (arith, r, faces-weight (mesh (head c)) (p c))),
-      λ e. sharp-size a (s .args .k) (s .pre .1 .0 .0) (p c) (below c) (sym (inside-read c) ∙ e),
+    let axis = s .pre .1 .0 .0 in (
+      corner-asked a (s .args .k) axis (p c) (below c) _ _ _ (weight-read c) (value-read c) (ring-read c),
+      λ e. rw (sharp-read c) (sharp-size a (s .args .k) axis (p c) (below c) (sym (inside-read c) ∙ e)),
     )
 
 mul-t39 : tie.Need-mul-t39 Inv-loop μ-loop
@@ -163,7 +162,15 @@ add-p : tie.Need-add-p Inv-loop μ-loop
 add-p c = omega arith
 
 loop-less : tie.Need-loop-less Inv-loop μ-loop
-loop-less c = omega arith
+loop-less c = add-one-dec _ _ (c .before .before .before .before .before .before .before .before .loop-test .taken)
+
+-- what was stored for vertex p
+written : (c : tie.After-corner-point Inv-loop μ-loop) → toZ w32 (ofZ w32 (c .corner-point .result)) ≡ units (cornerPoint (S (c .before)) (p (c .before)))
+written c =
+    let w = c .before in
+    read-back w32 (c .corner-point .ok)
+    (c .corner-point .ensures
+    ∙ ap units (corner-entries (mesh (head w)) (p w) (start (head w) .args .k) _ _ _ _ _ (inside-read w) (weight-read w) (value-read w) (ring-read w) (sharp-read w)))
 
 loop-again : tie.Need-loop-again Inv-loop μ-loop
 loop-again c =
@@ -171,18 +178,15 @@ loop-again c =
     let l = head w in
     let k = start l .args .k in
     let axis = start l .pre .1 .0 .0 in (
-      omega arith,
+      add-one-le (c .before .before .before .before .before .before .before .before .loop-test .taken),
       l .loop .inv .1,
-      search needs,
-      strided-more k (p w) _ (l .loop .points) axis (λ q. units (cornerPoint (S w) q)) (slice-set-from-points c)
-          (read-back w32 (c .corner-point .ok)
-          (c .corner-point .ensures ∙ ap units (corner-entries (mesh l) (p w) k _ _ _ _ _ (inside-read w) (weight-read w) (value-read w) (ring-read w) (sharp-read w))))
-          (l .loop .inv .3),
+      length-set (l .loop .points) (3 * p w + k) _ ∙ l .loop .inv .2,
+      strided-more k (p w) _ (l .loop .points) axis (λ q. units (cornerPoint (S w) q)) (slice-set-from-points c) (written c) (l .loop .inv .3),
       λ q j b n. strided-other k (p w) _ (l .loop .points) axis q j b n ∙ l .loop .inv .4 q j b n,
     )
 
 same-length : tie.Need-same-length Inv-loop μ-loop
-same-length c = search needs
+same-length c = c .before .loop .inv .2
 
 returns : tie.Need-returns Inv-loop μ-loop
 returns c = ((λ p h. c .before .loop .inv .3 p (omega arith)), c .before .loop .inv .4)

@@ -3,7 +3,8 @@ use mathlib.Core.Path.{_≡_, refl, ap, _∙_}
 use mathlib.Core.Bool.{Bool, cond}
 use mathlib.Core.List.{List}
 use Prim.Native.Nat.{ℕ, _+_, _-_, _*_, _<_, _≤_}
-use native.Mathlib.Nat.{not-suc-le-zero, lt-of-lt-of-le}
+use native.Mathlib.Nat.{not-suc-le-zero, le-trans, lt-of-lt-of-le}
+use native.Mathlib.Numerals.{add-one-le, add-one-dec}
 use native.Mathlib.Omega.{arith}
 use lib.Dec.{eqb}
 use lib.IntN.{ℤ, pos, natAbs}
@@ -49,6 +50,9 @@ module _ (c : tie.After-fill-weights Inv-loop μ-loop) where
       ap (λ (w : List ℕ). getD w p 0) (c .fill-weights .ensures) ∙ filled-at _ (start .args .v) p (start .args .weights .now) 0 l
       ∙ ap (λ (b : Bool). cond b m (2 * m)) (ap (λ (z : ℤ). eqb (natAbs z) 0) h ∙ inside-count (mesh start) p)
 
+  weights-long : start .args .v ≤ length (c .fill-weights .last .1 .1 .1 .1 .0)
+  weights-long = rw (c .fill-weights .kept .1 .1 .1 .1 .0) (le-trans (start .pre .0 .sized .vertices-high) (start .pre .1 .0 .1))
+
 mul-count-leaving : tie.Need-mul-count-leaving Inv-loop μ-loop
 mul-count-leaving c = omega (arith, c .before .before .before .before .pre .0 .sized .faces-high)
 
@@ -80,32 +84,32 @@ fill-coordinate-requires c κs =
     let w = c .before .before .before .before .before .before .before in
     let s = start w in
     let t = s .pre .0 .sized .vertices-high in (
-      (s .pre .0, s .pre .1 .0 .0, omega (arith, counted w .count-leaving .kept .1 .1 .1 .0), omega (arith, w .fill-weights .kept .1 .1 .1 .1 .0, s .pre .1 .0 .1)),
-      ((omega arith, omega (arith, s .pre .1 .0 .2)), (s .pre .1 .1, (counted w .count-leaving .ensures, weights-are w))),
+      (s .pre .0, s .pre .1 .0 .0, omega (arith, counted w .count-leaving .kept .1 .1 .1 .0), weights-long w),
+      ((c .before .before .before .loop-test .taken, omega (arith, s .pre .1 .0 .2)), (s .pre .1 .1, (counted w .count-leaving .ensures, weights-are w))),
     )
 
 add-k : tie.Need-add-k Inv-loop μ-loop
 add-k c = omega arith
 
 loop-less : tie.Need-loop-less Inv-loop μ-loop
-loop-less c = omega arith
+loop-less c = add-one-dec _ _ (c .before .before .before .before .before .loop-test .taken)
 
 loop-again : tie.Need-loop-again Inv-loop μ-loop
 loop-again c =
     let l = c .before .before .before .before .before .before in
     let s = start (l .before .before .before) in (
-      omega arith,
-      search needs,
+      add-one-le (c .before .before .before .before .before .loop-test .taken),
+      c .before .fill-coordinate .kept .1 .1 .1 .1 .1 .1 .1 .1 .1 .0 ∙ l .loop .inv .1,
       strided-all (s .args .v) (l .loop .k) (l .loop .points) (c .before .fill-coordinate .last .1 .1 .1 .1 .1 .1 .1 .1 .1 .0) (λ j p. units (cornerPoint (view (mesh s) j) p))
           (c .before .before .before .before .before .loop-test .taken)
           (c .before .fill-coordinate .ensures .0) (c .before .fill-coordinate .ensures .1) (l .loop .inv .2),
     )
 
 same-length : tie.Need-same-length Inv-loop μ-loop
-same-length c = search needs
+same-length c = c .before .before .before .before .fill-weights .kept .1 .1 .1 .1 .0
 
 same-length-2 : tie.Need-same-length-2 Inv-loop μ-loop
-same-length-2 c = search needs
+same-length-2 c = c .before .loop .inv .1
 
 returns : tie.Need-returns Inv-loop μ-loop
 returns c =
@@ -115,7 +119,7 @@ returns c =
     record {
       twins-listed = s .pre .1 .0 .0;
       twins-are = s .pre .1 .1;
-      weights-listed = omega (arith, w .fill-weights .kept .1 .1 .1 .1 .0, s .pre .1 .0 .1);
+      weights-listed = weights-long w;
       weights-are = weights-are w;
       points-listed = omega (arith, c .before .loop .inv .1, s .pre .1 .0 .2);
       points-are = λ p k l b. c .before .loop .inv .2 p k l (omega (arith, b));

@@ -4,10 +4,11 @@ use mathlib.Core.Bool.{Bool, cond}
 use mathlib.Core.List.{List}
 use Prim.Native.Nat.{ℕ, _-_, _*_, _≤_}
 use native.Mathlib.Nat.{lt-of-lt-of-le}
+use native.Mathlib.Numerals.{add-one-le, add-one-dec}
 use native.Mathlib.Omega.{arith}
 use lib.Dec.{eqb}
 use lib.IntN.{ℤ, pos, natAbs}
-use lib.ListN.{length, getD, getD-replicate}
+use lib.ListN.{length, getD, getD-replicate, length-set}
 use mir.Syntax.{w64}
 use mir.Val.{SFits, toZ, ofZ}
 use mir.Facts.{toZ-ofZ}
@@ -98,19 +99,19 @@ add-p : tie.Need-add-p Inv-loop μ-loop
 add-p c = omega arith
 
 loop-less : tie.Need-loop-less Inv-loop μ-loop
-loop-less c = omega arith
+loop-less c = add-one-dec _ _ (c .before .before .before .before .loop-test .taken)
 
 loop-again : tie.Need-loop-again Inv-loop μ-loop
 loop-again c =
     let l = head (c .before) in (
-      omega arith,
-      search needs,
-      filled-more _ _ _ _ _ (omega arith) (l .loop .inv .2)
+      add-one-le (c .before .before .before .before .loop-test .taken),
+      length-set (l .loop .weights) (l .loop .p) _ ∙ l .loop .inv .1,
+      filled-more _ _ _ _ _ (lt-of-lt-of-le (c .before .before .before .before .loop-test .taken) (start (c .before) .pre .3)) (l .loop .inv .2)
           (c .weight .ensures ∙ ap₂ (λ (b : Bool) (m : ℕ). cond b m (2 * m)) (inside-read (c .before)) (ap natAbs (valence-read (c .before)))),
     )
 
 same-length : tie.Need-same-length Inv-loop μ-loop
-same-length c = search needs
+same-length c = c .before .loop .inv .1
 
 returns : tie.Need-returns Inv-loop μ-loop
 returns c = filled-all _ _ _ _ _ (c .before .loop .inv .0) (c .loop-test .left) (c .before .loop .inv .2)

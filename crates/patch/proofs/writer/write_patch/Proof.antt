@@ -1,50 +1,66 @@
--- `write_patch` meets its contract: the places passed hold their numbers, and the others what they held.
+-- `write_patch` meets its contract: each point fills the next three places, and the places behind the sixteenth hold what they held.
 use mathlib.Core.Path.{_≡_, refl}
-use Prim.Native.Nat.{_-_, _≤_}
+use Prim.Native.Nat.{_+_, _*_, _-_, _≤_}
+use native.Mathlib.Numerals.{add-one-le, add-one-dec}
 use native.Mathlib.Omega.{arith}
 use lib.ListN.{length}
-use mir.Syntax.{w32}
-use borrow.Author.Needs.{needs}
 use Rattle.finite.specs.Filled.{filled}
-use Rattle.finite.proofs.FilledLaws.{filled-start, filled-more, filled-all}
+use Rattle.finite.proofs.FilledLaws.{filled-start, filled-all, stretch-long, filled-stretch}
 use Rattle.patch.specs.Private.{numberFrom}
-use Rattle.patch.proofs.SumLaws.{read-back}
 use Rattle.patch.proofs.writer.write_patch.Statement.{statement}
 use Rattle.patch.proofs.writer.write_patch.Tie as tie
 
 abbrev Inv-loop : tie.InvT-loop
-Inv-loop positions faces twins weights points g patch₀ i₀ patch i =
-    (i ≤ 48) × (length patch ≡ length patch₀) × (patch ≡ filled (numberFrom positions faces points g) i patch₀)
+Inv-loop positions faces twins weights points g patch₀ m₀ patch m =
+    (m ≤ 16) × (length patch ≡ length patch₀) × (patch ≡ filled (numberFrom positions faces points g) (3 * m) patch₀)
 
 abbrev μ-loop : tie.MeasureT-loop
-μ-loop positions faces twins weights points g patch₀ i₀ patch i = 48 - i
+μ-loop positions faces twins weights points g patch₀ m₀ patch m = 16 - m
 
 loop-holds : tie.Need-loop-holds Inv-loop μ-loop
 loop-holds c = (omega arith, refl, filled-start _ _)
 
-number-requires : tie.Need-number-requires Inv-loop μ-loop
-number-requires c κs = search needs
+mul-at : tie.Need-mul-at Inv-loop μ-loop
+mul-at c = omega arith
 
-mul-t11 : tie.Need-mul-t11 Inv-loop μ-loop
-mul-t11 c = search needs
+mul-write-numbered : tie.Need-mul-write-numbered Inv-loop μ-loop
+mul-write-numbered c = omega arith
 
-slice-set-from-patch : tie.Need-slice-set-from-patch Inv-loop μ-loop
-slice-set-from-patch c = search needs
+sub-write-numbered : tie.Need-sub-write-numbered Inv-loop μ-loop
+sub-write-numbered c = omega arith
 
-add-i : tie.Need-add-i Inv-loop μ-loop
-add-i c = search needs
+part-write-numbered-start : tie.Need-part-write-numbered-start Inv-loop μ-loop
+part-write-numbered-start c = omega arith
+
+part-write-numbered-end : tie.Need-part-write-numbered-end Inv-loop μ-loop
+part-write-numbered-end c = omega arith
+
+write-numbered-requires : tie.Need-write-numbered-requires Inv-loop μ-loop
+write-numbered-requires c κs =
+    let l = c .before .before in
+    let s = l .before .before .before .before in
+    (s .pre .0, s .pre .1, c .before .loop-test .taken, stretch-long (3 * l .loop .m) 3 (l .loop .patch) (omega (arith, s .pre .2, l .loop .inv .1, c .before .loop-test .taken)))
+
+add-m : tie.Need-add-m Inv-loop μ-loop
+add-m c = omega arith
 
 loop-less : tie.Need-loop-less Inv-loop μ-loop
-loop-less c = search needs
+loop-less c = add-one-dec _ _ (c .before .before .before .loop-test .taken)
 
 loop-again : tie.Need-loop-again Inv-loop μ-loop
-loop-again c = (omega arith, search needs, filled-more _ _ _ _ _ (omega arith) (c .before .before .loop .inv .2) (read-back w32 (c .number .ok) (c .number .ensures)))
+loop-again c =
+    let l = c .before .before .before .before in
+    let s = l .before .before .before .before in
+    let below = c .before .before .before .loop-test .taken in
+    let w = filled-stretch (numberFrom (s .args .positions .now) (s .args .faces .now) (s .args .points .now) (s .args .g)) _ (3 * l .loop .m) 3 (3 * (l .loop .m + 1)) (s .args .patch .now)
+    (l .loop .patch) _ (omega arith) (omega (arith, s .pre .2, below)) (λ j h. refl) (l .loop .inv .2) (c .before .write-numbered .ensures) in
+    (add-one-le below, w .0, w .1)
 
 same-length : tie.Need-same-length Inv-loop μ-loop
-same-length c = search needs
+same-length c = c .before .loop .inv .1
 
 returns : tie.Need-returns Inv-loop μ-loop
-returns c = filled-all _ _ _ _ _ (c .before .loop .inv .0) (c .loop-test .left) (c .before .loop .inv .2)
+returns c = filled-all _ _ _ _ _ (omega (arith, c .before .loop .inv .0)) (omega arith) (c .before .loop .inv .2)
 
 pub write-patch-spec : {M : Type 1} → statement M
 write-patch-spec =
@@ -53,10 +69,13 @@ write-patch-spec =
     Inv-loop
     μ-loop
     loop-holds
-    number-requires
-    mul-t11
-    slice-set-from-patch
-    add-i
+    mul-at
+    mul-write-numbered
+    sub-write-numbered
+    part-write-numbered-start
+    part-write-numbered-end
+    write-numbered-requires
+    add-m
     loop-less
     loop-again
     same-length

@@ -1,0 +1,58 @@
+-- `write_numbered` meets its contract: the two tables are those of the definitions.
+use mathlib.Core.Path.{sym, _∙_}
+use Prim.Native.Nat.{_<_}
+use native.Mathlib.Omega.{arith}
+use borrow.Author.Needs.{needs}
+use Rattle.finite.proofs.FilledLaws.{filled-ext}
+use Rattle.patch.specs.Point.{inner}
+use Rattle.patch.specs.Patch.{owner, kind}
+use Rattle.patch.specs.Private.{kindOf}
+use Rattle.patch.proofs.FacePointLaws.{owner-listed, number-point, owner-below, table-at}
+use Rattle.patch.proofs.writer.write_numbered.Statement.{statement}
+use Rattle.patch.proofs.writer.write_numbered.Tie as tie
+
+array-copy-out-kind : tie.Need-array-copy-out-kind
+array-copy-out-kind c = omega arith
+
+mul-turned : tie.Need-mul-turned
+mul-turned c = omega arith
+
+array-read-turned : tie.Need-array-read-turned
+array-read-turned c = omega arith
+
+mul-turned-2 : tie.Need-mul-turned-2
+mul-turned-2 c = omega arith
+
+turned-requires : tie.Need-turned-requires
+unfolding owner
+turned-requires c κs = owner-below (c .before .before .before .before .args .m) (omega arith)
+
+write-point-requires : tie.Need-write-point-requires
+write-point-requires c κs =
+    let s = c .before .before .before .before .before .before in
+    (s .pre .0, owner-listed (s .pre .0) (s .args .g) _ _ (s .pre .1) (c .before .turned .ensures), s .pre .3)
+
+same-length : tie.Need-same-length
+same-length c = search needs
+
+-- `table-at` asks for l
+returns : tie.Need-returns
+unfolding owner kind
+returns c =
+    let s = c .before .before .before .before .before .before .before .before in
+    let l : s .args .m < 16 = s .pre .2 in
+    (rw (c .before .before .before .turned .ensures, table-at kindOf inner) at (c .before .write-point .ensures))
+    ∙ sym (filled-ext 3 (s .args .point .now) (λ k b. number-point (s .args .positions .now) (s .args .faces .now) (s .args .points .now) (s .args .g) (s .args .m) k b))
+
+pub write-numbered-spec : {M : Type 1} → statement M
+write-numbered-spec =
+    tie.close
+    (tie.spec
+    array-copy-out-kind
+    mul-turned
+    array-read-turned
+    mul-turned-2
+    turned-requires
+    write-point-requires
+    same-length
+    returns)
