@@ -1,7 +1,7 @@
-"""Document 01 read once more, for the trials of the patch call: control points as fractions, samples, seams and renumbering.
+"""Document 01 read once more, for the trials and the vectors: control points as fractions, samples, seams and renumbering.
 
 A mask is read off the document's sentence, over the sets of vertices and faces that the sentence names; there are no half-edges,
-twins or fans here. tools/trials.py uses it.
+twins or fans here. tools/meshes.py, tools/trials.py and tools/vectors.py use it.
 """
 
 from dataclasses import dataclass

@@ -1,4 +1,4 @@
-"""The shapes of the trials: a number of vertices and a list of faces, each four vertex numbers. tools/trials.py uses them."""
+"""The shapes of the trials and the vectors: a number of vertices and a list of faces, each four vertex numbers."""
 
 from dataclasses import dataclass
 

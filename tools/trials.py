@@ -1,21 +1,35 @@
 #!/usr/bin/env python3
 """Writes the trials of crates/trials: data/ (a file a trial), args (their names) and stdout (what the program has to print).
 
-What is expected is computed here and in patches.py from document 01, of a mesh by sets and dictionaries over the whole of it and of
-control points and samples by fractions, and not as the library does it, so the gate compares two readings of the document. A trial's
-name says what it is, and ends in -refused-N where the call says no.
+What is expected is computed here, in meshes.py and in patches.py from document 01, of a mesh by sets and dictionaries over the whole
+of it and of control points and samples by fractions, and not as the library does it, so the gate compares two readings of the
+document. A trial's name says what it is, and ends in -refused-N where the call says no.
 """
 
 import random
 import struct
 from dataclasses import dataclass
 from fractions import Fraction
-from functools import cached_property
 from itertools import count, product
 from math import comb
 from pathlib import Path
 
-from patches import PATCH, Surface, assert_seams, exact_samples, rounded, shuffled
+from meshes import (
+    BOUNDARY_FACES,
+    CONTROL,
+    CONTROLS,
+    INNER_VALENCES,
+    MESH_FAULTS,
+    NO_MATE,
+    STEPS,
+    Mesh,
+    MeshReading,
+    PatchReading,
+    changed,
+    numbered,
+    spoiled,
+)
+from patches import PATCH, shuffled
 from shapes import (
     Shape,
     across_twice,
@@ -41,18 +55,6 @@ from shapes import (
 
 CRATE = Path(__file__).resolve().parent.parent / "crates" / "trials"
 
-# The limits of document 01.
-VERTICES = range(4, 512 + 1)
-FACES = range(1, 256 + 1)
-COORDINATES = range(-1048576, 1048576 + 1)
-TAGS = range(0, 1 + 1)
-INNER_VALENCES = range(3, 16 + 1)
-BOUNDARY_FACES = range(1, 8 + 1)
-NO_MATE = 65535
-CONTROL = 268435456
-CONTROLS = range(-CONTROL, CONTROL + 1)
-STEPS = range(1, 32 + 1)
-
 # What the program fills the lent lists with, and the places that it has for a list, for that of patches, and of that in clear.
 FILLING = 7
 PLACES = 2048
@@ -72,38 +74,27 @@ PATCH_RANDOM = random.Random(20250608)
 
 
 @dataclass
-class MeshTrial:
-    v: int
-    f: int
-    positions: list
-    tags: list
-    faces: list
+class MeshTrial(Mesh):
     twins: int
 
     def bytes(self):
         """The trial's file, as crates/trials/src/reading.rt has it."""
         assert self.v not in (SAMPLE, HEAD)
         sizes = struct.pack("<6H", self.v, self.f, len(self.positions), len(self.tags), len(self.faces), self.twins)
-        positions = struct.pack(f"<{len(self.positions)}i", *self.positions)
-        return sizes + positions + bytes(self.tags) + struct.pack(f"<{len(self.faces)}H", *self.faces)
+        return sizes + self.packed()
 
     def answer(self):
         return MeshAnswer(self)
 
 
+def trial_of(mesh):
+    """A mesh, and a lent list three places longer than need be."""
+    return MeshTrial(**vars(mesh), twins=4 * mesh.f + 3)
+
+
 def mesh(shape):
-    """A shape with positions of its own, smooth, and a lent list three places longer than need be."""
-    n = shape.vertices
-    positions = [x for p in range(n) for x in (21 * p, p * p % 1009, -p)]
-    return MeshTrial(n, len(shape.faces), positions, [0] * n, [p for face in shape.faces for p in face], 4 * len(shape.faces) + 3)
-
-
-def changed(trial, **changes):
-    """A trial with other numbers: v=5, positions={place: value} for an entry, and so on."""
-    for name, change in changes.items():
-        old = getattr(trial, name)
-        setattr(trial, name, [change.get(i, x) for i, x in enumerate(old)] if isinstance(change, dict) else change)
-    return trial
+    """A shape with positions of its own, smooth."""
+    return trial_of(numbered(shape))
 
 
 def shortened(trial, name):
@@ -218,64 +209,11 @@ def two_sums(numbers):
     return [first % 2**32, second % 2**32]
 
 
-class MeshAnswer:
-    """What document 01 says of a trial's mesh."""
-
-    def __init__(self, trial):
-        self.trial = trial
-        self.quads = [trial.faces[c : c + 4] for c in range(0, len(trial.faces) - 3, 4)]
-        # The two ends of side 4f + s, and the mate of each side.
-        self.sides = [(quad[s], quad[(s + 1) % 4]) for quad in self.quads for s in range(4)]
-        number = {ends: c for c, ends in enumerate(self.sides)}
-        self.mates = [number.get((b, a)) for a, b in self.sides]
-        # The corners at each vertex, and whether every side that leaves it has a mate.
-        self.corners = {}
-        for c, (p, _) in enumerate(self.sides):
-            self.corners.setdefault(p, []).append(c)
-        self.fans = {p: self.parted(corners) for p, corners in self.corners.items()}
-        self.inner = {p: all(self.mates[c] is not None for c in corners) for p, corners in self.corners.items()}
-
-    def parted(self, corners):
-        """The corners at a vertex, parted into sets that turning about the vertex joins."""
-        fans = [{c} for c in corners]
-        for c in corners:
-            # The next corner is the start of the mate of the side that comes in.
-            after = self.mates[c - c % 4 + (c + 3) % 4]
-            joined = [fan for fan in fans if c in fan or after in fan]
-            fans = [fan for fan in fans if fan not in joined] + [set().union(*joined)]
-        return fans
-
-    def whole(self):
-        """The vertices whose corners form one turn or one chain, each with the number of its corners."""
-        return [(p, len(fans[0])) for p, fans in self.fans.items() if len(fans) == 1]
+class MeshAnswer(MeshReading):
+    """What document 01 says of a trial's mesh and its lent list."""
 
     def lent_short(self):
-        return self.trial.twins < 4 * self.trial.f
-
-    def causes(self):
-        """The numbers of all causes that are met, in order; the answer is the first."""
-        t = self.trial
-        met = {
-            1: t.v not in VERTICES or t.f not in FACES or len(t.positions) != 3 * t.v or len(t.tags) != t.v or len(t.faces) != 4 * t.f,
-            2: self.lent_short(),
-            3: any(x not in COORDINATES for x in t.positions),
-            4: any(x not in TAGS for x in t.tags),
-            5: any(p >= t.v for p in t.faces),
-            6: any(len(set(quad)) < 4 for quad in self.quads),
-            7: len(set(self.sides)) < len(self.sides),
-            8: any(p not in self.fans for p in range(t.v)),
-            9: any(len(fans) > 1 for fans in self.fans.values()),
-            10: any(count not in (INNER_VALENCES if self.inner[p] else BOUNDARY_FACES) for p, count in self.whole()),
-            11: any(self.inner[p] and t.tags[p : p + 1] == [1] for p in self.fans),
-        }
-        return [number for number, holds in met.items() if holds]
-
-    def counts(self):
-        """V, F, E and B of an accepted mesh."""
-        t = self.trial
-        edges, boundary = len({frozenset(ends) for ends in self.sides}), self.mates.count(None)
-        assert 4 * t.f + boundary == 2 * edges
-        return [t.v, t.f, edges, boundary]
+        return self.mesh.twins < 4 * self.mesh.f
 
     def twins(self):
         """The lent list after the call."""
@@ -283,10 +221,10 @@ class MeshAnswer:
         if refusal in range(1, 8):
             written = []
         elif refusal in range(8, 12):
-            written = [NO_MATE] * (4 * self.trial.f)
+            written = [NO_MATE] * (4 * self.mesh.f)
         else:
             written = [NO_MATE if mate is None else mate for mate in self.mates]
-        return written + [FILLING] * (self.trial.twins - len(written))
+        return written + [FILLING] * (self.mesh.twins - len(written))
 
     def words(self):
         """The answer of the call."""
@@ -295,47 +233,20 @@ class MeshAnswer:
 
     def line(self):
         """What the program prints after the trial's name."""
-        twins, n = self.twins(), 4 * self.trial.f
+        twins, n = self.twins(), 4 * self.mesh.f
         shown = [str(twins[i]) if 0 <= i < len(twins) else "-" for i in (0, n - 1, n, len(twins) - 1)]
         return spaced(self.words(), ["twins"], shown)
 
 
-class PatchAnswer(MeshAnswer):
+class PatchAnswer(MeshAnswer, PatchReading):
     """What document 01 says of the patch call, and of the samples of what it wrote."""
 
-    def __init__(self, trial):
-        super().__init__(trial)
-        self.points = [tuple(trial.positions[c : c + 3]) for c in range(0, len(trial.positions) - 2, 3)]
-        self.faces = [tuple(quad) for quad in self.quads]
-
     def lent_short(self):
-        return super().lent_short() or self.trial.patches < PATCH * self.trial.f
-
-    @cached_property
-    def patches(self):
-        """The patch of each face; none of a refused mesh."""
-        if self.causes():
-            return []
-        surface = Surface(self.points, self.trial.tags, self.faces)
-        patches = [surface.patch(f) for f in range(self.trial.f)]
-        assert all(x in CONTROLS for patch in patches for x in patch)
-        return patches
-
-    @cached_property
-    def exact(self):
-        """The samples of each face, before they are rounded."""
-        return [exact_samples(patch, self.trial.n) for patch in self.patches]
-
-    @cached_property
-    def samples(self):
-        samples = [rounded(exact) for exact in self.exact]
-        if samples:
-            assert_seams(samples, self.mates, self.trial.n)
-        return samples
+        return super().lent_short() or self.mesh.patches < PATCH * self.mesh.f
 
     def line(self):
         """What the program prints after the trial's name."""
-        t = self.trial
+        t = self.mesh
         written = [x for patch in self.patches for x in patch]
         after = written + [FILLING] * (t.patches - len(written))
         lines = [spaced(self.words(), ["twins"], self.twins()), spaced([" patches"], two_sums(after))]
@@ -518,42 +429,12 @@ def vertices():
 
 
 # A fault for each cause, as a word for the trial's name.
-FAULTS = {
-    1: "long-tags",
-    2: "short-twins",
-    3: "far-coordinate",
-    4: "tag-2",
-    5: "vertex-v",
-    6: "vertex-twice",
-    7: "same-face-twice",
-    8: "isolated-vertex",
-    9: "bow-tie",
-    10: "pillow",
-    11: "inner-tag",
-}
+FAULTS = {1: "long-tags", 2: "short-twins", **MESH_FAULTS}
 
 
 def with_faults(causes):
-    """A mesh that meets these causes, the later ones earlier in the lists."""
-    spoiled = {
-        11: cube(),
-        10: pillow(),
-        9: bow_tie(),
-        8: isolated(),
-        7: Shape(square().faces * 2),
-        6: Shape([(0, 1, 2, 1)]),
-    }
-    shape = join(*[spoiled[n] for n in sorted(causes, reverse=True) if n in spoiled], square())
-    trial = mesh(shape)
-    last = shape.vertices - 1
-    if 11 in causes:
-        changed(trial, tags={0: 1})
-    if 5 in causes:
-        changed(trial, faces={4 * trial.f - 1: shape.vertices})
-    if 4 in causes:
-        changed(trial, tags={last: 2})
-    if 3 in causes:
-        changed(trial, positions={3 * last: 1048577})
+    """A trial that meets these causes, the later ones earlier in the lists."""
+    trial = trial_of(spoiled(causes))
     if 2 in causes:
         changed(trial, twins=4 * trial.f - 1)
     if 1 in causes:

@@ -1,0 +1,49 @@
+-- `rusketja_reading` meets its contract: the three stores are those of the reading, and a refusal stores nothing.
+use mathlib.Core.Path.{_≡_, refl, subst}
+use Prim.Native.Nat.{ℕ}
+use lib.Ieee.{Float}
+use borrow.Author.Needs.{needs}
+use Rattle.sample.specs.declared.model.Micrometres.{Micrometres}
+use Rattle.sample.specs.declared.model.Reading.{Reading}
+use Rattle.sample.specs.declared.model.Reading.the-variants.{At, Refused}
+use Rattle.sample.specs.Answer.{Answer, point, refusal, Reads, sampleAnswer}
+use Rattle.capi.specs.Answer.{sampleCode, Read}
+use Rattle.capi.proofs.rusketja_reading.Statement.{statement}
+use Rattle.capi.proofs.rusketja_reading.Tie as tie
+
+read-at : (answer : Answer) (p : Micrometres) (x y z : Float) → Reads (At p) answer → (0 ≡ sampleCode answer) × Read answer x y z (p .x) (p .y) (p .z)
+read-at (point a b c) p x y z h = (refl, h)
+read-at (refusal k) p x y z h = absurd h
+
+read-refused : (answer : Answer) (j : ℕ) (x y z : Float) → Reads (Refused j) answer → (j ≡ sampleCode answer) × Read answer x y z x y z
+read-refused (point a b c) j x y z h = absurd h
+read-refused (refusal k) j x y z h = (h, (refl, refl, refl))
+
+-- the answer that the reading holds
+abbrev answer : tie.Start → Answer
+answer s = sampleAnswer (s .args .patches .now) (s .args .f) (s .args .n) (s .args .a) (s .args .b)
+
+reading-requires : tie.Need-reading-requires
+reading-requires c κs = tt
+
+enum-known-p : tie.Need-enum-known-p
+enum-known-p c = search needs
+
+enum-known-k : tie.Need-enum-known-k
+enum-known-k c = search needs
+
+returns : tie.Need-returns
+returns c =
+    let told = c .before .before .before in
+    let s = told .before in
+    read-at (answer s) _ (s .args .x .now) (s .args .y .now) (s .args .z .now) (subst (λ (r : Reading). Reads r (answer s)) (c .before .p .given .1) (told .reading .ensures))
+
+returns-2 : tie.Need-returns-2
+returns-2 c =
+    let told = c .before .before .before in
+    let s = told .before in
+    read-refused (answer s) _ (s .args .x .now) (s .args .y .now) (s .args .z .now) (subst (λ (r : Reading). Reads r (answer s)) (c .before .k .given .1) (told .reading .ensures))
+
+pub rusketja-reading-spec : {M : Type 1} → statement M
+rusketja-reading-spec =
+    tie.close (tie.spec reading-requires enum-known-p enum-known-k returns returns-2)

@@ -1,0 +1,44 @@
+-- `rusketja_sample` meets its contract: the three stores are those of the sample, and a refusal stores nothing.
+use mathlib.Core.Path.{sym, ap, _∙_}
+use mathlib.Core.List.{List, [], _∷_}
+use lib.IntN.{ℤ}
+use mir.Syntax.{w32}
+use mir.Facts.{toZ-ofZ}
+use borrow.Author.Needs.{needs}
+use Rattle.sample.specs.Answer.{Answer, meaning}
+use Rattle.capi.specs.Answer.{sampleCode, sampled}
+use Rattle.capi.proofs.rusketja_sample.Statement.{statement}
+use Rattle.capi.proofs.rusketja_sample.Tie as tie
+
+-- what the three lent numbers held
+abbrev lent : tie.Start → List ℤ
+lent s = s .args .x .now ∷ (s .args .y .now ∷ (s .args .z .now ∷ []))
+
+sample-requires : tie.Need-sample-requires
+sample-requires c κs = tt
+
+enum-known-p : tie.Need-enum-known-p
+enum-known-p c = search needs
+
+enum-known-k : tie.Need-enum-known-k
+enum-known-k c = search needs
+
+returns : tie.Need-returns
+returns c =
+    let at = c .before .before .before .before in
+    let p = at .p .given .0 .0 in
+    let fits = c .struct-told3 .given in
+    let e = sym (ap meaning (at .p .given .1)) ∙ at .before .before .sample .ensures in (
+      ap sampleCode e,
+      rw (toZ-ofZ {w = w32} {z = p .x} (record { sfits = fits .0 .1 }), toZ-ofZ {w = w32} {z = p .y} (record { sfits = fits .1 .0 .1 }), toZ-ofZ {w = w32} {z = p .z} (record { sfits = fits .1 .1 .0 .1 })) (ap (λ (t : Answer). sampled t (lent (at .before .before .before))) e),
+    )
+
+returns-2 : tie.Need-returns-2
+returns-2 c =
+    let at = c .before in
+    let e = sym (ap meaning (at .k .given .1)) ∙ at .before .before .sample .ensures in
+    (ap sampleCode e, ap (λ (t : Answer). sampled t (lent (at .before .before .before))) e)
+
+pub rusketja-sample-spec : {M : Type 1} → statement M
+rusketja-sample-spec =
+    tie.close (tie.spec sample-requires enum-known-p enum-known-k returns returns-2)

@@ -1,0 +1,169 @@
+//! The calls of the library for C: each returns a number, and the results go into numbers that the caller lends.
+use mesh::model::Checked;
+use sample::model::Reading;
+use sample::model::Sampled;
+ghost use mathlib.Core.List.{_∷_, []};
+ghost use mathlib.Core.Path.{_≡_};
+ghost use lib.ListN.{length, take, drop};
+ghost use Rattle.mesh.specs.IndexedMesh.{indexed};
+ghost use Rattle.mesh.specs.Answer.{meaning, checkAnswer, checkTwins, faceCorners};
+ghost use Rattle.patch.specs.Answer.{patchAnswer, patchTwins, patchList};
+ghost use Rattle.sample.specs.Answer.{sampleAnswer};
+ghost use Rattle.capi.specs.Answer.{code, counted, firstCorner, sampleCode, sampled, Read};
+
+// The corners of face f: `mesh::face_corners`, whose part of the face list C is told by its first place and its length.
+// Returns: the number of corners, 4, or 0 where 4f + 4 is above the length of indices.
+// Writes: 4f, the place of the first corner in indices, into first. Leaves alone: first where it returns 0.
+// Refuses: nothing.
+#[no_mangle]
+pub extern "C" fn rusketja_face_corners(indices: &[u16], f: usize, first: &mut usize) -> usize
+    ensures { λ r. ⌜ r ≡ length (faceCorners (now (indices .entry)) f) ⌝ }
+    ensures { λ r. ⌜ now (first .exit) ≡ firstCorner (faceCorners (now (indices .entry)) f) f (now (first .entry)) ⌝ }
+    ensures { λ r. ⌜ take r (drop (now (first .exit)) (now (indices .entry))) ≡ faceCorners (now (indices .entry)) f ⌝ }
+{
+    let corners = mesh::face_corners(indices, f);
+    let n = corners.len();
+    if n != 0 {
+        *first = 4 * f;
+    }
+    n
+}
+
+// The number that a mesh call returns, with the counts of an accepted mesh stored into the four lent numbers.
+fn store_counts(
+    answer: Checked,
+    vertices: &mut usize,
+    faces: &mut usize,
+    edges: &mut usize,
+    boundary: &mut usize,
+) -> u8
+    ensures { λ r. ⌜ r ≡ code (meaning answer) ⌝ }
+    ensures { λ r. ⌜ now (vertices .exit) ∷ (now (faces .exit) ∷ (now (edges .exit) ∷ (now (boundary .exit) ∷ []))) ≡ counted (meaning answer) (now (vertices .entry) ∷ (now (faces .entry) ∷ (now (edges .entry) ∷ (now (boundary .entry) ∷ [])))) ⌝ }
+{
+    match answer {
+        Checked::Accepted(m) => {
+            *vertices = m.vertices;
+            *faces = m.faces;
+            *edges = m.edges;
+            *boundary = m.boundary;
+            0
+        }
+        Checked::Refused(k) => k,
+    }
+}
+
+// The check of a whole mesh of v vertices and f faces: `mesh::check`.
+// Returns: 0 for an accepted mesh, or the number of the refusal.
+// Writes: V, F, E and B of an accepted mesh into vertices, faces, edges and boundary; the twins as `mesh::check` does.
+// Leaves alone: the four lent numbers after a refusal; the twins as `mesh::check` does.
+// Refuses, and units: as `mesh::check`.
+#[no_mangle]
+pub extern "C" fn rusketja_check(
+    v: usize,
+    f: usize,
+    positions: &[i32],
+    tags: &[u8],
+    indices: &[u16],
+    twins: &mut [u16],
+    vertices: &mut usize,
+    faces: &mut usize,
+    edges: &mut usize,
+    boundary: &mut usize,
+) -> u8
+    ensures { λ r. ⌜ r ≡ code (checkAnswer (indexed v f (now (positions .entry)) (now (tags .entry)) (now (indices .entry))) (now (twins .entry))) ⌝ }
+    ensures { λ r. ⌜ now (vertices .exit) ∷ (now (faces .exit) ∷ (now (edges .exit) ∷ (now (boundary .exit) ∷ []))) ≡ counted (checkAnswer (indexed v f (now (positions .entry)) (now (tags .entry)) (now (indices .entry))) (now (twins .entry))) (now (vertices .entry) ∷ (now (faces .entry) ∷ (now (edges .entry) ∷ (now (boundary .entry) ∷ [])))) ⌝ }
+    ensures { λ r. ⌜ now (twins .exit) ≡ checkTwins (indexed v f (now (positions .entry)) (now (tags .entry)) (now (indices .entry))) (now (twins .entry)) ⌝ }
+{
+    let answer = mesh::check(v, f, positions, tags, indices, twins);
+    store_counts(answer, vertices, faces, edges, boundary)
+}
+
+// The patches of a mesh of v vertices and f faces, which is checked first: `patch::patches`.
+// Returns: 0 for an accepted mesh, or the number of the refusal.
+// Writes: V, F, E and B of an accepted mesh into vertices, faces, edges and boundary; the twins and the patches as
+// `patch::patches` does.
+// Leaves alone: the four lent numbers after a refusal; the twins and the patches as `patch::patches` does.
+// Refuses, and units: as `patch::patches`.
+#[no_mangle]
+pub extern "C" fn rusketja_patches(
+    v: usize,
+    f: usize,
+    positions: &[i32],
+    tags: &[u8],
+    indices: &[u16],
+    twins: &mut [u16],
+    patches: &mut [i32],
+    vertices: &mut usize,
+    faces: &mut usize,
+    edges: &mut usize,
+    boundary: &mut usize,
+) -> u8
+    ensures { λ r. ⌜ r ≡ code (patchAnswer (indexed v f (now (positions .entry)) (now (tags .entry)) (now (indices .entry))) (now (twins .entry)) (now (patches .entry))) ⌝ }
+    ensures { λ r. ⌜ now (vertices .exit) ∷ (now (faces .exit) ∷ (now (edges .exit) ∷ (now (boundary .exit) ∷ []))) ≡ counted (patchAnswer (indexed v f (now (positions .entry)) (now (tags .entry)) (now (indices .entry))) (now (twins .entry)) (now (patches .entry))) (now (vertices .entry) ∷ (now (faces .entry) ∷ (now (edges .entry) ∷ (now (boundary .entry) ∷ [])))) ⌝ }
+    ensures { λ r. ⌜ now (twins .exit) ≡ patchTwins (indexed v f (now (positions .entry)) (now (tags .entry)) (now (indices .entry))) (now (twins .entry)) (now (patches .entry)) ⌝ }
+    ensures { λ r. ⌜ now (patches .exit) ≡ patchList (indexed v f (now (positions .entry)) (now (tags .entry)) (now (indices .entry))) (now (twins .entry)) (now (patches .entry)) ⌝ }
+{
+    let answer = patch::patches(v, f, positions, tags, indices, twins, patches);
+    store_counts(answer, vertices, faces, edges, boundary)
+}
+
+// The sample of face f at (a, b), for document 01's N = n: `sample::sample`.
+// Returns: 0, or the number of the refusal.
+// Writes: the sample into x, y and z. Leaves alone: x, y and z after a refusal; the patch list.
+// Refuses, and units: as `sample::sample`.
+#[no_mangle]
+pub extern "C" fn rusketja_sample(
+    patches: &[i32],
+    f: usize,
+    n: usize,
+    a: usize,
+    b: usize,
+    x: &mut i32,
+    y: &mut i32,
+    z: &mut i32,
+) -> u8
+    ensures { λ r. ⌜ r ≡ sampleCode (sampleAnswer (now (patches .entry)) f n a b) ⌝ }
+    ensures { λ r. ⌜ now (x .exit) ∷ (now (y .exit) ∷ (now (z .exit) ∷ [])) ≡ sampled (sampleAnswer (now (patches .entry)) f n a b) (now (x .entry) ∷ (now (y .entry) ∷ (now (z .entry) ∷ []))) ⌝ }
+{
+    match sample::sample(patches, f, n, a, b) {
+        Sampled::At(p) => {
+            let px = p.x;
+            let py = p.y;
+            let pz = p.z;
+            *x = px;
+            *y = py;
+            *z = pz;
+            0
+        }
+        Sampled::Refused(k) => k,
+    }
+}
+
+// The sample of face f at (a, b), for document 01's N = n, in micrometres: `sample::reading`.
+// Returns: 0, or the number of the refusal.
+// Writes: the reading into x, y and z. Leaves alone: x, y and z after a refusal; the patch list.
+// Refuses, and units: as `sample::reading`.
+#[no_mangle]
+pub extern "C" fn rusketja_reading(
+    patches: &[i32],
+    f: usize,
+    n: usize,
+    a: usize,
+    b: usize,
+    x: &mut f64,
+    y: &mut f64,
+    z: &mut f64,
+) -> u8
+    ensures { λ r. ⌜ r ≡ sampleCode (sampleAnswer (now (patches .entry)) f n a b) ⌝ }
+    ensures { λ r. ⌜ Read (sampleAnswer (now (patches .entry)) f n a b) (now (x .entry)) (now (y .entry)) (now (z .entry)) (now (x .exit)) (now (y .exit)) (now (z .exit)) ⌝ }
+{
+    match sample::reading(patches, f, n, a, b) {
+        Reading::At(p) => {
+            *x = p.x;
+            *y = p.y;
+            *z = p.z;
+            0
+        }
+        Reading::Refused(k) => k,
+    }
+}

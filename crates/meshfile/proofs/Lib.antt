@@ -1,0 +1,5 @@
+-- The laws of the file.
+pub mod ByteLaws
+pub mod FileLaws
+pub mod OpenLaws
+pub mod TextLaws

@@ -1,0 +1,178 @@
+-- `decode` meets its contract: the refusals come in the order of the definition, and each list is filled from its part of the file.
+use mathlib.Core.Path.{_≡_, sym, ap, ap₂, _∙_}
+use mathlib.Core.Bool.{_||_}
+use mathlib.Core.List.{List}
+use mathlib.Core.Option.{none}
+use Prim.Native.Nat.{ℕ, _+_, _*_, _≤_}
+use native.Mathlib.Omega.{arith}
+use lib.Dec.{ltb}
+use lib.ListN.{length, getD}
+use borrow.Author.Needs.{needs}
+use Rattle.finite.specs.Filled.{filled}
+use Rattle.finite.specs.Table.{firstMet}
+use Rattle.mesh.specs.Limits.{maxVertices, maxFaces}
+use Rattle.mesh.specs.Private.{refusalOf}
+use Rattle.meshfile.specs.declared.model.Header.{Header}
+use Rattle.meshfile.specs.declared.model.Decoded.the-variants.{Read}
+use Rattle.meshfile.specs.Bytes.{le16}
+use Rattle.meshfile.specs.File.{vertices, faces, positionAt, tagAt, indexAt, fileRows}
+use Rattle.meshfile.specs.Answer.{Answer, decoded, placesShort, decodeAnswer}
+use Rattle.meshfile.proofs.FileLaws.{Whole, file-whole, decode-refused, decode-short, decode-read, places-long, kept, gained}
+use Rattle.meshfile.proofs.decode.Statement.{statement}
+use Rattle.meshfile.proofs.decode.Tie as tie
+
+-- the answer, from the start
+abbrev answer : tie.Start → Answer
+answer s = decodeAnswer (s .args .bytes .now) (length (s .args .positions .now)) (length (s .args .tags .now)) (length (s .args .faces .now))
+
+-- ---- the file's own refusals have passed
+module _ (c : tie.Else1) where
+  abbrev start : tie.Start
+  start = c .before .before .before .before .before
+
+  abbrev file : List ℕ
+  file = start .args .bytes .now
+
+  passed : firstMet (fileRows file) ≡ none
+  passed = c .before .file-refusal .ensures ∙ ap refusalOf (c .if1 .left)
+
+  whole : Whole file
+  whole = file-whole file passed
+
+-- ---- the sizes were read
+module _ (c : tie.After-sizes-of) where
+  vertices-read : c .sizes-of .result .vertices ≡ vertices (file (c .before))
+  vertices-read = ap (λ (h : Header). h .vertices) (c .sizes-of .ensures)
+
+  faces-read : c .sizes-of .result .faces ≡ faces (file (c .before))
+  faces-read = ap (λ (h : Header). h .faces) (c .sizes-of .ensures)
+
+-- ---- what the test of the lists said
+told : (c : tie.After-places-short) → placesShort (file (c .before .before)) (length (start (c .before .before) .args .positions .now)) (length (start (c .before .before) .args .tags .now)) (length (start (c .before .before) .args .faces .now)) ≡ c .places-short .result
+told c =
+    let s = start (c .before .before) in
+    sym (c .places-short .ensures ∙ ap₂ (λ (v f : ℕ). ltb (length (s .args .positions .now)) (3 * v) || (ltb (length (s .args .tags .now)) v || ltb (length (s .args .faces .now)) (4 * f))) (vertices-read (c .before)) (faces-read (c .before)))
+
+-- ---- all tests have passed: the sizes, and the lengths of the file and of the lists, as the code has them
+module _ (c : tie.Else2) where
+  abbrev read : tie.After-sizes-of
+  read = c .before .before
+
+  abbrev v : ℕ
+  v = read .sizes-of .result .vertices
+
+  abbrev f : ℕ
+  f = read .sizes-of .result .faces
+
+  few : (v ≤ maxVertices) × (f ≤ maxFaces)
+  few = let w = whole (read .before) in (omega (arith, vertices-read read, w .vertices-high), omega (arith, faces-read read, w .faces-high))
+
+  length-is : length (file (read .before)) ≡ 6 + 13 * v + 8 * f
+  length-is = whole (read .before) .length-is ∙ ap₂ (λ (n g : ℕ). 6 + 13 * n + 8 * g) (sym (vertices-read read)) (sym (faces-read read))
+
+  long : (3 * v ≤ length (start (read .before) .args .positions .now)) × (v ≤ length (start (read .before) .args .tags .now)) × (4 * f ≤ length (start (read .before) .args .faces .now))
+  long =
+      let h = places-long (file (read .before)) _ _ _ (told (c .before) ∙ c .if2 .left) in
+      (omega (arith, vertices-read read, h .0), omega (arith, vertices-read read, h .1), omega (arith, faces-read read, h .2))
+
+file-refusal-requires : tie.Need-file-refusal-requires
+file-refusal-requires c κs = tt
+
+returns : tie.Need-returns
+returns c =
+    let f = c .before in
+    let s = f .before .before .before .before in
+    let e = decode-refused (s .args .bytes .now) _ _ _ (f .file-refusal .result) (f .file-refusal .ensures) (c .if1 .taken) in
+    (e, (kept _ _ (answer s) _ _ e, (kept _ _ (answer s) _ _ e, kept _ _ (answer s) _ _ e)))
+
+sizes-of-requires : tie.Need-sizes-of-requires
+sizes-of-requires c κs = omega (arith, whole c .length-is)
+
+places-short-requires : tie.Need-places-short-requires
+places-short-requires c κs = let w = whole (c .before) in (omega (arith, vertices-read c, w .vertices-high), omega (arith, faces-read c, w .faces-high))
+
+returns-2 : tie.Need-returns-2
+returns-2 c =
+    let f = c .before .before .before in
+    let s = start f in
+    let e = decode-short (file f) _ _ _ (passed f) (told (c .before) ∙ c .if2 .taken) in
+    (e, (kept _ _ (answer s) _ _ e, (kept _ _ (answer s) _ _ e, kept _ _ (answer s) _ _ e)))
+
+mul-fill-i32s : tie.Need-mul-fill-i32s
+mul-fill-i32s c = omega (arith, few c .0)
+
+fill-i32s-requires : tie.Need-fill-i32s-requires
+fill-i32s-requires c κs = (omega (arith, length-is (c .before)), long (c .before) .0)
+
+mul-fill-bytes : tie.Need-mul-fill-bytes
+mul-fill-bytes c = omega (arith, few (c .before .before .before) .0)
+
+add-fill-bytes : tie.Need-add-fill-bytes
+add-fill-bytes c = omega (arith, few (c .before .before .before) .0)
+
+fill-bytes-requires : tie.Need-fill-bytes-requires
+fill-bytes-requires c κs = let e = c .before .before .before .before in (omega (arith, length-is e), long e .1)
+
+mul-fill-u16s : tie.Need-mul-fill-u16s
+mul-fill-u16s c = omega (arith, few (c .before .before .before .before .before .before .before) .0)
+
+add-fill-u16s : tie.Need-add-fill-u16s
+add-fill-u16s c = omega (arith, few (c .before .before .before .before .before .before .before) .0)
+
+mul-fill-u16s-2 : tie.Need-mul-fill-u16s-2
+mul-fill-u16s-2 c = omega (arith, few (c .before .before .before .before .before .before .before) .1)
+
+fill-u16s-requires : tie.Need-fill-u16s-requires
+fill-u16s-requires c κs = let e = c .before .before .before .before .before .before .before .before in (omega (arith, length-is e), long e .2)
+
+same-length : tie.Need-same-length
+same-length c = search needs
+
+same-length-2 : tie.Need-same-length-2
+same-length-2 c = search needs
+
+same-length-3 : tie.Need-same-length-3
+same-length-3 c = search needs
+
+returns-3 : tie.Need-returns-3
+returns-3 c =
+    let i = c .before .before in
+    let t = i .before .before .before .before in
+    let p = t .before .before .before in
+    let k = p .before .before in
+    let r = read k in
+    let b = file (r .before) in
+    let s = start (r .before) in
+    let e = decode-read b _ _ _ (passed (r .before)) (told (k .before) ∙ k .if2 .left) in (
+      ap (λ (h : Header). decoded (Read h)) (r .sizes-of .ensures) ∙ e,
+      (
+        p .fill-i32s .ensures ∙ ap (λ (n : ℕ). filled (positionAt b) (3 * n) (s .args .positions .now)) (vertices-read r) ∙ gained _ _ (answer s) _ _ _ _ e,
+        (
+          t .fill-bytes .ensures ∙ ap (λ (n : ℕ). filled (λ j. getD b (6 + 12 * n + j) 0) n (s .args .tags .now)) (vertices-read r) ∙ gained (tagAt b) _ (answer s) _ _ _ _ e,
+          i .fill-u16s .ensures ∙ ap₂ (λ (n g : ℕ). filled (λ j. le16 b (6 + 13 * n + 2 * j)) (4 * g) (s .args .faces .now)) (vertices-read r) (faces-read r) ∙ gained (indexAt b) _ (answer s) _ _ _ _ e,
+        ),
+      ),
+    )
+
+pub decode-spec : {M : Type 1} → statement M
+decode-spec =
+    tie.close
+    (tie.spec
+    file-refusal-requires
+    returns
+    sizes-of-requires
+    places-short-requires
+    returns-2
+    mul-fill-i32s
+    fill-i32s-requires
+    mul-fill-bytes
+    add-fill-bytes
+    fill-bytes-requires
+    mul-fill-u16s
+    add-fill-u16s
+    mul-fill-u16s-2
+    fill-u16s-requires
+    same-length
+    same-length-2
+    same-length-3
+    returns-3)

@@ -1,0 +1,34 @@
+-- `put_number` meets its contract: a number has at most 20 digits, and the byte is stored behind them.
+use native.Mathlib.Omega.{arith}
+use lib.ListN.{length-set}
+use Rattle.meshfile.specs.Text.{decimal}
+use Rattle.meshfile.specs.Put.{Put}
+use Rattle.meshfile.proofs.TextLaws.{decimal-length, put-length, put-field}
+use Rattle.meshfile.proofs.text.put_number.Statement.{statement}
+use Rattle.meshfile.proofs.text.put_number.Tie as tie
+
+put-digits-requires : tie.Need-put-digits-requires
+put-digits-requires c κs = let s = c .before .before in omega (arith, decimal-length (s .args .n), s .pre)
+
+module _ (c : tie.After-slice-known2) where
+  abbrev start : tie.Start
+  start = c .before .before .before .before .before
+
+  abbrev put : Put (decimal (start .args .n)) (start .args .at) (start .args .line .now) (c .before .before .put-digits .last .1 .0) (c .before .before .put-digits .result)
+  put = c .before .before .put-digits .ensures
+
+slice-write-line : tie.Need-slice-write-line
+slice-write-line c = omega (arith, decimal-length (start c .args .n), start c .pre, put c .place, put-length (put c))
+
+add-result : tie.Need-add-result
+add-result c = omega (arith, slice-write-line c)
+
+same-length : tie.Need-same-length
+same-length c = simp length-set (put-length (put c))
+
+returns : tie.Need-returns
+returns c = (put-field (start c .args .end) (put c), omega (arith, decimal-length (start c .args .n), put c .place))
+
+pub put-number-spec : {M : Type 1} → statement M
+put-number-spec =
+    tie.close (tie.spec put-digits-requires slice-write-line add-result same-length returns)

@@ -1,0 +1,53 @@
+-- What a file holds: "sizes first: V, F, N as 16-bit numbers, low byte first; then the two parallel arrays over vertices, positions
+-- (three 32-bit two's complement numbers each, low byte first) and tags; then the faces as 16-bit numbers".
+--
+--   vertices b, faces b, steps b   V, F and N of the file b
+--   positionAt b i, tagAt b p, indexAt b c   number i of the positions, the tag of vertex p, the vertex of corner c
+--   meshOf b            the mesh that the file holds
+--   fileRows b          "Fewer than 6 bytes is 15; sizes come next (1); then a length other than 6 + 13V + 8F is 15"
+use mathlib.Core.Bool.{Bool, not, _||_}
+use mathlib.Core.List.{List, [], _∷_}
+use Prim.Native.Nat.{ℕ, _+_, _*_}
+use lib.Dec.{eqb, ltb}
+use lib.IntN.{ℤ}
+use lib.ListN.{length, getD}
+use Rattle.finite.specs.Filled.{listBelow}
+use Rattle.finite.specs.Table.{Row, row}
+use Rattle.mesh.specs.Limits.{minVertices, maxVertices, minFaces, maxFaces}
+use Rattle.mesh.specs.IndexedMesh.{IndexedMesh, indexed}
+use Rattle.mesh.specs.Refusal.{off}
+use Rattle.meshfile.specs.Bytes.{le16, le32, signed32}
+
+abbrev pub vertices : List ℕ → ℕ
+vertices b = le16 b 0
+
+abbrev pub faces : List ℕ → ℕ
+faces b = le16 b 2
+
+abbrev pub steps : List ℕ → ℕ
+steps b = le16 b 4
+
+abbrev pub positionAt : List ℕ → ℕ → ℤ
+positionAt b i = signed32 (le32 b (6 + 4 * i))
+
+abbrev pub tagAt : List ℕ → ℕ → ℕ
+tagAt b p = getD b (6 + 12 * vertices b + p) 0
+
+abbrev pub indexAt : List ℕ → ℕ → ℕ
+indexAt b c = le16 b (6 + 13 * vertices b + 2 * c)
+
+unfoldable pub meshOf : List ℕ → IndexedMesh
+meshOf b =
+    indexed (vertices b) (faces b) (listBelow (positionAt b) (3 * vertices b)) (listBelow (tagAt b) (vertices b)) (listBelow (indexAt b) (4 * faces b))
+
+unfoldable pub headerShort : List ℕ → Bool
+headerShort b = ltb (length b) 6
+
+unfoldable pub sizesOff : List ℕ → Bool
+sizesOff b = off minVertices maxVertices (vertices b) || off minFaces maxFaces (faces b)
+
+unfoldable pub lengthOff : List ℕ → Bool
+lengthOff b = not (eqb (length b) (6 + 13 * vertices b + 8 * faces b))
+
+abbrev pub fileRows : List ℕ → List Row
+fileRows b = row (headerShort b) 15 ∷ (row (sizesOff b) 1 ∷ (row (lengthOff b) 15 ∷ []))

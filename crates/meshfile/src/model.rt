@@ -1,0 +1,36 @@
+// What a file gives.
+use mesh::model::Mesh;
+
+// The sizes of a file: document 01's V, F and N. The lengths of the file's parts are its constants, named here once.
+pub struct Header {
+    pub vertices: usize,
+    pub faces: usize,
+    // N.
+    pub steps: usize,
+}
+
+impl Header {
+    // The sizes.
+    pub const BYTES: usize = 6;
+    // The longest file.
+    pub const MAX_BYTES: usize = 6 + 13 * Mesh::MAX_VERTICES + 8 * Mesh::MAX_FACES;
+}
+
+// The answer of decoding: the sizes, or the number of the refusal.
+pub enum Decoded {
+    Read(Header),
+    Refused(u8),
+}
+
+// An accepted mesh and its N.
+pub struct Tessellation {
+    pub mesh: Mesh,
+    // N.
+    pub steps: usize,
+}
+
+// The answer of opening a file: the counts of its accepted mesh and its N, or the number of the refusal.
+pub enum Opened {
+    Ready(Tessellation),
+    Refused(u8),
+}

@@ -1,0 +1,150 @@
+/* Rusketja: the calls of the library for C and C++.
+ *
+ * Link with target/staticlib/libcapi.a, which `rt staticlib capi` writes (x86-64 Linux). The contracts are in
+ * crates/capi/src/lib.rt, and every call meets its contract for every input; what C itself must keep to is this:
+ *
+ * - A list is passed as a pointer to its first element and its length, which counts elements. The pointer is not null and is
+ *   aligned, also where the length is 0, and that many elements may be read (and written, where it is not const).
+ * - No two things that a call is handed overlap, where the call writes one of them.
+ *
+ * Nothing else is asked: sizes, numbers and lengths that do not fit are refused.
+ *
+ * Lengths, for V vertices and F faces:
+ *
+ *     positions  3V      x, y, z of vertex p at 3p, 3p + 1, 3p + 2, in micrometres, from -1048576 to 1048576
+ *     tags        V      0 smooth, 1 corner (boundary vertices only)
+ *     indices    4F      the vertices of face f at 4f to 4f + 3, counterclockwise
+ *     twins      4F      at least; place 4f + s is that of the half-edge from corner s of face f to the next corner
+ *     patches   48F      at least; coordinate k of control point i + 4j of face f at 48f + 3(i + 4j) + k, in 1/256 micrometre
+ *
+ * Names: a half-edge is document 01's side, a twin its mate, the boundary its rim, a control value its patch number.
+ *
+ * A call returns 0, or the number of the first cause of refusal that is met, in this order:
+ *
+ *      1  V is not from 4 to 512, F is not from 1 to 256, or positions, tags or indices has another length than 3V, V, 4F
+ *      2  twins is shorter than 4F, or patches, where the call writes it, than 48F
+ *      3  a coordinate is not from -1048576 to 1048576
+ *      4  a tag is above 1
+ *      5  a face names a vertex of V or above
+ *      6  a face names a vertex twice
+ *      7  a half-edge occurs twice: two faces run from one vertex to another the same way round
+ *      8  a vertex is in no face
+ *      9  the corners at a vertex form neither one closed turn nor one chain
+ *     10  an inner vertex has less than 3 or more than 16 faces, or a boundary vertex more than 8
+ *     11  an inner vertex is tagged 1
+ *     12  patches is shorter than 48f + 48
+ *     13  a control value of face f is beyond 268435456 either way
+ *     14  n is not from 1 to 32, or a or b is above n
+ */
+#ifndef RUSKETJA_H
+#define RUSKETJA_H
+
+#include <stddef.h>
+#include <stdint.h>
+
+#ifdef __cplusplus
+extern "C" {
+#endif
+
+/* The twin of a boundary half-edge, which has none. */
+#define RUSKETJA_NO_TWIN 65535
+
+/* The control values of one face. */
+#define RUSKETJA_PATCH_VALUES 48
+
+/* The check of a whole mesh of v vertices and f faces.
+ *
+ * Returns: 0 for an accepted mesh, or the number of the refusal.
+ * Writes: accepted, the twin of each half-edge into the first 4f places of twins, RUSKETJA_NO_TWIN for a boundary half-edge, and
+ *     the counts: *vertices (V), *faces (F), *edges (E: pairs of vertices joined by a half-edge) and *boundary (B: boundary
+ *     half-edges), so that 4F + B = 2E. After a refusal from 8 to 11, RUSKETJA_NO_TWIN into the first 4f places of twins.
+ * Leaves alone: twins from place 4f on; all of twins after a refusal from 1 to 7; the four counts after a refusal.
+ * Refuses: 1 to 11, in this order.
+ * Lengths: positions 3v, tags v, indices 4f; twins 4f or more. */
+uint8_t rusketja_check(
+    size_t v,
+    size_t f,
+    const int32_t *positions, size_t positions_len,
+    const uint8_t *tags, size_t tags_len,
+    const uint16_t *indices, size_t indices_len,
+    uint16_t *twins, size_t twins_len,
+    size_t *vertices,
+    size_t *faces,
+    size_t *edges,
+    size_t *boundary);
+
+/* The bicubic patches of a mesh of v vertices and f faces, which is checked first.
+ *
+ * Returns: 0 for an accepted mesh, or the number of the refusal.
+ * Writes: accepted, the patch of each face g into places 48g to 48g + 47 of patches; twins and the four counts as
+ *     rusketja_check does.
+ * Leaves alone: patches from place 48f on; all of patches after a refusal; twins and the four counts as rusketja_check does.
+ * Refuses: 1 to 11, in this order; 2 also where patches is shorter than 48f.
+ * Lengths: positions 3v, tags v, indices 4f; twins 4f or more, patches 48f or more.
+ * Units: positions in micrometres, patches in 1/256 micrometre, each rounded once to the nearest, halves to the even one. */
+uint8_t rusketja_patches(
+    size_t v,
+    size_t f,
+    const int32_t *positions, size_t positions_len,
+    const uint8_t *tags, size_t tags_len,
+    const uint16_t *indices, size_t indices_len,
+    uint16_t *twins, size_t twins_len,
+    int32_t *patches, size_t patches_len,
+    size_t *vertices,
+    size_t *faces,
+    size_t *edges,
+    size_t *boundary);
+
+/* The sample of face f at (a, b) of n by n steps (n is document 01's N): the point of the patch at u = a/n, v = b/n.
+ *
+ * Returns: 0, or the number of the refusal.
+ * Writes: the sample into *x, *y and *z.
+ * Leaves alone: *x, *y and *z after a refusal.
+ * Refuses: 12, 13, 14, in this order.
+ * Lengths: patches 48f + 48 or more, of which the 48 numbers from place 48f on are read.
+ * Units: patches and sample in 1/256 micrometre; each coordinate is rounded once to the nearest, halves to the even one. */
+uint8_t rusketja_sample(
+    const int32_t *patches, size_t patches_len,
+    size_t f,
+    size_t n,
+    size_t a,
+    size_t b,
+    int32_t *x,
+    int32_t *y,
+    int32_t *z);
+
+/* The sample of face f at (a, b) of n by n steps, in micrometres.
+ *
+ * Returns: 0, or the number of the refusal.
+ * Writes: three doubles into *x, *y and *z, each exactly the coordinate of the sample over 256.
+ * Leaves alone: *x, *y and *z after a refusal.
+ * Refuses: 12, 13, 14, in this order.
+ * Lengths: as rusketja_sample.
+ * Units: patches in 1/256 micrometre, reading in micrometres. */
+uint8_t rusketja_reading(
+    const int32_t *patches, size_t patches_len,
+    size_t f,
+    size_t n,
+    size_t a,
+    size_t b,
+    double *x,
+    double *y,
+    double *z);
+
+/* The corners of face f, as a part of indices.
+ *
+ * Returns: the number of corners: 4, or 0 where 4f + 4 is above the length of indices.
+ * Writes: the place of the first corner, 4f, into *first; the corners are indices[*first] to indices[*first + 3].
+ * Leaves alone: *first where it returns 0.
+ * Refuses: nothing.
+ * Lengths: indices of any length. */
+size_t rusketja_face_corners(
+    const uint16_t *indices, size_t indices_len,
+    size_t f,
+    size_t *first);
+
+#ifdef __cplusplus
+}
+#endif
+
+#endif

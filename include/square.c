@@ -1,0 +1,71 @@
+/* The square of document 01, by every call of rusketja.h: prints what the library gives, and returns 0 where it is right.
+ *
+ *     rt staticlib capi
+ *     cc -Wall -Wextra -Iinclude include/square.c target/staticlib/libcapi.a -o target/square && target/square */
+#include <stdio.h>
+
+#include "rusketja.h"
+
+static int wrong;
+
+static void expect(const char *what, double found, double wanted)
+{
+    printf("%-24s %g\n", what, found);
+    if (found != wanted) {
+        printf("    wanted %g\n", wanted);
+        wrong = 1;
+    }
+}
+
+int main(void)
+{
+    const int32_t positions[12] = {0, 0, 0, 21, 0, 0, 21, 21, 0, 0, 21, 0};
+    const uint8_t tags[4] = {0, 0, 0, 0};
+    const uint16_t indices[4] = {0, 1, 2, 3};
+    uint16_t twins[5] = {7, 7, 7, 7, 7};
+    int32_t patches[49] = {0};
+    size_t v = 0, f = 0, e = 0, b = 0, first = 0;
+    int32_t x = 0, y = 0, z = 0;
+    double rx = 0, ry = 0, rz = 0;
+
+    patches[48] = 7;
+    expect("check", rusketja_check(4, 1, positions, 12, tags, 4, indices, 4, twins, 5, &v, &f, &e, &b), 0);
+    expect("V", v, 4);
+    expect("F", f, 1);
+    expect("E", e, 4);
+    expect("B", b, 4);
+    expect("twin of half-edge 3", twins[3], RUSKETJA_NO_TWIN);
+    expect("twins beyond 4F", twins[4], 7);
+
+    v = f = e = b = 9;
+    expect("check, V = 3", rusketja_check(3, 1, positions, 9, tags, 3, indices, 4, twins, 5, &v, &f, &e, &b), 1);
+    expect("V after it", v, 9);
+    expect("check, 3 twins", rusketja_check(4, 1, positions, 12, tags, 4, indices, 4, twins, 3, &v, &f, &e, &b), 2);
+
+    expect("patches", rusketja_patches(4, 1, positions, 12, tags, 4, indices, 4, twins, 5, patches, 49, &v, &f, &e, &b), 0);
+    expect("E", e, 4);
+    expect("b(1,0) x", patches[3 * 1], 1792);
+    expect("b(1,1) y", patches[3 * 5 + 1], 2304);
+    expect("b(2,1) x", patches[3 * 6], 3072);
+    expect("patches beyond 48F", patches[48], 7);
+
+    expect("sample (1,1), N = 2", rusketja_sample(patches, 49, 0, 2, 1, 1, &x, &y, &z), 0);
+    expect("x", x, 2688);
+    expect("y", y, 2688);
+    expect("z", z, 0);
+    expect("sample of face 1", rusketja_sample(patches, 49, 1, 2, 1, 1, &x, &y, &z), 12);
+    expect("sample, N = 33", rusketja_sample(patches, 49, 0, 33, 1, 1, &x, &y, &z), 14);
+    expect("x after it", x, 2688);
+
+    expect("reading (1,0), N = 2", rusketja_reading(patches, 49, 0, 2, 1, 0, &rx, &ry, &rz), 0);
+    expect("x in micrometres", rx, 10.5);
+    expect("y in micrometres", ry, 0);
+    expect("z in micrometres", rz, 0);
+
+    first = 9;
+    expect("corners of face 1", rusketja_face_corners(indices, 4, 1, &first), 0);
+    expect("first corner's place", first, 9);
+    expect("corners of face 0", rusketja_face_corners(indices, 4, 0, &first), 4);
+    expect("first corner's place", first, 0);
+    return wrong;
+}

@@ -1,0 +1,36 @@
+//! The limits of document 01, and the corners of a face by their numbers.
+
+use std::ops::RangeInclusive;
+
+pub const VERTICES: RangeInclusive<usize> = 4..=MAX_VERTICES;
+pub const FACES: RangeInclusive<usize> = 1..=MAX_FACES;
+pub const VALENCE: RangeInclusive<u16> = 3..=16;
+pub const BOUNDARY_FACES: RangeInclusive<u16> = 1..=8;
+pub const STEPS: RangeInclusive<usize> = 1..=32;
+pub const MAX_VERTICES: usize = 512;
+pub const MAX_FACES: usize = 256;
+pub const MAX_COORDINATE: u32 = 1_048_576;
+pub const MAX_CONTROL: u32 = 268_435_456;
+pub const CORNER_TAG: u8 = 1;
+
+/// The corner i further than c in its face.
+#[inline(always)]
+pub fn turned(i: usize, c: usize) -> usize {
+    (c & !3) | ((c + i) & 3)
+}
+
+/// `num / den` rounded once to the nearest whole number, halves to the even one; 0 for a divisor 0.
+#[inline(always)]
+pub fn round(num: i64, den: u32) -> i64 {
+    if den == 0 {
+        return 0;
+    }
+    let (size, den) = (num.unsigned_abs(), u64::from(den));
+    let (quotient, rest) = (size / den, size % den);
+    let size = quotient + u64::from(den < 2 * rest + (quotient & 1));
+    if num < 0 {
+        (size as i64).wrapping_neg()
+    } else {
+        size as i64
+    }
+}

@@ -1,0 +1,189 @@
+//! Measures the library against the same arithmetic in Rust, with bounds checks and without, in a release build for the same CPU
+//! (x86-64 without extensions). `tools/benchmark` runs it.
+//!
+//! Every result of the two Rust forms is held to that of the library first, on every mesh. Each time is the minimum of many
+//! repetitions in several passes; the three implementations take turns. Rows: `mesh,V,F,N,phase,ns`, where the phase `check` is
+//! the library's and `check:rust` and `check:rust-unchecked` are the others'; N is 0 for a phase that has none. Then a table of
+//! ratios and the goals.
+
+mod access;
+mod check;
+mod limits;
+mod meshes;
+mod patch;
+mod report;
+mod sample;
+mod tessellate;
+mod timing;
+
+use access::{Access, Checked, Unchecked};
+use meshes::Named;
+use report::{Phase, Report};
+use rusketja::{Mesh, Refusal, PATCH_VALUES};
+use std::fs::File;
+use std::hint::black_box;
+use std::io;
+use std::ops::Range;
+use std::path::{Path, PathBuf};
+use std::process::{Command, Stdio};
+use std::time::Duration;
+
+/// Document 01's N, the largest.
+const N: usize = 32;
+
+/// Everything is measured in so many passes, since other load on the machine comes and goes; the whole program, which takes
+/// longest, in every third.
+const PASSES: usize = 15;
+const WHOLE_EVERY: usize = 3;
+
+/// The time for the three implementations in one phase on one mesh, in one pass.
+const CALL_BUDGET: Duration = Duration::from_millis(8);
+const SAMPLES_BUDGET: Duration = Duration::from_millis(20);
+const WHOLE_BUDGET: Duration = Duration::from_millis(50);
+
+/// The argument that makes this program the whole program in Rust, and in Rust without bounds checks.
+const TESSELLATE: [&str; 2] = ["tessellate-rust", "tessellate-rust-unchecked"];
+
+/// The compiler must take the result for used.
+fn used<T>(result: T) {
+    black_box(result);
+}
+
+fn twins(mesh: &Mesh) -> Vec<u16> {
+    vec![0; 4 * mesh.faces]
+}
+
+fn controls(mesh: &Mesh) -> Vec<i32> {
+    vec![0; PATCH_VALUES * mesh.faces]
+}
+
+/// All samples of some faces, by any of the sample calls.
+fn samples(
+    controls: &[i32],
+    faces: Range<usize>,
+    sample: impl Fn(&[i32], usize, usize, usize, usize) -> Result<[i32; 3], Refusal>,
+    mut take: impl FnMut([i32; 3]),
+) {
+    for face in faces {
+        for b in 0..=N {
+            for a in 0..=N {
+                take(sample(black_box(controls), face, black_box(N), a, b).expect("a sample of an accepted mesh"));
+            }
+        }
+    }
+}
+
+/// The Rust form gives what the library gives.
+fn assert_same<A: Access>(mesh: &Mesh) {
+    let (mut ours, mut theirs) = (twins(mesh), twins(mesh));
+    let counts = rusketja::check(mesh, &mut ours);
+    assert!(counts.is_ok());
+    assert_eq!(check::check::<A>(mesh, &mut theirs), counts);
+    assert_eq!(theirs, ours);
+    let (mut our_twins, mut their_twins) = (twins(mesh), twins(mesh));
+    let (mut ours, mut theirs) = (controls(mesh), controls(mesh));
+    assert_eq!(rusketja::patches(mesh, &mut our_twins, &mut ours), counts);
+    assert_eq!(patch::patches::<A>(mesh, &mut their_twins, &mut theirs), counts);
+    assert_eq!(their_twins, our_twins);
+    assert_eq!(theirs, ours);
+    let (mut our_points, mut their_points) = (Vec::new(), Vec::new());
+    samples(&ours, 0..mesh.faces, rusketja::sample, |point| our_points.push(point));
+    samples(&ours, 0..mesh.faces, sample::sample::<A>, |point| their_points.push(point));
+    assert!(our_points == their_points);
+}
+
+fn measure_check(mesh: &Mesh) -> [f64; 3] {
+    let [mut a, mut b, mut c] = [twins(mesh), twins(mesh), twins(mesh)];
+    let mut ours = || used(rusketja::check(black_box(mesh), black_box(&mut a)));
+    let mut rust = || used(check::check::<Checked>(black_box(mesh), black_box(&mut b)));
+    let mut unchecked = || used(check::check::<Unchecked>(black_box(mesh), black_box(&mut c)));
+    timing::minima(CALL_BUDGET, [&mut ours, &mut rust, &mut unchecked])
+}
+
+fn measure_patches(mesh: &Mesh) -> [f64; 3] {
+    let mut twins = [twins(mesh), twins(mesh), twins(mesh)];
+    let mut controls = [controls(mesh), controls(mesh), controls(mesh)];
+    let ([s, t, u], [a, b, c]) = (&mut twins, &mut controls);
+    let mut ours = || used(rusketja::patches(black_box(mesh), black_box(s), black_box(a)));
+    let mut rust = || used(patch::patches::<Checked>(black_box(mesh), black_box(t), black_box(b)));
+    let mut unchecked = || used(patch::patches::<Unchecked>(black_box(mesh), black_box(u), black_box(c)));
+    timing::minima(CALL_BUDGET, [&mut ours, &mut rust, &mut unchecked])
+}
+
+/// The sum over the faces, each of which is measured by itself.
+fn measure_samples(mesh: &Mesh) -> [f64; 3] {
+    let mut controls = controls(mesh);
+    rusketja::patches(mesh, &mut twins(mesh), &mut controls).expect("an accepted mesh");
+    let budget = SAMPLES_BUDGET / mesh.faces as u32;
+    let mut sums = [0.0; 3];
+    for face in 0..mesh.faces {
+        let faces = face..face + 1;
+        let mut ours = || samples(&controls, faces.clone(), rusketja::sample, used);
+        let mut rust = || samples(&controls, faces.clone(), sample::sample::<Checked>, used);
+        let mut unchecked = || samples(&controls, faces.clone(), sample::sample::<Unchecked>, used);
+        let ns = timing::minima(budget, [&mut ours, &mut rust, &mut unchecked]);
+        sums = [0, 1, 2].map(|i| sums[i] + ns[i]);
+    }
+    sums
+}
+
+/// Runs one of the three programs on a file, to its end.
+fn run(tessellate: &Path, i: usize, file: &Path, stdout: Stdio) -> io::Result<Vec<u8>> {
+    let this = std::env::current_exe()?;
+    let (program, argument) = if i == 0 { (tessellate, None) } else { (this.as_path(), Some(TESSELLATE[i - 1])) };
+    let child = Command::new(program).args(argument).stdin(File::open(file)?).stdout(stdout).spawn()?;
+    let output = child.wait_with_output()?;
+    assert!(output.status.success(), "{} failed", program.display());
+    Ok(output.stdout)
+}
+
+/// The three programs print the same lines, which is seen through a pipe; they are measured with their output thrown away.
+fn measure_whole(named: &Named, tessellate: &Path) -> io::Result<[f64; 3]> {
+    let file = std::env::temp_dir().join(format!("rusketja-benchmark-{}", std::process::id()));
+    std::fs::write(&file, named.file(N))?;
+    let ours = run(tessellate, 0, &file, Stdio::piped())?;
+    for i in 1..3 {
+        assert!(run(tessellate, i, &file, Stdio::piped())? == ours, "the programs print different lines");
+    }
+    let lines = ours.iter().filter(|&&byte| byte == b'\n').count();
+    assert_eq!(lines, 1 + named.mesh().faces * (N + 1) * (N + 1));
+    let run = |i| used(run(tessellate, i, &file, Stdio::null()).expect("a program that runs"));
+    let ns = timing::minima(WHOLE_BUDGET, [&mut || run(0), &mut || run(1), &mut || run(2)]);
+    std::fs::remove_file(&file)?;
+    Ok(ns)
+}
+
+fn load() -> String {
+    let loads = std::fs::read_to_string("/proc/loadavg").unwrap_or_default();
+    loads.split(' ').take(3).collect::<Vec<_>>().join(" ")
+}
+
+fn main() -> io::Result<()> {
+    match std::env::args().nth(1).as_deref() {
+        Some(form) if form == TESSELLATE[0] => return tessellate::run::<Checked>(),
+        Some(form) if form == TESSELLATE[1] => return tessellate::run::<Unchecked>(),
+        _ => {}
+    }
+    let tessellate = PathBuf::from(env!("CARGO_MANIFEST_DIR")).join("../target/bin/tessellate");
+    let before = load();
+    let meshes = meshes::all();
+    for named in &meshes {
+        assert_same::<Checked>(&named.mesh());
+        assert_same::<Unchecked>(&named.mesh());
+    }
+    let mut report = Report::default();
+    for pass in 0..PASSES {
+        for named in &meshes {
+            let mesh = named.mesh();
+            report.add(named.name, &mesh, 0, Phase::Check, measure_check(&mesh));
+            report.add(named.name, &mesh, 0, Phase::Patches, measure_patches(&mesh));
+            report.add(named.name, &mesh, N, Phase::Samples, measure_samples(&mesh));
+            if tessellate.is_file() && pass % WHOLE_EVERY == 0 {
+                report.add(named.name, &mesh, N, Phase::Whole, measure_whole(named, &tessellate)?);
+            }
+        }
+    }
+    report.print();
+    println!("load (1, 5, 15 minutes) before: {before}; after: {}", load());
+    Ok(())
+}

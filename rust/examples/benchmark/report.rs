@@ -1,0 +1,171 @@
+//! What is printed: a row for each measurement, a table of ratios, and the goals.
+
+use rusketja::Mesh;
+
+/// The implementations, as the phase column names them: the library, Rust, and Rust without bounds checks.
+const IMPLEMENTATIONS: [&str; 3] = ["", ":rust", ":rust-unchecked"];
+
+/// A mean ratio up to this is no slower: the layout of the code and other load on the machine move it by some percent.
+const NO_SLOWER: f64 = 1.1;
+const SAMPLE_GOAL_NS: f64 = 80.0;
+const WHOLE_GOAL_MS: f64 = 150.0;
+/// Twice the faces may take so many times as long, on average.
+const DOUBLED_GOAL: f64 = 2.2;
+
+#[derive(Clone, Copy, PartialEq, Eq)]
+pub enum Phase {
+    Check,
+    Patches,
+    Samples,
+    Whole,
+}
+
+impl Phase {
+    const ALL: [Phase; 4] = [Phase::Check, Phase::Patches, Phase::Samples, Phase::Whole];
+
+    fn name(self) -> &'static str {
+        match self {
+            Phase::Check => "check",
+            Phase::Patches => "patches",
+            Phase::Samples => "samples",
+            Phase::Whole => "whole",
+        }
+    }
+
+    /// What the table divides the nanoseconds by.
+    fn unit(self) -> &'static str {
+        match self {
+            Phase::Check | Phase::Patches => "face",
+            Phase::Samples => "call",
+            Phase::Whole => "line",
+        }
+    }
+}
+
+/// The least nanoseconds of the three implementations, in one phase on one mesh.
+struct Row {
+    mesh: &'static str,
+    vertices: usize,
+    faces: usize,
+    /// 0 for a phase that has none.
+    n: usize,
+    phase: Phase,
+    ns: [f64; 3],
+}
+
+impl Row {
+    fn units(&self) -> usize {
+        match self.phase {
+            Phase::Check | Phase::Patches => self.faces,
+            Phase::Samples | Phase::Whole => self.faces * (self.n + 1) * (self.n + 1),
+        }
+    }
+
+    /// How many times as long as Rust (1) or Rust without bounds checks (2) the library takes.
+    fn ratio(&self, other: usize) -> f64 {
+        self.ns[0] / self.ns[other]
+    }
+}
+
+#[derive(Default)]
+pub struct Report {
+    rows: Vec<Row>,
+}
+
+impl Report {
+    /// Adds a measurement, or betters an earlier one of this phase on this mesh.
+    pub fn add(&mut self, name: &'static str, mesh: &Mesh, n: usize, phase: Phase, ns: [f64; 3]) {
+        match self.rows.iter_mut().find(|row| row.mesh == name && row.phase == phase) {
+            Some(row) => row.ns = [0, 1, 2].map(|i| row.ns[i].min(ns[i])),
+            None => self.rows.push(Row { mesh: name, vertices: mesh.vertices, faces: mesh.faces, n, phase, ns }),
+        }
+    }
+
+    fn of(&self, phase: Phase) -> impl Iterator<Item = &Row> {
+        self.rows.iter().filter(move |row| row.phase == phase)
+    }
+
+    pub fn print(&self) {
+        self.csv();
+        println!();
+        self.table();
+        println!();
+        self.goals();
+    }
+
+    fn csv(&self) {
+        println!("mesh,V,F,N,phase,ns");
+        for Row { mesh, vertices, faces, n, phase, ns } in &self.rows {
+            for (implementation, ns) in IMPLEMENTATIONS.into_iter().zip(ns) {
+                println!("{mesh},{vertices},{faces},{n},{}{implementation},{ns:.0}", phase.name());
+            }
+        }
+    }
+
+    fn table(&self) {
+        println!(
+            "{:<8} {:<10} {:>4} {:>12} {:>18} {:>10} {:>15}",
+            "phase", "mesh", "F", "ours, us", "ours, ns each", "ours/rust", "ours/unchecked"
+        );
+        for row in Phase::ALL.into_iter().flat_map(|phase| self.of(phase)) {
+            let each = format!("{:.1} a {}", row.ns[0] / row.units() as f64, row.phase.unit());
+            println!(
+                "{:<8} {:<10} {:>4} {:>12.2} {:>18} {:>10.2} {:>15.2}",
+                row.phase.name(),
+                row.mesh,
+                row.faces,
+                row.ns[0] / 1000.0,
+                each,
+                row.ratio(1),
+                row.ratio(2)
+            );
+        }
+    }
+
+    fn goals(&self) {
+        for phase in Phase::ALL {
+            let ratios: Vec<f64> = self.of(phase).map(|row| row.ratio(2)).collect();
+            if ratios.is_empty() {
+                continue;
+            }
+            let mean = ratios.iter().product::<f64>().powf(1.0 / ratios.len() as f64);
+            let most = ratios.iter().copied().fold(0.0, f64::max);
+            goal(
+                &format!("{}: no slower than Rust without bounds checks (mean ratio up to {NO_SLOWER})", phase.name()),
+                mean <= NO_SLOWER,
+                &format!("mean {mean:.2}, at most {most:.2}"),
+            );
+        }
+        let slowest = self.of(Phase::Samples).map(|row| row.ns[0] / row.units() as f64).fold(0.0, f64::max);
+        goal(
+            &format!("a sample call below {SAMPLE_GOAL_NS} ns"),
+            slowest < SAMPLE_GOAL_NS,
+            &format!("{slowest:.1} ns"),
+        );
+        match self.of(Phase::Whole).map(|row| row.ns[0] / 1e6).reduce(f64::max) {
+            Some(ms) => goal(
+                &format!("the whole program for 256 faces and N = 32 below {WHOLE_GOAL_MS} ms"),
+                ms < WHOLE_GOAL_MS,
+                &format!("{ms:.1} ms"),
+            ),
+            None => {
+                println!("goal not measured: the whole program is left out, since target/bin/tessellate is missing")
+            }
+        }
+        for phase in [Phase::Check, Phase::Patches] {
+            // The growing meshes come first, each with twice the faces of the one before.
+            let rows: Vec<&Row> = self.of(phase).collect();
+            let doublings = rows.windows(2).take_while(|pair| pair[1].faces == 2 * pair[0].faces).count();
+            let mean = (rows[doublings].ns[0] / rows[0].ns[0]).powf(1.0 / doublings as f64);
+            goal(
+                &format!("{}: linear in F (twice the faces, up to {DOUBLED_GOAL} times as long)", phase.name()),
+                mean <= DOUBLED_GOAL,
+                &format!("{mean:.2} times from F = {} to {}", rows[0].faces, rows[doublings].faces),
+            );
+        }
+    }
+}
+
+fn goal(what: &str, met: bool, measured: &str) {
+    println!("goal {}: {what}: {measured}", if met { "met" } else { "MISSED" });
+}

@@ -1,0 +1,54 @@
+//! The sample of a patch, in Rust: Bernstein sums along v, then along u, and one rounding.
+
+use crate::access::Access;
+use crate::limits::*;
+use rusketja::{Refusal, PATCH_VALUES};
+
+/// The weights of place a.
+#[inline(always)]
+fn weights(n: usize, a: usize) -> [u32; 4] {
+    let (s, t) = (a as u32, (n - a) as u32);
+    [t * t * t, 3 * s * t * t, 3 * s * s * t, s * s * s]
+}
+
+#[inline(always)]
+fn blend(weights: [u32; 4], values: [i64; 4]) -> i64 {
+    weights.into_iter().zip(values).map(|(weight, value)| i64::from(weight) * value).sum()
+}
+
+/// Coordinate k of control point m.
+#[inline(always)]
+fn control<A: Access>(patch: &[i32; PATCH_VALUES], k: usize, m: usize) -> i64 {
+    A::get(patch, 3 * m + k).into()
+}
+
+/// The control values of coordinate k at one i, blended along v.
+#[inline(always)]
+fn column<A: Access>(patch: &[i32; PATCH_VALUES], k: usize, v: [u32; 4], i: usize) -> i64 {
+    let control = |m| control::<A>(patch, k, m);
+    blend(v, [control(i), control(i + 4), control(i + 8), control(i + 12)])
+}
+
+/// Coordinate k of the sample.
+fn coordinate<A: Access>(patch: &[i32; PATCH_VALUES], k: usize, u: [u32; 4], v: [u32; 4], divisor: u32) -> i32 {
+    let column = |i| column::<A>(patch, k, v, i);
+    round(blend(u, [column(0), column(1), column(2), column(3)]), divisor) as i32
+}
+
+/// Takes a sample, as [`rusketja::sample`] does. Not inlined, since the library's is called too.
+#[inline(never)]
+pub fn sample<A: Access>(patches: &[i32], face: usize, n: usize, a: usize, b: usize) -> Result<[i32; 3], Refusal> {
+    if patches.len() / PATCH_VALUES <= face {
+        return Err(Refusal(12));
+    }
+    let patch: &[i32; PATCH_VALUES] = A::array(patches, PATCH_VALUES * face);
+    if patch.iter().fold(false, |off, x| off | (MAX_CONTROL < x.unsigned_abs())) {
+        return Err(Refusal(13));
+    }
+    if !STEPS.contains(&n) || n < a || n < b {
+        return Err(Refusal(14));
+    }
+    let (u, v, cube) = (weights(n, a), weights(n, b), (n * n * n) as u32);
+    let coordinate = |k| coordinate::<A>(patch, k, u, v, cube * cube);
+    Ok([coordinate(0), coordinate(1), coordinate(2)])
+}

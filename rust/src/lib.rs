@@ -1,0 +1,309 @@
+//! Bicubic patches of a quad mesh and their exact samples, by a library that is proved in Rattle.
+//!
+//! Each function here calls the one of its name in the static library (`rt staticlib capi`), whose contract, for every input, is
+//! in `crates/capi/src/lib.rt`. These wrappers pass the lists and turn the returned number into a `Result`; nothing proves the
+//! wrappers themselves, and no input is refused by them.
+//!
+//! Names: a half-edge is document 01's side, a twin its mate, the boundary its rim, a control value its patch number. Half-edge
+//! 4f + s runs from corner s of face f to the next corner.
+//!
+//! ```
+//! use rusketja::{patches, reading, sample, Counts, Mesh};
+//!
+//! // The square of document 01: four vertices in micrometres, one face.
+//! let square = Mesh {
+//!     vertices: 4,
+//!     faces: 1,
+//!     positions: &[0, 0, 0, 21, 0, 0, 21, 21, 0, 0, 21, 0],
+//!     tags: &[0; 4],
+//!     indices: &[0, 1, 2, 3],
+//! };
+//! let mut twins = [0; 4];
+//! let mut controls = [0; 48];
+//! let counts = patches(&square, &mut twins, &mut controls)?;
+//! assert_eq!(counts, Counts { vertices: 4, faces: 1, edges: 4, boundary: 4 });
+//! assert_eq!(sample(&controls, 0, 2, 1, 1)?, [2688, 2688, 0]);
+//! assert_eq!(reading(&controls, 0, 2, 1, 1)?, [10.5, 10.5, 0.0]);
+//! # Ok::<(), rusketja::Refusal>(())
+//! ```
+#![warn(missing_docs)]
+
+mod ffi;
+mod refusal;
+
+pub use refusal::Refusal;
+
+/// The twin of a boundary half-edge, which has none.
+pub const NO_TWIN: u16 = 65535;
+
+/// The control values of one face: sixteen points of three coordinates.
+pub const PATCH_VALUES: usize = 48;
+
+/// A mesh as it is handed to [`check`] and [`patches`]: any sizes and lists, which are checked there.
+#[derive(Clone, Copy, Debug)]
+pub struct Mesh<'a> {
+    /// V, from 4 to 512.
+    pub vertices: usize,
+    /// F, from 1 to 256.
+    pub faces: usize,
+    /// 3V coordinates x, y, z in micrometres, each from -1,048,576 to 1,048,576.
+    pub positions: &'a [i32],
+    /// V tags: 0 smooth, 1 corner, which only a boundary vertex may be.
+    pub tags: &'a [u8],
+    /// 4F vertex numbers, four to a face, counterclockwise.
+    pub indices: &'a [u16],
+}
+
+/// The counts of an accepted mesh: document 01's V, F, E and B, with 4F + B = 2E.
+#[derive(Clone, Copy, Debug, Default, PartialEq, Eq, Hash)]
+pub struct Counts {
+    /// V.
+    pub vertices: usize,
+    /// F.
+    pub faces: usize,
+    /// E: unordered pairs of vertices joined by a half-edge.
+    pub edges: usize,
+    /// B: boundary half-edges.
+    pub boundary: usize,
+}
+
+/// The result, or the refusal of a number other than 0.
+fn accepted<T>(code: u8, result: T) -> Result<T, Refusal> {
+    match code {
+        0 => Ok(result),
+        number => Err(Refusal(number)),
+    }
+}
+
+/// Checks a whole mesh.
+///
+/// - Returns the counts of an accepted mesh.
+/// - Writes the twin of each half-edge into the first 4F places of `twins`, [`NO_TWIN`] for a boundary half-edge; after a refusal
+///   from 8 to 11, [`NO_TWIN`] into all of them.
+/// - Leaves alone `twins` from 4F on, and all of it after a refusal from 1 to 7.
+/// - Refuses 1 to 11, in this order; 2 is a `twins` shorter than 4F.
+///
+/// ```
+/// use rusketja::{check, Counts, Mesh, Refusal, NO_TWIN};
+///
+/// let square = Mesh {
+///     vertices: 4,
+///     faces: 1,
+///     positions: &[0, 0, 0, 21, 0, 0, 21, 21, 0, 0, 21, 0],
+///     tags: &[0; 4],
+///     indices: &[0, 1, 2, 3],
+/// };
+/// let mut twins = [7; 5];
+/// assert_eq!(check(&square, &mut twins), Ok(Counts { vertices: 4, faces: 1, edges: 4, boundary: 4 }));
+/// assert_eq!(twins, [NO_TWIN, NO_TWIN, NO_TWIN, NO_TWIN, 7]);
+///
+/// let twice = Mesh { indices: &[0, 1, 2, 0], ..square };
+/// assert_eq!(check(&twice, &mut twins), Err(Refusal(6)));
+/// ```
+pub fn check(mesh: &Mesh, twins: &mut [u16]) -> Result<Counts, Refusal> {
+    let mut counts = Counts::default();
+    // SAFETY: each pointer and length are those of one slice, and what is written overlaps nothing, as it is borrowed mutably.
+    let code = unsafe {
+        ffi::rusketja_check(
+            mesh.vertices,
+            mesh.faces,
+            mesh.positions.as_ptr(),
+            mesh.positions.len(),
+            mesh.tags.as_ptr(),
+            mesh.tags.len(),
+            mesh.indices.as_ptr(),
+            mesh.indices.len(),
+            twins.as_mut_ptr(),
+            twins.len(),
+            &mut counts.vertices,
+            &mut counts.faces,
+            &mut counts.edges,
+            &mut counts.boundary,
+        )
+    };
+    accepted(code, counts)
+}
+
+/// Writes the bicubic patches of a mesh, which is checked first.
+///
+/// - Returns the counts of an accepted mesh, as [`check`] does.
+/// - Writes the patch of each face f into places 48f to 48f + 47 of `patches`, in 1/256 micrometre: control point i + 4j, i along
+///   u and j along v, as x, y, z, each rounded once to the nearest, halves to the even one. Writes `twins` as [`check`] does.
+/// - Leaves alone `patches` from 48F on, and all of it after a refusal; `twins` as [`check`] does.
+/// - Refuses 1 to 11, in this order; 2 is a `twins` shorter than 4F or a `patches` shorter than 48F.
+///
+/// ```
+/// use rusketja::{patches, Mesh};
+///
+/// let square = Mesh {
+///     vertices: 4,
+///     faces: 1,
+///     positions: &[0, 0, 0, 21, 0, 0, 21, 21, 0, 0, 21, 0],
+///     tags: &[0; 4],
+///     indices: &[0, 1, 2, 3],
+/// };
+/// let mut controls = [0; 48];
+/// patches(&square, &mut [0; 4], &mut controls)?;
+/// // b(1,0), b(1,1) and b(2,1)
+/// assert_eq!(controls[3..6], [1792, 0, 0]);
+/// assert_eq!(controls[15..18], [2304, 2304, 0]);
+/// assert_eq!(controls[18..21], [3072, 2304, 0]);
+/// # Ok::<(), rusketja::Refusal>(())
+/// ```
+pub fn patches(mesh: &Mesh, twins: &mut [u16], patches: &mut [i32]) -> Result<Counts, Refusal> {
+    let mut counts = Counts::default();
+    // SAFETY: each pointer and length are those of one slice, and what is written overlaps nothing, as it is borrowed mutably.
+    let code = unsafe {
+        ffi::rusketja_patches(
+            mesh.vertices,
+            mesh.faces,
+            mesh.positions.as_ptr(),
+            mesh.positions.len(),
+            mesh.tags.as_ptr(),
+            mesh.tags.len(),
+            mesh.indices.as_ptr(),
+            mesh.indices.len(),
+            twins.as_mut_ptr(),
+            twins.len(),
+            patches.as_mut_ptr(),
+            patches.len(),
+            &mut counts.vertices,
+            &mut counts.faces,
+            &mut counts.edges,
+            &mut counts.boundary,
+        )
+    };
+    accepted(code, counts)
+}
+
+/// Takes the sample of a face at (a, b) of n by n steps (n is document 01's N): the point of its patch at u = a/n, v = b/n.
+///
+/// - Returns x, y and z in 1/256 micrometre, each rounded once to the nearest, halves to the even one.
+/// - Reads only the 48 numbers from place 48f on of `patches`, which [`patches()`] writes.
+/// - Refuses 12, 13, 14, in this order.
+///
+/// ```
+/// use rusketja::{patches, sample, Mesh, Refusal};
+///
+/// let square = Mesh {
+///     vertices: 4,
+///     faces: 1,
+///     positions: &[0, 0, 0, 21, 0, 0, 21, 21, 0, 0, 21, 0],
+///     tags: &[0; 4],
+///     indices: &[0, 1, 2, 3],
+/// };
+/// let mut controls = [0; 48];
+/// patches(&square, &mut [0; 4], &mut controls)?;
+/// assert_eq!(sample(&controls, 0, 2, 1, 0), Ok([2688, 0, 0]));
+/// assert_eq!(sample(&controls, 1, 2, 1, 0), Err(Refusal(12)));
+/// assert_eq!(sample(&controls, 0, 2, 3, 0), Err(Refusal(14)));
+/// # Ok::<(), Refusal>(())
+/// ```
+pub fn sample(patches: &[i32], face: usize, n: usize, a: usize, b: usize) -> Result<[i32; 3], Refusal> {
+    let mut point = [0; 3];
+    let [x, y, z] = &mut point;
+    // SAFETY: the pointer and the length are those of one slice, and x, y, z are apart from it and from each other.
+    let code = unsafe { ffi::rusketja_sample(patches.as_ptr(), patches.len(), face, n, a, b, x, y, z) };
+    accepted(code, point)
+}
+
+/// Takes the sample of a face at (a, b) of n by n steps, in micrometres.
+///
+/// - Returns x, y and z in micrometres, each exactly the coordinate of the [`sample`] over 256.
+/// - Reads only the 48 numbers from place 48f on of `patches`, which [`patches()`] writes.
+/// - Refuses 12, 13, 14, in this order.
+///
+/// ```
+/// use rusketja::{patches, reading, Mesh};
+///
+/// let square = Mesh {
+///     vertices: 4,
+///     faces: 1,
+///     positions: &[0, 0, 0, 21, 0, 0, 21, 21, 0, 0, 21, 0],
+///     tags: &[0; 4],
+///     indices: &[0, 1, 2, 3],
+/// };
+/// let mut controls = [0; 48];
+/// patches(&square, &mut [0; 4], &mut controls)?;
+/// assert_eq!(reading(&controls, 0, 2, 1, 0)?, [10.5, 0.0, 0.0]);
+/// # Ok::<(), rusketja::Refusal>(())
+/// ```
+pub fn reading(patches: &[i32], face: usize, n: usize, a: usize, b: usize) -> Result<[f64; 3], Refusal> {
+    let mut point = [0.0; 3];
+    let [x, y, z] = &mut point;
+    // SAFETY: the pointer and the length are those of one slice, and x, y, z are apart from it and from each other.
+    let code = unsafe { ffi::rusketja_reading(patches.as_ptr(), patches.len(), face, n, a, b, x, y, z) };
+    accepted(code, point)
+}
+
+/// The four corners of a face, as that part of the list of vertex numbers; an empty part for a face f with 4f + 4 above the
+/// list's length.
+///
+/// ```
+/// use rusketja::face_corners;
+///
+/// let indices = [0, 1, 4, 3, 1, 2, 5, 4];
+/// assert_eq!(face_corners(&indices, 1), [1, 2, 5, 4]);
+/// assert!(face_corners(&indices, 2).is_empty());
+/// ```
+pub fn face_corners(indices: &[u16], face: usize) -> &[u16] {
+    let mut first = 0;
+    // SAFETY: the pointer and the length are those of one slice, and `first` is apart from it.
+    let count = unsafe { ffi::rusketja_face_corners(indices.as_ptr(), indices.len(), face, &mut first) };
+    &indices[first..first + count]
+}
+
+#[cfg(test)]
+mod tests {
+    use super::*;
+
+    const SQUARE: Mesh = Mesh {
+        vertices: 4,
+        faces: 1,
+        positions: &[0, 0, 0, 21, 0, 0, 21, 21, 0, 0, 21, 0],
+        tags: &[0; 4],
+        indices: &[0, 1, 2, 3],
+    };
+
+    #[test]
+    fn empty_lists_and_the_largest_numbers_are_refused() {
+        let none = Mesh { vertices: usize::MAX, faces: usize::MAX, positions: &[], tags: &[], indices: &[] };
+        assert_eq!(check(&none, &mut []), Err(Refusal(1)));
+        assert_eq!(patches(&none, &mut [], &mut []), Err(Refusal(1)));
+        assert_eq!(check(&SQUARE, &mut []), Err(Refusal(2)));
+        assert_eq!(patches(&SQUARE, &mut [0; 4], &mut [0; 47]), Err(Refusal(2)));
+        assert_eq!(sample(&[], 0, 1, 0, 0), Err(Refusal(12)));
+        assert_eq!(reading(&[0; 48], usize::MAX, 1, 0, 0), Err(Refusal(12)));
+        assert_eq!(sample(&[268_435_457; 48], 0, 1, 0, 0), Err(Refusal(13)));
+        assert_eq!(reading(&[0; 48], 0, usize::MAX, 0, 0), Err(Refusal(14)));
+        assert!(face_corners(&[], 0).is_empty());
+        assert!(face_corners(&[1; 7], usize::MAX).is_empty());
+    }
+
+    #[test]
+    fn lent_lists_are_left_alone_beyond_their_ends_and_after_a_refusal() {
+        let mut twins = [7; 6];
+        let mut controls = [7; 50];
+        let sizes = Mesh { vertices: 3, ..SQUARE };
+        assert_eq!(patches(&sizes, &mut twins, &mut controls), Err(Refusal(1)));
+        assert_eq!((twins, controls), ([7; 6], [7; 50]));
+        assert!(patches(&SQUARE, &mut twins, &mut controls).is_ok());
+        assert_eq!(twins, [NO_TWIN, NO_TWIN, NO_TWIN, NO_TWIN, 7, 7]);
+        assert_eq!(controls[PATCH_VALUES..], [7, 7]);
+        // A vertex in no face: the twins are cleared, the patches are as they were.
+        let written = controls;
+        let unused = Mesh { vertices: 5, positions: &[0; 15], tags: &[0; 5], ..SQUARE };
+        twins = [7; 6];
+        assert_eq!(patches(&unused, &mut twins, &mut controls), Err(Refusal(8)));
+        assert_eq!((twins, controls), ([NO_TWIN, NO_TWIN, NO_TWIN, NO_TWIN, 7, 7], written));
+    }
+
+    #[test]
+    fn a_refusal_says_its_number_and_its_cause() {
+        assert_eq!(Refusal(7).to_string(), "refused 7: a half-edge occurs twice the same way round");
+        let causes: Vec<_> = (1..=14).map(|number| Refusal(number).meaning()).collect();
+        for (place, cause) in causes.iter().enumerate() {
+            assert!(!causes[..place].contains(cause) && *cause != Refusal(0).meaning());
+        }
+    }
+}

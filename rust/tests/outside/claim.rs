@@ -1,0 +1,111 @@
+//! The claim in its three parts, on the library's own numbers: distance, seam and renumbering.
+
+use crate::document::{weights, Fraction, Surface};
+use crate::model::{Model, Renumbering};
+use crate::random::Random;
+use crate::tally::Tally;
+
+/// A place from 0 to N, often one of the ends.
+pub fn place(n: usize, random: &mut Random) -> usize {
+    match random.below(6) {
+        0 => 0,
+        1 => n,
+        _ => random.below(n + 1),
+    }
+}
+
+fn library_sample(patches: &[i32], face: usize, n: usize, a: usize, b: usize) -> [i32; 3] {
+    let refused = |refusal: rusketja::Refusal| panic!("face {face}, N {n}, a {a}, b {b} refused with {}", refusal.0);
+    rusketja::sample(patches, face, n, a, b).unwrap_or_else(refused)
+}
+
+fn common_multiple(points: &[Fraction; 16]) -> i128 {
+    fn common_divisor(a: i128, b: i128) -> i128 {
+        if b == 0 {
+            a
+        } else {
+            common_divisor(b, a % b)
+        }
+    }
+    points.iter().fold(1, |all, point| all / common_divisor(all, point.divisor) * point.divisor)
+}
+
+/// At most one unit from the exact surface, in whole numbers, at some places of some faces.
+pub fn distance(mesh: &Model, patches: &[i32], n: usize, random: &mut Random, tally: &mut Tally) {
+    let surface = Surface::new(mesh);
+    for _ in 0..mesh.faces.min(12) {
+        let face = random.below(mesh.faces);
+        let points = surface.patch(face);
+        let multiple = common_multiple(&points);
+        for _ in 0..4 {
+            let (a, b) = (place(n, random), place(n, random));
+            let sample = library_sample(patches, face, n, a, b);
+            let unit = (n as i128).pow(6) * multiple;
+            for (x, &coordinate) in sample.iter().enumerate() {
+                let apart = (coordinate as i128 * unit - exact(&points, multiple, n, a, b, x)).abs();
+                assert!(
+                    apart <= unit,
+                    "distance: face {face}, N {n}, a {a}, b {b}, coordinate {x}: {apart} over {unit}"
+                );
+                tally.farthest = tally.farthest.max((apart as f64 / unit as f64 * 1e6) as u64);
+            }
+            tally.distances += 1;
+        }
+    }
+}
+
+/// The exact surface times 256, N^6 and the common multiple.
+fn exact(points: &[Fraction; 16], multiple: i128, n: usize, a: usize, b: usize, x: usize) -> i128 {
+    let (along_u, along_v) = (weights(n, a), weights(n, b));
+    let term = |number: usize| {
+        let weight = along_u[number % 4] * along_v[number / 4];
+        weight * 256 * points[number].over[x] * (multiple / points[number].divisor)
+    };
+    (0..16).map(term).sum()
+}
+
+/// Place t of side 4f + s.
+fn side_place(side: usize, n: usize, t: usize) -> (usize, usize, usize) {
+    let (a, b) = [(t, 0), (n, t), (n - t, n), (0, n - t)][side % 4];
+    (side / 4, a, b)
+}
+
+/// Place t of a side and place N - t of its mate, the same three numbers.
+pub fn seam(mesh: &Model, patches: &[i32], n: usize, random: &mut Random, tally: &mut Tally) {
+    let surface = Surface::new(mesh);
+    for _ in 0..(4 * mesh.faces).min(60) {
+        let side = random.below(4 * mesh.faces);
+        let Some(mate) = surface.mate(side) else {
+            continue;
+        };
+        for t in [0, n, random.below(n + 1), random.below(n + 1)] {
+            let (face, a, b) = side_place(side, n, t);
+            let (other, c, d) = side_place(mate, n, n - t);
+            let (here, there) = (library_sample(patches, face, n, a, b), library_sample(patches, other, n, c, d));
+            assert_eq!(here, there, "seam: side {side}, mate {mate}, N {n}, place {t}");
+            tally.seams += 1;
+        }
+    }
+}
+
+/// The patch list of the library for a mesh that must be accepted.
+pub fn library_patches(mesh: &Model) -> Vec<i32> {
+    let (mut twins, mut patches) = (vec![0; 4 * mesh.faces], vec![0; 48 * mesh.faces]);
+    let refused = |refusal: rusketja::Refusal| panic!("an accepted mesh is refused with {}", refusal.0);
+    rusketja::patches(&mesh.lend(), &mut twins, &mut patches).unwrap_or_else(refused);
+    patches
+}
+
+/// The samples of the renumbered mesh at matching places.
+pub fn renumbering(mesh: &Model, patches: &[i32], n: usize, random: &mut Random, tally: &mut Tally) {
+    let change = Renumbering::random(mesh, random);
+    let new = library_patches(&change.apply(mesh));
+    for _ in 0..(4 * mesh.faces).min(60) {
+        let (face, a, b) = (random.below(mesh.faces), place(n, random), place(n, random));
+        let (other, c, d) = change.matching(face, n, a, b);
+        let (here, there) = (library_sample(patches, face, n, a, b), library_sample(&new, other, n, c, d));
+        assert_eq!(here, there, "renumbering: face {face} and {other}, N {n}, ({a}, {b}) and ({c}, {d})");
+        tally.matches += 1;
+    }
+    tally.renumbered += 1;
+}

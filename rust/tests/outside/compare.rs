@@ -1,0 +1,127 @@
+//! Each public call held against the document: its answer, and every list that it was lent, whole.
+
+use crate::document::{self, Four};
+use crate::model::Model;
+use crate::random::Random;
+use crate::tally::Tally;
+
+/// Lists to lend, filled with anything.
+#[derive(Clone)]
+pub struct Lent {
+    pub twins: Vec<u16>,
+    pub patches: Vec<i32>,
+}
+
+impl Lent {
+    /// Lists of these lengths.
+    pub fn filled(twins: usize, patches: usize, random: &mut Random) -> Lent {
+        let twins = (0..twins).map(|_| random.next() as u16).collect();
+        let patches = (0..patches).map(|_| random.next() as i32).collect();
+        Lent { twins, patches }
+    }
+
+    /// Lists that are long enough, or longer, where F is in its range.
+    pub fn enough(mesh: &Model, random: &mut Random) -> Lent {
+        let faces = mesh.faces.min(256);
+        let (more, more_patches) = (random.pick(&[0, 0, 1, 4, 9]), random.pick(&[0, 0, 1, 48, 50]));
+        Lent::filled(4 * faces + more, 48 * faces + more_patches, random)
+    }
+
+    /// Lists of which one or both may be too short.
+    pub fn any(mesh: &Model, random: &mut Random) -> Lent {
+        let faces = mesh.faces.min(256);
+        let any = |whole: usize, random: &mut Random| match random.below(4) {
+            0 => whole,
+            1 => whole.saturating_sub(1),
+            2 => random.below(whole + 1),
+            _ => whole + random.below(60),
+        };
+        Lent::filled(any(4 * faces, random), any(48 * faces, random), random)
+    }
+}
+
+/// The library's answer in the document's terms.
+fn four(answer: Result<rusketja::Counts, rusketja::Refusal>) -> Result<Four, u8> {
+    answer.map(|counts| [counts.vertices, counts.faces, counts.edges, counts.boundary]).map_err(|refusal| refusal.0)
+}
+
+/// Where two lists differ first.
+fn same<T: PartialEq + std::fmt::Debug>(what: &str, library: &[T], document: &[T]) {
+    assert_eq!(library.len(), document.len(), "{what}: length");
+    if let Some(at) = (0..library.len()).find(|&at| library[at] != document[at]) {
+        panic!(
+            "{what}: place {at} holds {:?} after the library's call, {:?} by the document",
+            library[at], document[at]
+        );
+    }
+}
+
+/// The check and the patch call on these lists; the patch list afterwards.
+pub fn mesh_calls(mesh: &Model, lent: &Lent, tally: &mut Tally) -> Vec<i32> {
+    let before = mesh.clone();
+    let (answer, twins_after) = document::check(mesh, &lent.twins);
+    let mut twins = lent.twins.clone();
+    assert_eq!(four(rusketja::check(&mesh.lend(), &mut twins)), answer, "the check's answer, left: library");
+    same("mates after the check", &twins, &twins_after);
+    tally.check[answer.err().unwrap_or(0) as usize] += 1;
+
+    let (answer, twins_after, patches_after) = document::patches(mesh, &lent.twins, &lent.patches);
+    let Lent { mut twins, mut patches } = lent.clone();
+    assert_eq!(
+        four(rusketja::patches(&mesh.lend(), &mut twins, &mut patches)),
+        answer,
+        "the patch call's answer, left: library"
+    );
+    same("mates after the patch call", &twins, &twins_after);
+    same("patch list after the patch call", &patches, &patches_after);
+    assert!(*mesh == before, "a list of the mesh was written");
+    tally.causes(&document::causes(mesh, twins.len(), Some(patches.len())));
+    tally.patches[answer.err().unwrap_or(0) as usize] += 1;
+    tally.control_values += answer.map_or(0, |[_, faces, _, _]| 48 * faces as u64);
+    patches
+}
+
+/// The sample call and the reading at one place.
+pub fn sample_calls(patches: &[i32], face: usize, n: usize, a: usize, b: usize, tally: &mut Tally) {
+    let place = format!("face {face}, N {n}, a {a}, b {b}");
+    let sample = rusketja::sample(patches, face, n, a, b).map_err(|refusal| refusal.0);
+    let reading = rusketja::reading(patches, face, n, a, b).map_err(|refusal| refusal.0);
+    if let Some(number) = document::sample_refusal(patches, face, n, a, b) {
+        assert_eq!(sample, Err(number), "the sample's answer at {place}, left: library");
+        assert_eq!(reading, Err(number), "the reading's answer at {place}, left: library");
+        tally.samples[number as usize] += 1;
+        tally.readings[number as usize] += 1;
+        return;
+    }
+    let fraction = document::sample_fraction(patches, face, n, a, b);
+    let expected = fraction.over.map(|over| document::nearest(over, fraction.divisor) as i32);
+    assert_eq!(sample, Ok(expected), "the sample at {place}, left: library");
+    let doubles = reading.unwrap_or_else(|number| panic!("the reading at {place} refuses with {number}"));
+    for x in 0..3 {
+        assert!(
+            doubles[x].is_finite() && doubles[x] * 256.0 == expected[x] as f64,
+            "the reading {doubles:?} at {place} of {expected:?}"
+        );
+        tally.half(fraction.over[x], fraction.divisor);
+    }
+    tally.samples[0] += 1;
+    tally.readings[0] += 1;
+    tally.steps[n - 1] += 1;
+}
+
+/// The four corners of each face as a part of the face list itself, and the empty part beyond it.
+pub fn face_parts(indices: &[u16], random: &mut Random, tally: &mut Tally) {
+    let whole = indices.len() / 4;
+    let far = random.pick(&[1 << 14, 1 << 30, 1 << 62, usize::MAX / 4, usize::MAX]);
+    let faces = [0, whole / 2, whole.saturating_sub(1), whole, whole + 1, far, far.wrapping_add(random.below(9))];
+    for face in faces {
+        let part = rusketja::face_corners(indices, face);
+        if face < whole {
+            assert_eq!(part, &indices[4 * face..4 * face + 4], "the corners of face {face}");
+            assert!(std::ptr::eq(part.as_ptr(), &indices[4 * face]), "face {face} is not that part of the list itself");
+        } else {
+            assert!(part.is_empty(), "face {face} of {whole} has corners {part:?}");
+        }
+        tally.corner_parts += 1;
+    }
+}

@@ -1,0 +1,159 @@
+//! What a run has covered: counted along the way, printed at the end, and asserted where it must not be zero.
+
+use crate::document::{Ring, Surface};
+use crate::model::Model;
+
+#[derive(Default)]
+pub struct Tally {
+    pub closed: u64,
+    pub open: u64,
+    pub most_vertices: usize,
+    pub most_faces: usize,
+    /// Answers of the check and of the patch call by number, 0 for accepted.
+    pub check: [u64; 15],
+    pub patches: [u64; 15],
+    /// Patch calls by the first cause met and by each other one.
+    pub together: [[u64; 12]; 12],
+    pub samples: [u64; 15],
+    pub readings: [u64; 15],
+    /// Vertices by n, and by k and tag.
+    pub inner: [u64; 17],
+    pub rim: [[u64; 2]; 9],
+    /// Samples compared, by N - 1.
+    pub steps: [u64; 32],
+    /// Coordinates of samples that were halves: below zero or not, even number below or above.
+    pub halves: [[u64; 2]; 2],
+    pub control_values: u64,
+    pub corner_parts: u64,
+    pub distances: u64,
+    pub seams: u64,
+    pub matches: u64,
+    pub renumbered: u64,
+    /// The largest distance seen, in millionths of one unit.
+    pub farthest: u64,
+}
+
+impl Tally {
+    /// Counts an accepted mesh and its vertices.
+    pub fn mesh(&mut self, mesh: &Model) {
+        let surface = Surface::new(mesh);
+        let closed = surface.counts()[3] == 0;
+        self.closed += closed as u64;
+        self.open += !closed as u64;
+        self.most_vertices = self.most_vertices.max(mesh.vertices);
+        self.most_faces = self.most_faces.max(mesh.faces);
+        for p in 0..mesh.vertices {
+            match surface.ring(p) {
+                Ring::Turn(n) => self.inner[n] += 1,
+                Ring::Chain(k) => self.rim[k][mesh.tags[p] as usize] += 1,
+                Ring::Neither => panic!("not accepted"),
+            }
+        }
+    }
+
+    /// Counts one coordinate of a sample when it is a half.
+    pub fn half(&mut self, over: i128, divisor: i128) {
+        if 2 * over.rem_euclid(divisor) == divisor {
+            let even_below = over.div_euclid(divisor).rem_euclid(2) == 0;
+            self.halves[(over < 0) as usize][even_below as usize] += 1;
+        }
+    }
+
+    /// Counts the causes met by a patch call.
+    pub fn causes(&mut self, causes: &[u8]) {
+        for &other in causes.iter().skip(1) {
+            self.together[causes[0] as usize][other as usize] += 1;
+        }
+    }
+
+    pub fn print_answers(&self, title: &str) {
+        println!("{title}: answers of the check, 0 to 11: {:?}", &self.check[..12]);
+        println!("  answers of the patch call, 0 to 11: {:?}", &self.patches[..12]);
+        println!("  control values {}, face parts {}", self.control_values, self.corner_parts);
+    }
+
+    pub fn print_causes(&self) {
+        for first in 2..11 {
+            println!(
+                "  refused with {first}, other causes met from {}: {:?}",
+                first + 1,
+                &self.together[first][first + 1..]
+            );
+        }
+    }
+
+    pub fn print_shapes(&self) {
+        println!(
+            "  {} closed and {} open meshes, V to {}, F to {}",
+            self.closed, self.open, self.most_vertices, self.most_faces
+        );
+        println!("  inner vertices by n, 3 to 16: {:?}", &self.inner[3..]);
+        println!("  rim vertices by k, 1 to 8, with tag 0 and 1: {:?}", &self.rim[1..]);
+    }
+
+    pub fn print_samples(&self, title: &str) {
+        println!("{title}: samples by N, 1 to 32: {:?}", self.steps);
+        println!(
+            "  sample answers 0, 12, 13, 14: {:?}, reading answers: {:?}",
+            numbers(&self.samples),
+            numbers(&self.readings)
+        );
+        println!("  halves, positive to above and below, negative to above and below: {:?}", self.halves);
+    }
+
+    pub fn print_claim(&self) {
+        println!("  distances {}, farthest {} millionths of a unit", self.distances, self.farthest);
+        println!(
+            "  seam places {}, renumbered meshes {}, matching places {}",
+            self.seams, self.renumbered, self.matches
+        );
+    }
+
+    /// Every n and k, both tags, closed and open meshes, the largest sizes.
+    pub fn assert_shapes(&self) {
+        assert!(self.inner[3..].iter().all(|&seen| seen > 0), "an n was not seen");
+        assert!(self.rim[1..].iter().flatten().all(|&seen| seen > 0), "a k or a tag was not seen");
+        assert!(self.closed > 0 && self.open > 0);
+        assert_eq!((self.most_vertices, self.most_faces), (512, 256), "the largest sizes were not seen");
+    }
+
+    /// Every refusal of the calls on meshes.
+    pub fn assert_refusals(&self) {
+        assert!(self.check[..12].iter().all(|&seen| seen > 0), "a refusal of the check was not seen");
+        assert!(self.patches[..12].iter().all(|&seen| seen > 0), "a refusal of the patch call was not seen");
+        for (first, other) in (2..11).flat_map(|first| (first + 1..12).map(move |other| (first, other))) {
+            assert!(
+                !can_meet(first, other) || self.together[first][other] > 0,
+                "{first} and {other} were not seen together"
+            );
+        }
+    }
+
+    /// Every N, every refusal of a sample and of a reading, every kind of half.
+    pub fn assert_samples(&self) {
+        assert!(self.steps.iter().all(|&seen| seen > 0), "an N was not seen");
+        assert!(numbers(&self.samples).iter().all(|&seen| seen > 0), "an answer of the sample call was not seen");
+        assert!(numbers(&self.readings).iter().all(|&seen| seen > 0), "an answer of the reading was not seen");
+        assert!(self.halves.iter().flatten().all(|&seen| seen > 0), "a kind of half was not seen");
+    }
+
+    /// Each of the three parts of the claim.
+    pub fn assert_claim(&self) {
+        assert!(self.distances > 0 && self.seams > 0 && self.matches > 0 && self.renumbered > 0);
+    }
+}
+
+/// Whether the document's causes can be told together: no 7 to 11 where 5 is met, none after 6 but 7, none after 7.
+fn can_meet(first: usize, other: usize) -> bool {
+    match first {
+        5 => other == 6,
+        6 => other == 7,
+        7 => false,
+        _ => true,
+    }
+}
+
+/// The counts for the answers 0, 12, 13 and 14.
+fn numbers(answers: &[u64; 15]) -> [u64; 4] {
+    [0, 12, 13, 14].map(|number: usize| answers[number])
+}

@@ -1,0 +1,103 @@
+//! The trial meshes and edges of document 01 with the numbers that it gives.
+
+use crate::compare::{self, Lent};
+use crate::model::Model;
+use crate::random::Random;
+use crate::shapes::{self, Quads};
+use crate::tally::Tally;
+use crate::{claim, document};
+
+fn model(positions: &[[i32; 3]], faces: &[[usize; 4]]) -> Model {
+    let mut mesh = Quads { vertices: positions.len(), faces: faces.to_vec() }.model();
+    mesh.positions = positions.concat();
+    mesh
+}
+
+/// The answers of both calls, which must be the same: 0 or the number of the refusal.
+fn answer(mesh: &Model) -> u8 {
+    let mut tally = Tally::default();
+    let faces = mesh.faces.min(300);
+    compare::mesh_calls(mesh, &Lent::filled(4 * faces, 48 * faces, &mut Random::case(0, 0, 0)), &mut tally);
+    let check = tally.check.iter().position(|&seen| seen > 0);
+    assert_eq!(check, tally.patches.iter().position(|&seen| seen > 0));
+    check.expect("an answer") as u8
+}
+
+/// Control point b(i,j) of the first patch.
+fn at(patches: &[i32], i: usize, j: usize) -> [i32; 3] {
+    [0, 1, 2].map(|x| patches[3 * (i + 4 * j) + x])
+}
+
+fn square() -> Model {
+    model(&[[0, 0, 0], [21, 0, 0], [21, 21, 0], [0, 21, 0]], &[[0, 1, 2, 3]])
+}
+
+#[test]
+fn square_and_its_samples() {
+    let patches = claim::library_patches(&square());
+    assert_eq!(at(&patches, 1, 0), [1792, 0, 0]);
+    assert_eq!(at(&patches, 1, 1), [2304, 2304, 0]);
+    assert_eq!(at(&patches, 2, 1), [3072, 2304, 0]);
+    assert_eq!(rusketja::sample(&patches, 0, 2, 1, 0).ok(), Some([2688, 0, 0]));
+    assert_eq!(rusketja::sample(&patches, 0, 2, 1, 1).ok(), Some([2688, 2688, 0]));
+    assert_eq!(rusketja::reading(&patches, 0, 2, 1, 1).ok(), Some([10.5, 10.5, 0.0]));
+    for (a, b) in [(0, 0), (1, 0), (0, 1), (1, 1)] {
+        assert_eq!(rusketja::sample(&patches, 0, 1, a, b).ok(), Some([5376 * a as i32, 5376 * b as i32, 0]));
+    }
+}
+
+#[test]
+fn cube() {
+    let corner = |p: i32| [p & 1, p >> 1 & 1, p >> 2].map(|bit| 48 * bit - 24);
+    let positions: Vec<[i32; 3]> = (0..8).map(corner).collect();
+    let top_first = [[7, 6, 4, 5], [0, 2, 3, 1], [0, 1, 5, 4], [1, 3, 7, 5], [3, 2, 6, 7], [2, 0, 4, 6]];
+    let cube = model(&positions, &top_first);
+    let counts = rusketja::check(&cube.lend(), &mut [0; 24]).expect("the cube is accepted");
+    assert_eq!([counts.vertices, counts.faces, counts.edges, counts.boundary], [8, 6, 12, 0]);
+    let patches = claim::library_patches(&cube);
+    assert_eq!(at(&patches, 0, 0), [3072, 3072, 3072]);
+    assert_eq!(at(&patches, 1, 1), [1536, 1536, 6144]);
+    assert_eq!(at(&patches, 1, 0), [1536, 3840, 3840]);
+}
+
+/// The answer to faces over vertices that all lie at one place.
+fn alone(vertices: usize, faces: &[[usize; 4]]) -> u8 {
+    answer(&Quads { vertices, faces: faces.to_vec() }.model())
+}
+
+#[test]
+fn halves_to_the_even() {
+    let halves = [(1, 0), (3, 2), (5, 2), (-1, 0), (-3, -2)];
+    for (over, whole) in halves {
+        assert_eq!(document::nearest(over, 2), whole);
+    }
+}
+
+#[test]
+fn refused_meshes() {
+    assert_eq!(alone(4, &[[0, 1, 2, 3], [3, 2, 1, 0]]), 10);
+    assert_eq!(alone(4, &[[0, 1, 2, 3], [0, 1, 2, 3]]), 7);
+    assert_eq!(alone(7, &[[0, 1, 2, 3], [3, 4, 5, 6]]), 9);
+    assert_eq!(alone(3, &[[0, 1, 2, 0]]), 1);
+    assert_eq!(alone(4, &[[0, 1, 2, 3]]), 0);
+}
+
+#[test]
+fn edges_of_the_ranges() {
+    let both = |passes: Quads, refused: Quads| [passes, refused].map(|quads| answer(&quads.model()));
+    let tube = |faces: usize| shapes::sheet(faces, 1, true, false);
+    assert_eq!(both(tube(256), tube(257)), [0, 1]);
+    assert_eq!(both(shapes::poles(16), shapes::poles(17)), [0, 10]);
+    assert_eq!(both(shapes::wheel(16), shapes::wheel(17)), [0, 10]);
+    assert_eq!(both(shapes::fan(8), shapes::fan(9)), [0, 10]);
+    for (coordinate, number) in [(1_048_576, 0), (1_048_577, 3), (-1_048_576, 0), (-1_048_577, 3)] {
+        let mut mesh = square();
+        mesh.positions[7] = coordinate;
+        assert_eq!(answer(&mesh), number);
+    }
+    let patches = claim::library_patches(&square());
+    for (n, number) in [(32, None), (33, Some(14)), (0, Some(14)), (1, None)] {
+        let refused = rusketja::sample(&patches, 0, n, 0, 0).err();
+        assert_eq!(refused.map(|refusal| refusal.0), number);
+    }
+}

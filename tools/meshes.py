@@ -1,0 +1,188 @@
+"""Document 01 read once more: its limits, the check of a mesh, and the patches and samples of an accepted one.
+
+A mesh is read by sets and dictionaries over the whole of it, its control points and samples by fractions in patches.py.
+tools/trials.py and tools/vectors.py use it.
+"""
+
+import struct
+from dataclasses import dataclass
+from functools import cached_property
+
+from patches import Surface, assert_seams, exact_samples, rounded
+from shapes import Shape, bow_tie, cube, isolated, join, pillow, square
+
+# The limits of document 01.
+VERTICES = range(4, 512 + 1)
+FACES = range(1, 256 + 1)
+COORDINATES = range(-1048576, 1048576 + 1)
+TAGS = range(0, 1 + 1)
+INNER_VALENCES = range(3, 16 + 1)
+BOUNDARY_FACES = range(1, 8 + 1)
+NO_MATE = 65535
+CONTROL = 268435456
+CONTROLS = range(-CONTROL, CONTROL + 1)
+STEPS = range(1, 32 + 1)
+
+
+@dataclass
+class Mesh:
+    v: int
+    f: int
+    positions: list
+    tags: list
+    faces: list
+
+    def packed(self):
+        """The three lists as bytes, each number with its low byte first."""
+        positions = struct.pack(f"<{len(self.positions)}i", *self.positions)
+        return positions + bytes(self.tags) + struct.pack(f"<{len(self.faces)}H", *self.faces)
+
+
+def numbered(shape):
+    """A shape with positions of its own, smooth."""
+    n = shape.vertices
+    positions = [x for p in range(n) for x in (21 * p, p * p % 1009, -p)]
+    return Mesh(n, len(shape.faces), positions, [0] * n, [p for face in shape.faces for p in face])
+
+
+def changed(mesh, **changes):
+    """A mesh with other numbers: v=5, positions={place: value} for an entry, and so on."""
+    for name, change in changes.items():
+        old = getattr(mesh, name)
+        setattr(mesh, name, [change.get(i, x) for i, x in enumerate(old)] if isinstance(change, dict) else change)
+    return mesh
+
+
+# ---- What document 01 says of a mesh.
+
+
+class MeshReading:
+    """The check of a mesh."""
+
+    def __init__(self, mesh):
+        self.mesh = mesh
+        self.quads = [mesh.faces[c : c + 4] for c in range(0, len(mesh.faces) - 3, 4)]
+        # The two ends of side 4f + s, and the mate of each side.
+        self.sides = [(quad[s], quad[(s + 1) % 4]) for quad in self.quads for s in range(4)]
+        number = {ends: c for c, ends in enumerate(self.sides)}
+        self.mates = [number.get((b, a)) for a, b in self.sides]
+        # The corners at each vertex, and whether every side that leaves it has a mate.
+        self.corners = {}
+        for c, (p, _) in enumerate(self.sides):
+            self.corners.setdefault(p, []).append(c)
+        self.fans = {p: self.parted(corners) for p, corners in self.corners.items()}
+        self.inner = {p: all(self.mates[c] is not None for c in corners) for p, corners in self.corners.items()}
+
+    def parted(self, corners):
+        """The corners at a vertex, parted into sets that turning about the vertex joins."""
+        fans = [{c} for c in corners]
+        for c in corners:
+            # The next corner is the start of the mate of the side that comes in.
+            after = self.mates[c - c % 4 + (c + 3) % 4]
+            joined = [fan for fan in fans if c in fan or after in fan]
+            fans = [fan for fan in fans if fan not in joined] + [set().union(*joined)]
+        return fans
+
+    def whole(self):
+        """The vertices whose corners form one turn or one chain, each with the number of its corners."""
+        return [(p, len(fans[0])) for p, fans in self.fans.items() if len(fans) == 1]
+
+    def lent_short(self):
+        """Whether a lent list is too short; here none is lent."""
+        return False
+
+    def causes(self):
+        """The numbers of all causes that are met, in order; the answer is the first."""
+        t = self.mesh
+        met = {
+            1: t.v not in VERTICES or t.f not in FACES or len(t.positions) != 3 * t.v or len(t.tags) != t.v or len(t.faces) != 4 * t.f,
+            2: self.lent_short(),
+            3: any(x not in COORDINATES for x in t.positions),
+            4: any(x not in TAGS for x in t.tags),
+            5: any(p >= t.v for p in t.faces),
+            6: any(len(set(quad)) < 4 for quad in self.quads),
+            7: len(set(self.sides)) < len(self.sides),
+            8: any(p not in self.fans for p in range(t.v)),
+            9: any(len(fans) > 1 for fans in self.fans.values()),
+            10: any(count not in (INNER_VALENCES if self.inner[p] else BOUNDARY_FACES) for p, count in self.whole()),
+            11: any(self.inner[p] and t.tags[p : p + 1] == [1] for p in self.fans),
+        }
+        return [number for number, holds in met.items() if holds]
+
+    def counts(self):
+        """V, F, E and B of an accepted mesh."""
+        t = self.mesh
+        edges, boundary = len({frozenset(ends) for ends in self.sides}), self.mates.count(None)
+        assert 4 * t.f + boundary == 2 * edges
+        return [t.v, t.f, edges, boundary]
+
+
+class PatchReading(MeshReading):
+    """The patches and the samples of a mesh that has document 01's N too."""
+
+    def __init__(self, mesh):
+        super().__init__(mesh)
+        self.points = [tuple(mesh.positions[c : c + 3]) for c in range(0, len(mesh.positions) - 2, 3)]
+        self.faces = [tuple(quad) for quad in self.quads]
+
+    @cached_property
+    def patches(self):
+        """The patch of each face; none of a refused mesh."""
+        if self.causes():
+            return []
+        surface = Surface(self.points, self.mesh.tags, self.faces)
+        patches = [surface.patch(f) for f in range(self.mesh.f)]
+        assert all(x in CONTROLS for patch in patches for x in patch)
+        return patches
+
+    @cached_property
+    def exact(self):
+        """The samples of each face, before they are rounded."""
+        return [exact_samples(patch, self.mesh.n) for patch in self.patches]
+
+    @cached_property
+    def samples(self):
+        samples = [rounded(exact) for exact in self.exact]
+        if samples:
+            assert_seams(samples, self.mates, self.mesh.n)
+        return samples
+
+
+# ---- Meshes that are refused.
+
+# A fault for each cause that looks at a mesh of the right sizes, as a word for a name.
+MESH_FAULTS = {
+    3: "far-coordinate",
+    4: "tag-2",
+    5: "vertex-v",
+    6: "vertex-twice",
+    7: "same-face-twice",
+    8: "isolated-vertex",
+    9: "bow-tie",
+    10: "pillow",
+    11: "inner-tag",
+}
+
+
+def spoiled(causes, *more):
+    """A mesh that meets these causes, the later ones earlier in the lists, with more shapes behind them."""
+    shapes = {
+        11: cube(),
+        10: pillow(),
+        9: bow_tie(),
+        8: isolated(),
+        7: Shape(square().faces * 2),
+        6: Shape([(0, 1, 2, 1)]),
+    }
+    shape = join(*[shapes[n] for n in sorted(causes, reverse=True) if n in shapes], square(), *more)
+    mesh = numbered(shape)
+    last = shape.vertices - 1
+    if 11 in causes:
+        changed(mesh, tags={0: 1})
+    if 5 in causes:
+        changed(mesh, faces={4 * mesh.f - 1: shape.vertices})
+    if 4 in causes:
+        changed(mesh, tags={last: 2})
+    if 3 in causes:
+        changed(mesh, positions={3 * last: 1048577})
+    return mesh
