@@ -1,4 +1,5 @@
 //! Document 01, sentence by sentence, in exact fractions: slow and plain, written from the document alone.
+//! Its words are the document's: a side is a half-edge, a mate a twin, the rim the boundary, a patch number a control value.
 
 use crate::model::Model;
 use std::collections::BTreeSet;

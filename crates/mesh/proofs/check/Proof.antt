@@ -99,7 +99,7 @@ late-refusal-requires c κs =
     ((p .indices, p .simple, p .sized .vertices-high, le-of-eq (sym (p .sized .tags-are))), ((kept t, omega arith), (written t, r .early-refusal .ensures .1 (e₁ .if1 .left) .heads)))
 
 clear-twins-requires : tie.Need-clear-twins-requires
-clear-twins-requires c κs = kept (c .before .before .before .before .before .before .before)
+clear-twins-requires c κs = omega (arith, kept (c .before .before .before .before .before .before .before))
 
 same-length : tie.Need-same-length
 same-length c = c .before .before .clear-twins .kept .1 .0 ∙ c .before .before .before .before .before .before .before .before .before .before .fill-twins .kept .1 .1 .1 .1 .0

@@ -1,7 +1,7 @@
 -- `fill_patches` meets its contract: from the tables, 48 numbers are written for each face, from 48 times its number on.
 use mathlib.Core.Path.{_≡_, refl}
-use Prim.Native.Nat.{_+_, _*_, _-_, _≤_}
-use native.Mathlib.Numerals.{add-one-le, add-one-dec}
+use Prim.Native.Nat.{_<_, _+_, _*_, _-_, _≤_}
+use native.Mathlib.Numerals.{add-one-le}
 use native.Mathlib.Omega.{arith}
 use lib.ListN.{length}
 use borrow.Author.Needs.{needs}
@@ -65,7 +65,7 @@ write-patch-requires c κs =
     let l = c .before .before .before .before in
     let s = start l in
     let a = s .pre .0 .0 in
-    let below = c .before .before .before .loop-test .taken in (
+    let below : l .loop .g < s .args .f = omega arith in (
       source a (l .loop .inv .3),
       face-listed a (l .loop .g) below,
       stretch-long (48 * l .loop .g) 48 (l .loop .patches) (omega (arith, s .pre .0 .1, l .loop .inv .1, below)),
@@ -75,13 +75,13 @@ add-g : tie.Need-add-g Inv-loop μ-loop
 add-g c = omega arith
 
 loop-less : tie.Need-loop-less Inv-loop μ-loop
-loop-less c = add-one-dec _ _ (c .before .before .before .before .before .loop-test .taken)
+loop-less c = omega arith
 
 loop-again : tie.Need-loop-again Inv-loop μ-loop
 loop-again c =
     let l = c .before .before .before .before .before .before in
     let s = start l in
-    let below = c .before .before .before .before .before .loop-test .taken in
+    let below : l .loop .g < s .args .f = omega arith in
     let w = filled-stretch (patchNumber (mesh s)) _ (48 * l .loop .g) 48 (48 * (l .loop .g + 1)) (s .args .patches .now) (l .loop .patches) _ (omega arith) (omega (arith, s .pre .0 .1, below))
     (λ j h. number-from (s .pre .0 .0) (l .loop .inv .3) (l .loop .g) j below h) (l .loop .inv .2) (c .before .write-patch .ensures) in
     (add-one-le below, w .0, w .1, l .loop .inv .3)
