@@ -1,6 +1,6 @@
 -- What the points of a patch are read from: coordinates are listed and within their range, the listed twins tell which half-edges are sharp,
--- and two tables tell which point of which corner each of the sixteen is.
-use mathlib.Core.Path.{_≡_, refl, sym, _∙_}
+-- two tables tell which point of which corner each of the sixteen is, and three coordinates are a point.
+use mathlib.Core.Path.{_≡_, refl, sym, ap₂, _∙_}
 use mathlib.Core.Bool.{true, false}
 use mathlib.Core.List.{List, [], _∷_, map}
 use Prim.Native.Nat.{ℕ, zero, suc, _+_, _-_, _*_, _/_, _%_, _≤_, _<_}
@@ -8,10 +8,12 @@ use native.Mathlib.Nat.{not-suc-le-zero}
 use native.Mathlib.Omega.{arith}
 use lib.Dec.{ltb}
 use lib.IntN.{ℤ, natAbs}
-use lib.ListN.{length, getD}
+use lib.ListN.{length, getD, set}
 use borrow.Author.Tests.{eq-eqb, ne-eqb, ltb-true}
 use Rattle.finite.specs.Fold.{foldBelow}
+use Rattle.finite.specs.Filled.{listBelow, filled}
 use Rattle.finite.proofs.AnyAll.{all-true}
+use Rattle.finite.proofs.FilledLaws.{filled-start, filled-more}
 use Rattle.mesh.specs.Limits.{maxCoordinate, noTwin}
 use Rattle.mesh.specs.Corner.{turn}
 use Rattle.mesh.specs.HalfEdge.{boundary}
@@ -68,3 +70,16 @@ pub table-at : {A B : Type 0} (f : A → B) (b : B) (xs : List A) (a : A) (m : �
 table-at f b [] a m l = absurd (not-suc-le-zero l)
 table-at f b (x ∷ xs) a zero l = refl
 table-at f b (x ∷ xs) a (suc m) l = table-at f b xs a m (omega arith)
+
+-- ---- three coordinates
+pub list-of-three : {A : Type 0} (f : ℕ → A) {x y z : A} → x ≡ f 0 → y ≡ f 1 → z ≡ f 2 → x ∷ (y ∷ (z ∷ [])) ≡ listBelow f 3
+unfolding listBelow
+list-of-three f p q r = ap₂ _∷_ p (ap₂ _∷_ q (ap₂ _∷_ r refl))
+
+-- three stores
+pub filled-three : {A : Type 0} (f : ℕ → A) (d : List A) {x y z : A} → 3 ≤ length d → x ≡ f 0 → y ≡ f 1 → z ≡ f 2
+    → set (set (set d 0 x) 1 y) 2 z ≡ filled f 3 d
+filled-three f d l p q r =
+    let first = filled-more f 0 _ d d (omega arith) (filled-start f d) p in
+    let second = filled-more f 1 _ d _ (omega arith) first q in
+    filled-more f 2 _ d _ (omega arith) second r

@@ -7,9 +7,10 @@ use crate::values::turned;
 use crate::values::wide;
 use mesh::model::Mesh;
 ghost use mathlib.Core.Path.{_≡_};
-ghost use Prim.Native.Nat.{_+_, _*_, _<_};
+ghost use Prim.Native.Nat.{ℕ, _+_, _*_, _<_};
 ghost use lib.IntN.{pos};
 ghost use lib.ListN.{length, getD};
+ghost use Rattle.finite.specs.Filled.{listBelow};
 ghost use Rattle.mesh.specs.Corner.{turn};
 ghost use Rattle.mesh.specs.Private.{vertexOf};
 ghost use Rattle.patch.specs.Point.{innerPoint, edgePoint, alongPoint, beforePoint};
@@ -33,13 +34,7 @@ fn turned_value(positions: &[i32], faces: &[u16], k: usize, i: usize, c: usize) 
 }
 
 // The inner point at corner c, coordinate k.
-pub(crate) fn inner_point(
-    positions: &[i32],
-    faces: &[u16],
-    weights: &[u16],
-    k: usize,
-    c: usize,
-) -> i32
+fn inner_point(positions: &[i32], faces: &[u16], weights: &[u16], k: usize, c: usize) -> i32
     requires { ⌜ Readable (now positions) (now faces) (now weights) k × (c < length (now faces)) ⌝ }
     ensures { λ r. ⌜ r ≡ units (innerPoint (seen (now (positions .entry)) (now (faces .entry)) k) c) ⌝ }
 {
@@ -76,7 +71,7 @@ fn edge_point(
 }
 
 // The edge point on half-edge c near its start, coordinate k.
-pub(crate) fn along_point(
+fn along_point(
     positions: &[i32],
     faces: &[u16],
     twins: &[u16],
@@ -96,7 +91,7 @@ pub(crate) fn along_point(
 }
 
 // The edge point on the half-edge before c near its end, coordinate k.
-pub(crate) fn before_point(
+fn before_point(
     positions: &[i32],
     faces: &[u16],
     twins: &[u16],
@@ -114,4 +109,52 @@ pub(crate) fn before_point(
         return boundary_edge_mask(p, corner_value(positions, faces, k, h));
     }
     edge_point(positions, faces, weights, k, wide(d), h)
+}
+
+// The inner point at corner c.
+pub(crate) fn inner_points(positions: &[i32], faces: &[u16], weights: &[u16], c: usize) -> [i32; 3]
+    requires { ⌜ ((k : ℕ) → k < 3 → Readable (now positions) (now faces) (now weights) k) × (c < length (now faces)) ⌝ }
+    ensures { λ r. ⌜ r ≡ listBelow (λ k. units (innerPoint (seen (now (positions .entry)) (now (faces .entry)) k) c)) 3 ⌝ }
+{
+    [
+        inner_point(positions, faces, weights, 0, c),
+        inner_point(positions, faces, weights, 1, c),
+        inner_point(positions, faces, weights, 2, c),
+    ]
+}
+
+// The edge point on half-edge c near its start.
+pub(crate) fn along_points(
+    positions: &[i32],
+    faces: &[u16],
+    twins: &[u16],
+    weights: &[u16],
+    c: usize,
+) -> [i32; 3]
+    requires { ⌜ ((k : ℕ) → k < 3 → Readable (now positions) (now faces) (now weights) k) × Twins (now faces) (now twins) × (c < length (now faces)) ⌝ }
+    ensures { λ r. ⌜ r ≡ listBelow (λ k. units (alongPoint (seen (now (positions .entry)) (now (faces .entry)) k) c)) 3 ⌝ }
+{
+    [
+        along_point(positions, faces, twins, weights, 0, c),
+        along_point(positions, faces, twins, weights, 1, c),
+        along_point(positions, faces, twins, weights, 2, c),
+    ]
+}
+
+// The edge point on the half-edge before c near its end.
+pub(crate) fn before_points(
+    positions: &[i32],
+    faces: &[u16],
+    twins: &[u16],
+    weights: &[u16],
+    c: usize,
+) -> [i32; 3]
+    requires { ⌜ ((k : ℕ) → k < 3 → Readable (now positions) (now faces) (now weights) k) × Twins (now faces) (now twins) × (c < length (now faces)) ⌝ }
+    ensures { λ r. ⌜ r ≡ listBelow (λ k. units (beforePoint (seen (now (positions .entry)) (now (faces .entry)) k) c)) 3 ⌝ }
+{
+    [
+        before_point(positions, faces, twins, weights, 0, c),
+        before_point(positions, faces, twins, weights, 1, c),
+        before_point(positions, faces, twins, weights, 2, c),
+    ]
 }

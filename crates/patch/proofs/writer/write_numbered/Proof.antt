@@ -14,14 +14,15 @@ use Rattle.patch.proofs.writer.write_numbered.Tie as tie
 array-copy-out-kind : tie.Need-array-copy-out-kind
 array-copy-out-kind c = omega arith
 
-mul-turned : tie.Need-mul-turned
-mul-turned c = omega arith
-
 array-read-turned : tie.Need-array-read-turned
 array-read-turned c = omega arith
 
-mul-turned-2 : tie.Need-mul-turned-2
-mul-turned-2 c = omega arith
+cast-turned : tie.Need-cast-turned
+unfolding owner
+cast-turned c = omega (arith, owner-below (c .before .before .before .before .args .m) (omega arith))
+
+mul-turned : tie.Need-mul-turned
+mul-turned c = omega arith
 
 turned-requires : tie.Need-turned-requires
 unfolding owner
@@ -49,9 +50,9 @@ write-numbered-spec =
     tie.close
     (tie.spec
     array-copy-out-kind
-    mul-turned
     array-read-turned
-    mul-turned-2
+    cast-turned
+    mul-turned
     turned-requires
     write-point-requires
     same-length
