@@ -1,15 +1,18 @@
-//! The printed lines of a file, on standard output. What is printed is tested: no contract can speak of standard output.
+//! The printed lines of a file, on standard output. The answer that is handed back is proved; what is printed is tested, as no
+//! contract can speak of standard output.
 use libc::STDOUT_FILENO;
 use mesh::model::Mesh;
 use meshfile::model::Opened;
 use meshfile::model::Tessellation;
 use meshfile::text::LINE_PLACES;
 use sample::model::Sampled;
+ghost use mathlib.Core.Path.{_≡_};
 ghost use Prim.Native.Nat.{_≤_};
 ghost use lib.ListN.{length};
+ghost use Rattle.meshfile.specs.Answer.{opened, openAnswer, openList};
 
-// The places that the patches of the largest mesh take up.
-const PATCH_PLACES: usize = 48 * Mesh::MAX_FACES;
+// The places that the patches of the largest mesh take up: a list of so many is never too short.
+pub const PATCH_PLACES: usize = 48 * Mesh::MAX_FACES;
 
 // Returns the place of the next line: where it might not fit, the lines before it are written out first.
 fn room(out: &[u8], at: usize) -> usize
@@ -99,16 +102,23 @@ fn put_answer(answer: Opened, patches: &[i32], out: &mut [u8]) -> usize
 }
 
 // Opens the file with a list for its patches, and prints its lines through a buffer.
-fn print_through(bytes: &[u8], patches: &mut [i32], out: &mut [u8]) {
+fn print_through(bytes: &[u8], patches: &mut [i32], out: &mut [u8]) -> Opened
+    ensures { λ r. ⌜ opened r ≡ openAnswer (now (bytes .entry)) (now (patches .entry)) ⌝ }
+    ensures { λ r. ⌜ now (patches .exit) ≡ openList (now (bytes .entry)) (now (patches .entry)) ⌝ }
+{
     let answer = meshfile::open(bytes, patches);
     let end = put_answer(answer, patches, out);
     io::write_all(STDOUT_FILENO, &out[..end]);
+    answer
 }
 
 // Prints the lines of a file: of an accepted mesh the counts and then, for each face, b from 0 and within it a from 0, the samples;
 // of any other the refusal alone.
-pub fn print(bytes: &[u8]) {
-    let mut patches = [0i32; PATCH_PLACES];
+// Returns, writes, leaves alone, refuses: as `meshfile::open`.
+pub fn print(bytes: &[u8], patches: &mut [i32]) -> Opened
+    ensures { λ r. ⌜ opened r ≡ openAnswer (now (bytes .entry)) (now (patches .entry)) ⌝ }
+    ensures { λ r. ⌜ now (patches .exit) ≡ openList (now (bytes .entry)) (now (patches .entry)) ⌝ }
+{
     let mut out = io::large_buffer();
-    print_through(bytes, &mut patches, &mut out);
+    print_through(bytes, patches, &mut out)
 }

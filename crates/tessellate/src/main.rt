@@ -22,5 +22,6 @@ fn main() {
     let mut input = io::large_buffer();
     let n = io::read_full(STDIN_FILENO, &mut input);
     skip_rest();
-    listing::print(&input[..n]);
+    let mut patches = [0i32; listing::PATCH_PLACES];
+    listing::print(&input[..n], &mut patches);
 }

@@ -13,7 +13,8 @@ fn print_file(fd: i32) {
     let mut input = io::large_buffer();
     let n = io::read_full(fd, &mut input);
     libc::close(fd);
-    listing::print(&input[..n]);
+    let mut patches = [0i32; listing::PATCH_PLACES];
+    listing::print(&input[..n], &mut patches);
 }
 
 // The name and the lines of the vector that argument i names.
