@@ -1,4 +1,4 @@
--- An accepted mesh and the causes of refusal: the facts of `Accepted` hold exactly when no cause that concerns the mesh itself is met.
+-- An accepted mesh and the causes of refusal: the facts of `WellFormed` hold exactly when no cause that concerns the mesh itself is met.
 -- For each cause, `-false` says what follows where it is not met, and `-none` that these facts rule it out.
 use mathlib.Core.Path.{_≡_, refl, ap}
 use mathlib.Core.Bool.{Bool, true, false, not, cond}
@@ -18,7 +18,7 @@ use Rattle.mesh.specs.HalfEdge.{edges, boundaries, Simple}
 use Rattle.mesh.specs.Fan.{valence, onBoundary, fan}
 use Rattle.mesh.specs.IndexedMesh.{IndexedMesh, corners, at, tag, coordinate}
 use Rattle.mesh.specs.Refusal.{off, sizesOff, coordinateOff, tagOff, vertexOff, vertexTwice, halfEdgeTwice, vertexUnused, fanBroken, valenceOff, innerTagged, earlyRows, lateRows}
-use Rattle.mesh.specs.Accepted.{Sized, Accepted}
+use Rattle.mesh.specs.WellFormed.{Sized, WellFormed}
 use Rattle.mesh.proofs.TwinLaws.{doubled-simple, simple-doubled}
 use Rattle.mesh.proofs.SizeLaws.{off-false, sizes-false}
 use Rattle.mesh.proofs.EdgeLaws.{edges-twice}
@@ -148,7 +148,7 @@ module _ (M : IndexedMesh) where
       bool-cases (eqb (tag M p) cornerTag) (λ t. rw (t, h p l (eqb-true (tag M p) cornerTag t))) (λ t. rw t))
 
 -- ---- no cause is met exactly where the mesh is accepted
-pub accepted-early : {M : IndexedMesh} → Accepted M → firstMet (earlyRows M false) ≡ none
+pub accepted-early : {M : IndexedMesh} → WellFormed M → firstMet (earlyRows M false) ≡ none
 accepted-early {M} a =
     met-none 1 (sizes-none (a .sized))
     (met-none 3 (coordinate-none M (a .coordinates))
@@ -157,14 +157,14 @@ accepted-early {M} a =
     (met-none 6 (twice-none M (a .distinct))
     (met-none 7 (half-edge-none M (a .simple)) refl)))))
 
-pub accepted-late : {M : IndexedMesh} → Accepted M → firstMet (lateRows M) ≡ none
+pub accepted-late : {M : IndexedMesh} → WellFormed M → firstMet (lateRows M) ≡ none
 accepted-late {M} a =
     met-none 8 (unused-none M (a .used))
     (met-none 9 (fan-none M (a .fans))
     (met-none 10 (valence-none M (λ p l b. (a .inner-low p l b, a .inner-high p l b)) (λ p l b. (a .boundary-low p l b, a .boundary-high p l b)))
     (met-none 11 (tagged-none M (a .tagged-boundary)) refl)))
 
-pub accepted-from : (M : IndexedMesh) → firstMet (earlyRows M false) ≡ none → firstMet (lateRows M) ≡ none → Accepted M
+pub accepted-from : (M : IndexedMesh) → firstMet (earlyRows M false) ≡ none → firstMet (lateRows M) ≡ none → WellFormed M
 accepted-from M early late =
     let h₁ = met-false (sizesOff (M .vertices) (M .faces) (length (M .positions)) (length (M .tags)) (length (M .indices))) 1 _ early in
     let h₃ = met-false (coordinateOff M) 3 _ (h₁ .1) in
@@ -193,13 +193,13 @@ accepted-from M early late =
     }
 
 -- ---- what an accepted mesh has
-pub accepted-corners : {M : IndexedMesh} → Accepted M → Corners (corners M)
+pub accepted-corners : {M : IndexedMesh} → WellFormed M → Corners (corners M)
 accepted-corners {M} a = record { whole = omega arith; fits = omega arith }
 
 -- a half-edge has two ends
-pub accepted-ends : {M : IndexedMesh} → Accepted M → (c : ℕ) → c < corners M → at M (next c) ≡ at M c → ⊥
+pub accepted-ends : {M : IndexedMesh} → WellFormed M → (c : ℕ) → c < corners M → at M (next c) ≡ at M c → ⊥
 accepted-ends a c l = a .distinct c 0 l (omega arith)
 
 -- "So 4F + B = 2E"
-pub accepted-edges : {M : IndexedMesh} → Accepted M → 4 * M .faces + boundaries (at M) (corners M) ≡ 2 * edges (at M) (corners M) (M .vertices)
+pub accepted-edges : {M : IndexedMesh} → WellFormed M → 4 * M .faces + boundaries (at M) (corners M) ≡ 2 * edges (at M) (corners M) (M .vertices)
 accepted-edges {M} a = edges-twice (at M) (accepted-corners a) (a .simple) (a .named) (accepted-ends a)

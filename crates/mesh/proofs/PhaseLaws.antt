@@ -18,7 +18,7 @@ use Rattle.mesh.specs.Corner.{next}
 use Rattle.mesh.specs.HalfEdge.{twin, edges, boundaries}
 use Rattle.mesh.specs.IndexedMesh.{IndexedMesh, indexed, corners, at}
 use Rattle.mesh.specs.Refusal.{sizesOff, coordinateOff, tagOff, vertexOff, vertexTwice, halfEdgeTwice, vertexUnused, fanBroken, valenceBad, valenceOff, innerTagged, earlyRows, lateRows}
-use Rattle.mesh.specs.Accepted.{Sized}
+use Rattle.mesh.specs.WellFormed.{Sized}
 use Rattle.mesh.specs.Answer.{counts, refusal, meshAnswer, twinsAfter}
 use Rattle.mesh.specs.Private.{refusalOf, Holds, vertexOf, twinOf, Indices, Counted}
 use Rattle.mesh.proofs.SizeLaws.{sizes-false, indices-corners}

@@ -12,7 +12,7 @@ use Rattle.finite.proofs.AnyAll.{or-false}
 use Rattle.mesh.specs.Limits.{minVertices, maxVertices, minFaces, maxFaces}
 use Rattle.mesh.specs.Corner.{Corners}
 use Rattle.mesh.specs.Refusal.{off, sizesOff}
-use Rattle.mesh.specs.Accepted.{Sized}
+use Rattle.mesh.specs.WellFormed.{Sized}
 use Rattle.mesh.specs.Answer.{faceCorners}
 use Rattle.mesh.specs.Private.{Indices}
 

@@ -6,5 +6,5 @@ pub mod Fan
 pub mod IndexedMesh
 pub mod Refusal
 pub mod Answer
-pub mod Accepted
+pub mod WellFormed
 pub mod Private

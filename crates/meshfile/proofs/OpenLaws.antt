@@ -16,7 +16,7 @@ use Rattle.mesh.specs.Limits.{maxVertices, maxFaces}
 use Rattle.mesh.specs.HalfEdge.{edges, boundaries}
 use Rattle.mesh.specs.IndexedMesh.{IndexedMesh, indexed, corners, at}
 use Rattle.mesh.specs.Refusal.{off, earlyRows, lateRows}
-use Rattle.mesh.specs.Accepted.{Sized}
+use Rattle.mesh.specs.WellFormed.{Sized}
 use Rattle.mesh.specs.Answer.{Answer as MeshAnswer, counts, refusal as meshRefusal, unless, meshAnswer, twinsShort}
 use Rattle.mesh.proofs.AcceptedLaws.{sizes-none}
 use Rattle.mesh.proofs.PhaseLaws.{early-2}

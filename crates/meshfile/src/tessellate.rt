@@ -11,7 +11,7 @@ ghost use Prim.Native.Nat.{_≤_};
 ghost use lib.ListN.{length};
 ghost use Rattle.mesh.specs.Limits.{maxFaces};
 ghost use Rattle.mesh.specs.IndexedMesh.{indexed};
-ghost use Rattle.mesh.specs.Accepted.{Sized};
+ghost use Rattle.mesh.specs.WellFormed.{Sized};
 ghost use Rattle.mesh.specs.Answer.{meshAnswer};
 ghost use Rattle.meshfile.specs.Answer.{opened};
 ghost use Rattle.meshfile.specs.Private.{refusalOr, tessellated, tessellatedList};

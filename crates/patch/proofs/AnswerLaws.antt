@@ -15,7 +15,7 @@ use Rattle.finite.proofs.FilledLaws.{length-filled, filled-at}
 use Rattle.mesh.specs.HalfEdge.{twin}
 use Rattle.mesh.specs.IndexedMesh.{IndexedMesh, corners, at}
 use Rattle.mesh.specs.Refusal.{sizesOff, earlyRows, lateRows}
-use Rattle.mesh.specs.Accepted.{Accepted}
+use Rattle.mesh.specs.WellFormed.{WellFormed}
 use Rattle.mesh.specs.Answer.{Answer, counts, refusal, unless, meshAnswer, twinsAfter, twinsShort}
 use Rattle.mesh.specs.Private.{Holds}
 use Rattle.mesh.proofs.AcceptedLaws.{accepted-from}
@@ -63,7 +63,7 @@ module _ (M : IndexedMesh) (short : Bool) {v f e b : ℕ} (answer : counts v f e
   pub counts-long : short ≡ false
   counts-long = early-passed M short (rows .0) .long
 
-  pub counts-accepted : Accepted M
+  pub counts-accepted : WellFormed M
   counts-accepted = accepted-from M (subst (λ (s : Bool). firstMet (earlyRows M s) ≡ none) counts-long (rows .0)) (rows .1)
 
   pub counts-twins : (d : List ℕ) → twinsAfter M short d ≡ filled (twin (at M) (corners M)) (corners M) d

@@ -9,7 +9,7 @@ use Rattle.integer.proofs.Laws.{abs-+, abs-*}
 use Rattle.integer.proofs.NearestLaws.{nearest-bounded}
 use Rattle.mesh.specs.Limits.{maxCoordinate}
 use Rattle.mesh.specs.IndexedMesh.{IndexedMesh}
-use Rattle.mesh.specs.Accepted.{Accepted}
+use Rattle.mesh.specs.WellFormed.{WellFormed}
 use Rattle.patch.specs.Patch.{patchPoint, control, view}
 use Rattle.patch.proofs.Related.{Linear, Related, patch-related}
 
@@ -20,7 +20,7 @@ bounds B = record {
   times = λ k {z} h. omega (arith, abs-* (pos k) z, mul-le-mul-left k h);
 }
 
-module _ {M : IndexedMesh} (a : Accepted M) (f m k : ℕ) (face : f < M .faces) (axis : k < 3) where
+module _ {M : IndexedMesh} (a : WellFormed M) (f m k : ℕ) (face : f < M .faces) (axis : k < 3) where
   within : Related (λ k z _. natAbs z ≤ maxCoordinate * k) (patchPoint (view M k) (4 * f) m) (patchPoint (view M k) (4 * f) m)
   within =
       patch-related (bounds maxCoordinate) a (view M k .value) (view M k .value)

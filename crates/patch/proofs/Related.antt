@@ -17,7 +17,7 @@ use Rattle.mesh.specs.Corner.{turn, prev}
 use Rattle.mesh.specs.HalfEdge.{twin}
 use Rattle.mesh.specs.Fan.{valence}
 use Rattle.mesh.specs.IndexedMesh.{IndexedMesh, corners, at, tag}
-use Rattle.mesh.specs.Accepted.{Accepted}
+use Rattle.mesh.specs.WellFormed.{WellFormed}
 use Rattle.mesh.proofs.CornerLaws.{turn-below}
 use Rattle.mesh.proofs.BoundaryLaws.{boundary-vertex}
 use Rattle.mesh.proofs.AcceptedLaws.{accepted-corners}
@@ -103,7 +103,7 @@ module _ {R : ℕ → ℤ → ℤ → Type 0} (L : Linear R) where
       distributes m false = omega arith
 
   -- ---- the points
-  module _ {M : IndexedMesh} (a : Accepted M) (X X' : ℕ → ℤ) (base : (p : ℕ) → p < M .vertices → R 1 (X p) (X' p)) where
+  module _ {M : IndexedMesh} (a : WellFormed M) (X X' : ℕ → ℤ) (base : (p : ℕ) → p < M .vertices → R 1 (X p) (X' p)) where
     abbrev S : View
     S = valued M X
 

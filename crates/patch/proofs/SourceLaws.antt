@@ -10,17 +10,17 @@ use Rattle.finite.proofs.FoldLaws.{bool-cases}
 use Rattle.mesh.specs.Corner.{turn}
 use Rattle.mesh.specs.Fan.{onBoundary}
 use Rattle.mesh.specs.IndexedMesh.{IndexedMesh, corners, at}
-use Rattle.mesh.specs.Accepted.{Accepted}
+use Rattle.mesh.specs.WellFormed.{WellFormed}
 use Rattle.mesh.proofs.CornerLaws.{turn-below}
 use Rattle.mesh.proofs.AcceptedLaws.{accepted-corners}
 use Rattle.patch.specs.Point.{Kind, corner, along, before, inner, weight, sharp, alongPoint, beforePoint, innerPoint, edgePoint, point}
 use Rattle.patch.specs.Patch.{owner, kind, patchPoint, view, units, patchNumber}
 use Rattle.patch.specs.Private.{vertexWeight, Tables, Readable, Source, pointFrom, numberFrom}
 
-pub face-listed : {M : IndexedMesh} → Accepted M → (g : ℕ) → g < M .faces → 4 * g + 4 ≤ length (M .indices)
+pub face-listed : {M : IndexedMesh} → WellFormed M → (g : ℕ) → g < M .faces → 4 * g + 4 ≤ length (M .indices)
 face-listed a g l = omega (arith, a .sized .indices-are)
 
-module _ {M : IndexedMesh} (a : Accepted M) {twins weights : List ℕ} {points : List ℤ} (t : Tables M twins weights points) where
+module _ {M : IndexedMesh} (a : WellFormed M) {twins weights : List ℕ} {points : List ℤ} (t : Tables M twins weights points) where
   whole : length (M .indices) ≡ corners M
   whole = a .sized .indices-are
 

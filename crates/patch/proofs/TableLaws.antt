@@ -18,7 +18,7 @@ use Rattle.mesh.specs.Corner.{turn, next, prev, across, Corners}
 use Rattle.mesh.specs.HalfEdge.{boundary}
 use Rattle.mesh.specs.Fan.{valence, onBoundary}
 use Rattle.mesh.specs.IndexedMesh.{IndexedMesh, corners, at, tag}
-use Rattle.mesh.specs.Accepted.{Accepted}
+use Rattle.mesh.specs.WellFormed.{WellFormed}
 use Rattle.mesh.specs.Private.{Indices}
 use Rattle.mesh.proofs.CornerLaws.{turn-below}
 use Rattle.mesh.proofs.BoundaryLaws.{boundary-vertex}
@@ -57,7 +57,7 @@ faces-weight : (M : IndexedMesh) (p : ℕ) → valence (at M) (corners M) p ≤ 
 unfolding vertexWeight
 faces-weight M p = bool-cases (onBoundary (at M) (corners M) p) (λ e. rw e (omega arith)) (λ e. rw e (omega arith))
 
-module _ {M : IndexedMesh} (a : Accepted M) where
+module _ {M : IndexedMesh} (a : WellFormed M) where
   pub accepted-indices : Indices (M .indices) (corners M)
   accepted-indices = record {
     whole = omega arith;

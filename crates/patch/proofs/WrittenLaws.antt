@@ -8,7 +8,7 @@ use lib.ListN.{length, getD}
 use Rattle.finite.proofs.FilledLaws.{length-filled, filled-at}
 use Rattle.mesh.specs.Limits.{maxCoordinate}
 use Rattle.mesh.specs.IndexedMesh.{IndexedMesh}
-use Rattle.mesh.specs.Accepted.{Accepted}
+use Rattle.mesh.specs.WellFormed.{WellFormed}
 use Rattle.patch.specs.Patch.{control, view, patchNumber, patchesAfter}
 use Rattle.patch.proofs.PointLaws.{control-bound}
 
@@ -28,10 +28,10 @@ pub written-at : (M : IndexedMesh) (d : List ℤ) (f m k : ℕ) → f < M .faces
 written-at M d f m k l b h =
     filled-at (patchNumber M) _ (48 * f + 3 * m + k) d (pos 0) (omega arith) ∙ number-at M f m k b h
 
-pub number-bound : {M : IndexedMesh} → Accepted M → (i : ℕ) → i < 48 * M .faces → natAbs (patchNumber M i) ≤ 256 * maxCoordinate
+pub number-bound : {M : IndexedMesh} → WellFormed M → (i : ℕ) → i < 48 * M .faces → natAbs (patchNumber M i) ≤ 256 * maxCoordinate
 unfolding patchNumber
 number-bound a i l = control-bound a (i / 48) (i % 48 / 3) (i % 3) (omega arith) (omega arith)
 
-pub written-bound : {M : IndexedMesh} → Accepted M → (d : List ℤ) (i : ℕ) → i < 48 * M .faces
+pub written-bound : {M : IndexedMesh} → WellFormed M → (d : List ℤ) (i : ℕ) → i < 48 * M .faces
     → natAbs (getD (patchesAfter M d) i (pos 0)) ≤ 256 * maxCoordinate
 written-bound {M} a d i l = rw (filled-at (patchNumber M) (48 * M .faces) i d (pos 0) l) (number-bound a i l)

@@ -7,7 +7,7 @@ ghost use Prim.Native.Nat.{_*_, _≤_};
 ghost use lib.ListN.{length};
 ghost use Rattle.mesh.specs.HalfEdge.{twin};
 ghost use Rattle.mesh.specs.IndexedMesh.{indexed};
-ghost use Rattle.mesh.specs.Accepted.{Accepted};
+ghost use Rattle.mesh.specs.WellFormed.{WellFormed};
 ghost use Rattle.mesh.specs.Private.{Holds, vertexOf};
 ghost use Rattle.patch.specs.Patch.{patchesAfter};
 
@@ -21,7 +21,7 @@ pub(crate) fn fill_patches(
     twins: &[u16],
     patches: &mut [i32],
 )
-    requires { ⌜ Accepted (indexed v f (now positions) (now tags) (now faces)) × (48 * f ≤ length (now patches)) ⌝ }
+    requires { ⌜ WellFormed (indexed v f (now positions) (now tags) (now faces)) × (48 * f ≤ length (now patches)) ⌝ }
     requires { ⌜ (4 * f ≤ length (now twins)) × Holds 0 (now twins) (4 * f) (twin (vertexOf (now faces)) (4 * f)) ⌝ }
     ensures { λ _. ⌜ now (patches .exit) ≡ patchesAfter (indexed v f (now (positions .entry)) (now (tags .entry)) (now (faces .entry))) (now (patches .entry)) ⌝ }
 {

@@ -19,7 +19,7 @@ ghost use Rattle.mesh.specs.Limits.{maxVertices, maxFaces};
 ghost use Rattle.mesh.specs.HalfEdge.{twin, boundary};
 ghost use Rattle.mesh.specs.Fan.{valence};
 ghost use Rattle.mesh.specs.IndexedMesh.{indexed};
-ghost use Rattle.mesh.specs.Accepted.{Accepted};
+ghost use Rattle.mesh.specs.WellFormed.{WellFormed};
 ghost use Rattle.mesh.specs.Private.{Holds, vertexOf, Indices};
 ghost use Rattle.patch.specs.Point.{cornerPoint};
 ghost use Rattle.patch.specs.Patch.{view, units};
@@ -69,7 +69,7 @@ fn fill_coordinate(
     k: usize,
     points: &mut [i32],
 )
-    requires { ⌜ Accepted (indexed v f (now positions) (now tags) (now faces)) × (4 * f ≤ length (now twins)) × (maxVertices ≤ length (now leaving)) × (v ≤ length (now weights)) ⌝ }
+    requires { ⌜ WellFormed (indexed v f (now positions) (now tags) (now faces)) × (4 * f ≤ length (now twins)) × (maxVertices ≤ length (now leaving)) × (v ≤ length (now weights)) ⌝ }
     requires { ⌜ (k < 3) × (3 * v ≤ length (now points)) ⌝ }
     requires { ⌜ Holds 0 (now twins) (4 * f) (twin (vertexOf (now faces)) (4 * f)) ⌝ }
     requires { ⌜ Holds (pos 0) (now leaving) maxVertices (λ p. pos (gather 0 _+_ (vertexOf (now faces)) (λ c. indicator (boundary (vertexOf (now faces)) (4 * f) c)) (4 * f) p)) ⌝ }
@@ -106,7 +106,7 @@ pub(crate) fn fill_tables(
     weights: &mut [u16],
     points: &mut [i32],
 )
-    requires { ⌜ Accepted (indexed v f (now positions) (now tags) (now faces)) ⌝ }
+    requires { ⌜ WellFormed (indexed v f (now positions) (now tags) (now faces)) ⌝ }
     requires { ⌜ (4 * f ≤ length (now twins)) × (maxVertices ≤ length (now weights)) × (3 * maxVertices ≤ length (now points)) ⌝ }
     requires { ⌜ Holds 0 (now twins) (4 * f) (twin (vertexOf (now faces)) (4 * f)) ⌝ }
     ensures { λ _. ⌜ Tables (indexed v f (now (positions .entry)) (now (tags .entry)) (now (faces .entry))) (now (twins .entry)) (now (weights .exit)) (now (points .exit)) ⌝ }

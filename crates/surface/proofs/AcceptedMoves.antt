@@ -12,7 +12,7 @@ use Rattle.mesh.specs.Corner.{turn}
 use Rattle.mesh.specs.HalfEdge.{boundary, edges, boundaries}
 use Rattle.mesh.specs.Fan.{valence, onBoundary, fan}
 use Rattle.mesh.specs.IndexedMesh.{IndexedMesh, indexed, corners, at, tag, coordinate}
-use Rattle.mesh.specs.Accepted.{Accepted}
+use Rattle.mesh.specs.WellFormed.{WellFormed}
 use Rattle.mesh.proofs.CornerLaws.{turn-below}
 use Rattle.mesh.proofs.AcceptedLaws.{accepted-edges}
 use Rattle.surface.specs.Renumbering.{Renumbering}
@@ -21,7 +21,7 @@ use Rattle.surface.proofs.Iso.{Sound, Iso, at-turn, at-reflects, sound-
 use Rattle.surface.proofs.FanMoves.{fan-moves}
 use Rattle.surface.proofs.FromRenumbering.{accepted-sound, cornerMap, shape}
 
-module _ {M M′ : IndexedMesh} (a : Accepted M) (r : Renumbering M M′) where
+module _ {M M′ : IndexedMesh} (a : WellFormed M) (r : Renumbering M M′) where
   abbrev s : Sound (corners M) (M .vertices) (at M)
   s = accepted-sound a
 
@@ -40,7 +40,7 @@ module _ {M M′ : IndexedMesh} (a : Accepted M) (r : Renumbering M M′) where
       (at-reflects s i (turn (suc j) c) c (turn-below (s .whole) (suc j) c l) l (sym (at-turn s i (suc j) c l) ∙ e ∙ i .at-moves c l)))
 
   -- M′, with the sizes of M
-  accepted-here : Accepted (indexed (M .vertices) (M .faces) (M′ .positions) (M′ .tags) (M′ .indices))
+  accepted-here : WellFormed (indexed (M .vertices) (M .faces) (M′ .positions) (M′ .tags) (M′ .indices))
   accepted-here = record {
     sized = rw (r .same-positions, r .same-tags, r .same-indices) (a .sized);
     coordinates = λ j l.
@@ -64,9 +64,9 @@ module _ {M M′ : IndexedMesh} (a : Accepted M) (r : Renumbering M M′) where
         on-boundary-moves s i p l ∙ a .tagged-boundary p l (sym (r .tags-move p l) ∙ e));
   }
 
-  pub renumbered-accepted : Accepted M′
+  pub renumbered-accepted : WellFormed M′
   renumbered-accepted =
-      subst₂ (λ (v f : ℕ). Accepted (indexed v f (M′ .positions) (M′ .tags) (M′ .indices))) (sym (r .same-vertices)) (sym (r .same-faces)) accepted-here
+      subst₂ (λ (v f : ℕ). WellFormed (indexed v f (M′ .positions) (M′ .tags) (M′ .indices))) (sym (r .same-vertices)) (sym (r .same-faces)) accepted-here
 
   same-boundaries : boundaries (at M′) (corners M′) ≡ boundaries (at M) (corners M)
   unfolding boundaries

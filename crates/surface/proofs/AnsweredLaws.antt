@@ -9,7 +9,7 @@ use lib.ListN.{length, getD}
 use borrow.Author.Tests.{le-ltb}
 use Rattle.finite.proofs.AnyAll.{any-none}
 use Rattle.mesh.specs.IndexedMesh.{IndexedMesh}
-use Rattle.mesh.specs.Accepted.{Accepted}
+use Rattle.mesh.specs.WellFormed.{WellFormed}
 use Rattle.sample.specs.Bernstein.{rounded, coordinateAt}
 use Rattle.sample.specs.Refusal.{maxControl, minSteps, maxSteps, faceOff, controlOff, placeOff}
 use Rattle.sample.specs.Answer.{point, sampleAnswer}
@@ -23,7 +23,7 @@ unfolding faceOff
 face-none M d f long l = le-ltb (length (patchesAfter M d)) (48 * f + 48) (rw (written-length M d long) (omega arith))
 
 -- 13
-control-none : {M : IndexedMesh} → Accepted M → (d : List ℤ) (f : ℕ) → f < M .faces → controlOff (patchesAfter M d) f ≡ false
+control-none : {M : IndexedMesh} → WellFormed M → (d : List ℤ) (f : ℕ) → f < M .faces → controlOff (patchesAfter M d) f ≡ false
 unfolding controlOff
 control-none {M} a d f l =
     any-none _ 48 (λ i b. le-ltb maxControl (natAbs (getD (patchesAfter M d) (48 * f + i) (pos 0))) (written-bound a d (48 * f + i) (omega arith)))
@@ -33,7 +33,7 @@ place-none : (n a b : ℕ) → minSteps ≤ n → n ≤ maxSteps → a ≤ n →
 unfolding placeOff
 place-none n a b least most ha hb = rw (le-ltb n minSteps least, le-ltb maxSteps n most, le-ltb n a ha, le-ltb n b hb)
 
-pub answered : {M : IndexedMesh} → Accepted M → (d : List ℤ) (f n a b : ℕ) → 48 * M .faces ≤ length d → f < M .faces
+pub answered : {M : IndexedMesh} → WellFormed M → (d : List ℤ) (f n a b : ℕ) → 48 * M .faces ≤ length d → f < M .faces
     → minSteps ≤ n → n ≤ maxSteps → a ≤ n → b ≤ n
     → sampleAnswer (patchesAfter M d) f n a b
     ≡ point (coordinateAt (patchesAfter M d) f n a b 0) (coordinateAt (patchesAfter M d) f n a b 1) (coordinateAt (patchesAfter M d) f n a b 2)

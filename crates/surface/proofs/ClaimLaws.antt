@@ -8,7 +8,7 @@ use lib.ListN.{length}
 use Rattle.mesh.specs.Corner.{turn}
 use Rattle.mesh.specs.HalfEdge.{twin}
 use Rattle.mesh.specs.IndexedMesh.{IndexedMesh, corners, at, tag}
-use Rattle.mesh.specs.Accepted.{Accepted}
+use Rattle.mesh.specs.WellFormed.{WellFormed}
 use Rattle.mesh.proofs.AcceptedLaws.{accepted-corners}
 use Rattle.sample.specs.Answer.{Answer, point}
 use Rattle.sample.proofs.SampleLaws.{rounded-ext}
@@ -35,7 +35,7 @@ unfolding answerFrom
 same-answer M M′ n f f′ p p′ h = rw (h 0 (omega arith), h 1 (omega arith), h 2 (omega arith))
 
 -- what the sample call gives, by the control points
-module _ {M : IndexedMesh} (a : Accepted M) (n : ℕ) (least : 1 ≤ n) (most : n ≤ 32) (d : List ℤ) (long : 48 * M .faces ≤ length d) where
+module _ {M : IndexedMesh} (a : WellFormed M) (n : ℕ) (least : 1 ≤ n) (most : n ≤ 32) (d : List ℤ) (long : 48 * M .faces ≤ length d) where
   sampled : (f : ℕ) (p : Place) → f < M .faces → Within n p → sampleOn M d n f p ≡ answerFrom M n f p
   unfolding answerFrom
   sampled f p l w =
@@ -47,7 +47,7 @@ module _ {M : IndexedMesh} (a : Accepted M) (n : ℕ) (least : 1 ≤ n) (most : 
       )
 
 -- a face of M′ has the control points of the face of M, seen from the corner at which it begins
-module _ {M M′ : IndexedMesh} (r : Renumbering M M′) (a : Accepted M) (k : ℕ) (axis : k < 3) (f : ℕ) (face : f < M .faces) where
+module _ {M M′ : IndexedMesh} (r : Renumbering M M′) (a : WellFormed M) (k : ℕ) (axis : k < 3) (f : ℕ) (face : f < M .faces) where
   patch-renumbered : (m : ℕ) → patchPoint (view M′ k) (4 * r .faces .to f) m ≡ patchPoint (view M k) (turn (r .start f) (4 * f)) m
   patch-renumbered m =
       ap₂ (λ (g c : ℕ). patchPoint (record { n = 4 * g; at = at M′; tag = tag M′; value = view M′ k .value }) c m)
@@ -59,7 +59,7 @@ module _ {M M′ : IndexedMesh} (r : Renumbering M M′) (a : Accepted M) (k : �
   sample-renumbered n p w =
       rounded-ext n _ _ (λ m _. ap units (patch-renumbered m)) ∙ sample-matching (view M k) n (r .start f) (4 * f) p w
 
-pub claim : (M M′ : IndexedMesh) (r : Renumbering M M′) → Accepted M → (n : ℕ) → 1 ≤ n → n ≤ 32
+pub claim : (M M′ : IndexedMesh) (r : Renumbering M M′) → WellFormed M → (n : ℕ) → 1 ≤ n → n ≤ 32
     → (d d′ : List ℤ) → 48 * M .faces ≤ length d → 48 * M .faces ≤ length d′ → Claim M M′ r n d d′
 claim M M′ r a n least most d d′ long long′ = record {
   distance = λ f x y k L q l hx hy h common.

@@ -10,14 +10,14 @@ use native.Mathlib.Omega.{arith}
 use Rattle.finite.specs.Permutation.{Permutation}
 use Rattle.mesh.specs.Corner.{turn, next}
 use Rattle.mesh.specs.IndexedMesh.{IndexedMesh, corners, at, tag}
-use Rattle.mesh.specs.Accepted.{Accepted}
+use Rattle.mesh.specs.WellFormed.{WellFormed}
 use Rattle.mesh.proofs.AcceptedLaws.{accepted-corners}
 use Rattle.patch.specs.Patch.{view}
 use Rattle.surface.specs.Renumbering.{Renumbering}
 use Rattle.surface.proofs.Iso.{Sound, Iso}
 use Rattle.surface.proofs.PointMoves.{Carried}
 
-pub accepted-sound : {M : IndexedMesh} → Accepted M → Sound (corners M) (M .vertices) (at M)
+pub accepted-sound : {M : IndexedMesh} → WellFormed M → Sound (corners M) (M .vertices) (at M)
 accepted-sound a = record { whole = accepted-corners a; named = a .named; simple = a .simple }
 
 -- ---- corners by face

@@ -10,7 +10,7 @@ use borrow.Author.Tests.{le-ltb}
 use Rattle.finite.specs.Permutation.{Permutation}
 use Rattle.mesh.specs.HalfEdge.{twin, boundary, edges, boundaries}
 use Rattle.mesh.specs.IndexedMesh.{IndexedMesh, corners, at}
-use Rattle.mesh.specs.Accepted.{Accepted}
+use Rattle.mesh.specs.WellFormed.{WellFormed}
 use Rattle.mesh.specs.Answer.{counts}
 use Rattle.mesh.proofs.AcceptedLaws.{accepted-early, accepted-late, accepted-corners}
 use Rattle.mesh.proofs.PhaseLaws.{answer-accepted}
@@ -55,7 +55,7 @@ coordinate-of g (suc zero) l = refl
 coordinate-of g (suc (suc zero)) l = refl
 coordinate-of g (suc (suc (suc k))) l = absurd (let bad : ⊥ = omega arith in bad)
 
-module _ {M : IndexedMesh} (a : Accepted M) (n : ℕ) (least : 1 ≤ n) (most : n ≤ 32) (d : List ℤ) (long : 48 * M .faces ≤ length d) where
+module _ {M : IndexedMesh} (a : WellFormed M) (n : ℕ) (least : 1 ≤ n) (most : n ≤ 32) (d : List ℤ) (long : 48 * M .faces ≤ length d) where
   -- the two sides of an edge, on two lists that the patches of one mesh were written over
   seam-lists : (d′ : List ℤ) → 48 * M .faces ≤ length d′ → (c t : ℕ) → c < corners M → t ≤ n
       → boundary (at M) (corners M) c ≡ false
@@ -68,19 +68,19 @@ module _ {M : IndexedMesh} (a : Accepted M) (n : ℕ) (least : 1 ≤ n) (most : 
       k .seam c t l h e ∙ sym (k .renumbered (twin (at M) (corners M) c / 4) _ _ (omega arith) (within .0) (within .1))
 
 -- what the patch call answers for an accepted mesh, on lists that are long enough
-accepted-answer : {M : IndexedMesh} {twins : List ℕ} {patches : List ℤ} → Accepted M → Lent M twins patches
+accepted-answer : {M : IndexedMesh} {twins : List ℕ} {patches : List ℤ} → WellFormed M → Lent M twins patches
     → patchAnswer M twins patches ≡ counts (M .vertices) (M .faces) (edges (at M) (corners M) (M .vertices)) (boundaries (at M) (corners M))
 accepted-answer {M} {twins} {patches} a l =
     rw (le-ltb (length twins) (corners M) (l .twins-long), le-ltb (length patches) (48 * M .faces) (l .patches-long))
     (sym (answer-accepted M false (accepted-early a) (accepted-late a)))
 
 -- and what stands in the patch list afterwards
-pub accepted-list : {M : IndexedMesh} {twins : List ℕ} {patches : List ℤ} → Accepted M → Lent M twins patches → patchList M twins patches ≡ patchesAfter M patches
+pub accepted-list : {M : IndexedMesh} {twins : List ℕ} {patches : List ℤ} → WellFormed M → Lent M twins patches → patchList M twins patches ≡ patchesAfter M patches
 accepted-list {M} {twins} {patches} a l = rw (accepted-answer a l)
 
 module _ {M M′ : IndexedMesh} {d d′ b b′ : List ℕ} {e e′ w w′ : List ℤ} {n : ℕ} {q q′ : SamplePlace} {r r′ : Evaluation}
     (first : Evaluated M d e n q r b w) (second : Evaluated M′ d′ e′ n q′ r′ b′ w′)
-    (a : Accepted M) (l : Lent M d e) (l′ : Lent M′ d′ e′) (least : 1 ≤ n) (most : n ≤ 32) where
+    (a : WellFormed M) (l : Lent M d e) (l′ : Lent M′ d′ e′) (least : 1 ≤ n) (most : n ≤ 32) where
   abbrev p : Place
   p = place (q .a) (q .b)
 
@@ -91,7 +91,7 @@ module _ {M M′ : IndexedMesh} {d d′ b b′ : List ℕ} {e e′ w w′ : List
   here : sampled (r .sample) ≡ sampleOn M e n (q .face) p
   here = first .sample-is ∙ ap (λ (t : List ℤ). sampleAnswer t (q .face) n (q .a) (q .b)) (accepted-list a l)
 
-  there : Accepted M′ → sampled (r′ .sample) ≡ sampleOn M′ e′ n (q′ .face) p′
+  there : WellFormed M′ → sampled (r′ .sample) ≡ sampleOn M′ e′ n (q′ .face) p′
   there a′ = second .sample-is ∙ ap (λ (t : List ℤ). sampleAnswer t (q′ .face) n (q′ .a) (q′ .b)) (accepted-list a′ l′)
 
   own : Claim M M (unchanged M) n e e
@@ -112,7 +112,7 @@ module _ {M M′ : IndexedMesh} {d d′ b b′ : List ℕ} {e e′ w w′ : List
     seam = λ c t h b inner same ef ep ef′ ep′.
         here ∙ rw (ef, ep)
         (seam-lists a n least most e (l .patches-long) e′ (subst (λ (N : IndexedMesh). 48 * N .faces ≤ length e′) same (l′ .patches-long)) c t h b inner
-        ∙ sym (there (subst Accepted (sym same) a) ∙ rw (ef′, ep′, same)));
+        ∙ sym (there (subst WellFormed (sym same) a) ∙ rw (ef′, ep′, same)));
     counted = λ s.
         let k = renumbered-counts a s in
         first .mesh-is ∙ accepted-answer a l

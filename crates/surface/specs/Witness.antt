@@ -14,7 +14,7 @@ use lib.IntN.{ℤ, pos, natAbs, _-ℤ_, _*ℤ_}
 use lib.ListN.{length}
 use Rattle.mesh.specs.HalfEdge.{twin, boundary, edges, boundaries}
 use Rattle.mesh.specs.IndexedMesh.{IndexedMesh, corners, at}
-use Rattle.mesh.specs.Accepted.{Accepted}
+use Rattle.mesh.specs.WellFormed.{WellFormed}
 use Rattle.mesh.specs.Answer.{meaning as checked, counts}
 use Rattle.sample.specs.Bernstein.{numerator}
 use Rattle.sample.specs.Answer.{Answer, point, refusal, meaning as sampled, sampleAnswer}
@@ -62,5 +62,5 @@ pub record Shown (M M' : IndexedMesh) (n f : ℕ) (p : Place) (f' : ℕ) (p' : P
 
 abbrev pub Witnessed : (M : IndexedMesh) (d : List ℕ) (e : List ℤ) (M' : IndexedMesh) (d' : List ℕ) (e' : List ℤ) (n : ℕ) (q q' : SamplePlace) → Witness → Type 0
 Witnessed M d e M' d' e' n q q' r =
-    Accepted M → Lent M d e → Lent M' d' e' → 1 ≤ n → n ≤ 32
+    WellFormed M → Lent M d e → Lent M' d' e' → 1 ≤ n → n ≤ 32
     → Shown M M' n (q .face) (place (q .a) (q .b)) (q' .face) (place (q' .a) (q' .b)) (r .first) (r .second)

@@ -9,7 +9,7 @@ use lib.ListN.{length, take, replicate, length-replicate}
 use borrow.Author.Needs.{needs}
 use Rattle.mesh.specs.Limits.{maxVertices, maxFaces}
 use Rattle.mesh.specs.IndexedMesh.{IndexedMesh, indexed}
-use Rattle.mesh.specs.Accepted.{Sized}
+use Rattle.mesh.specs.WellFormed.{Sized}
 use Rattle.meshfile.specs.File.{vertices, faces, positionAt, tagAt, indexAt, meshOf}
 use Rattle.meshfile.specs.Answer.{Answer, sizes, decoded, decodeAnswer}
 use Rattle.meshfile.specs.Private.{tessellated, tessellatedList}

@@ -6,7 +6,7 @@ use native.Mathlib.Omega.{arith}
 use lib.Dec.{ltb}
 use lib.ListN.{length}
 use borrow.Author.Tests.{lt-ltb, le-ltb}
-use Rattle.mesh.specs.Accepted.{Sized}
+use Rattle.mesh.specs.WellFormed.{Sized}
 use Rattle.mesh.specs.Refusal.{coordinateOff, tagOff, vertexOff, vertexTwice, halfEdgeTwice}
 use Rattle.mesh.specs.IndexedMesh.{IndexedMesh, indexed}
 use Rattle.mesh.specs.Private.{Indices}

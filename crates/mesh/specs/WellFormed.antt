@@ -1,5 +1,5 @@
--- An accepted mesh: "no cause in the table below that concerns the mesh itself is met: 1 and 3 to 11", as plain facts.
--- proofs/AcceptedLaws.antt shows that these facts hold exactly when no such cause is met.
+-- An accepted mesh as plain facts, for the contracts of private functions and for proofs. What is accepted is said by the table of
+-- refusals; proofs/AcceptedLaws.antt shows that these facts hold exactly where no cause of it that concerns the mesh itself is met.
 use mathlib.Core.Path.{_≡_}
 use mathlib.Core.Bool.{true, false}
 use Prim.Native.Nat.{ℕ, suc, _*_, _≤_, _<_}
@@ -21,7 +21,7 @@ pub record Sized (v f positions tags indices : ℕ) : Type 0 where
   pub tags-are : tags ≡ v
   pub indices-are : indices ≡ 4 * f
 
-pub record Accepted (M : IndexedMesh) : Type 0 where
+pub record WellFormed (M : IndexedMesh) : Type 0 where
   pub sized : Sized (M .vertices) (M .faces) (length (M .positions)) (length (M .tags)) (length (M .indices))
   pub coordinates : (i : ℕ) → i < 3 * M .vertices → natAbs (coordinate M i) ≤ maxCoordinate
   pub tags-known : (p : ℕ) → p < M .vertices → tag M p ≤ cornerTag
