@@ -11,13 +11,16 @@ use Rattle.finite.proofs.IntegerSum.{sumℤ-monoid}
 use Rattle.mesh.specs.Limits.{noTwin}
 use Rattle.mesh.specs.Corner.{turn, prev}
 use Rattle.mesh.specs.HalfEdge.{twin, boundary}
+use Rattle.mesh.specs.Fan.{fan}
 use Rattle.mesh.proofs.CornerLaws.{turn-below, prev-below}
 use Rattle.patch.specs.Point.{View, x, weight, sharp, sharpSum, ringSum, fixed, cornerPoint, innerPoint, edgePoint, alongPoint, beforePoint, Kind, corner, along, before, inner, point}
 use Rattle.patch.specs.Patch.{owner, kind, patchPoint}
-use Rattle.surface.proofs.Iso.{Sound, Iso, turn-moves, at-turn, twin-moves, boundary-moves, gather-moves, valence-moves, on-boundary-moves}
+use Rattle.symmetry.proofs.Sense.{same}
+use Rattle.symmetry.proofs.Iso.{Sound, Iso, turn-moves, at-turn, twin-moves, boundary-moves}
+use Rattle.symmetry.proofs.VertexMoves.{gather-moves, valence-moves, on-boundary-moves}
 
 pub record Carried (n v : ℕ) (at at′ tag tag′ : ℕ → ℕ) (value value′ : ℕ → ℤ) : Type 0 where
-  pub iso : Iso n v at at′
+  pub iso : Iso same n v at at′
   pub tag-moves : (p : ℕ) → p < v → tag′ (iso .vertices .to p) ≡ tag p
   pub value-moves : (p : ℕ) → p < v → value′ (iso .vertices .to p) ≡ value p
 
@@ -25,7 +28,8 @@ cond-same : {A : Type 0} (b b′ : Bool) (y z y′ z′ : A) → b′ ≡ b → 
 cond-same true b′ y z y′ z′ e f g = rw e (f refl)
 cond-same false b′ y z y′ z′ e f g = rw e (g refl)
 
-module _ {n v : ℕ} {at at′ tag tag′ : ℕ → ℕ} {value value′ : ℕ → ℤ} (s : Sound n v at) (i : Carried n v at at′ tag tag′ value value′) where
+module _ {n v : ℕ} {at at′ tag tag′ : ℕ → ℕ} {value value′ : ℕ → ℤ} (s : Sound n v at) (fans : (p : ℕ) → p < v → fan at n p ≡ true)
+    (i : Carried n v at at′ tag tag′ value value′) where
   abbrev φ : ℕ → ℕ
   φ = i .iso .corners .to
 
@@ -51,7 +55,8 @@ module _ {n v : ℕ} {at at′ tag tag′ : ℕ → ℕ} {value value′ : ℕ �
   weight-moves : (c : ℕ) → c < n → weight S′ (φ c) ≡ weight S c
   unfolding weight
   weight-moves c l =
-      rw (i .iso .at-moves c l, on-boundary-moves s (i .iso) (at c) (s .named c l), valence-moves s (i .iso) (at c) (s .named c l))
+      let b = s .named c l in
+      rw (i .iso .at-moves c l, on-boundary-moves s (i .iso) (at c) b (fans (at c) b), valence-moves s (i .iso) (at c) b)
 
   -- ---- sums at a vertex
   sharp-sum-moves : (p : ℕ) → p < v → sharpSum S′ (π p) ≡ sharpSum S p
@@ -73,7 +78,14 @@ module _ {n v : ℕ} {at at′ tag tag′ : ℕ → ℕ} {value value′ : ℕ �
   corner-moves : (p : ℕ) → p < v → cornerPoint S′ (π p) ≡ cornerPoint S p
   unfolding cornerPoint
   corner-moves p b =
-      rw (on-boundary-moves s (i .iso) p b, valence-moves s (i .iso) p b, i .value-moves p b, ring-sum-moves p b, fixed-moves p b, sharp-sum-moves p b)
+      rw (
+        on-boundary-moves s (i .iso) p b (fans p b),
+        valence-moves s (i .iso) p b,
+        i .value-moves p b,
+        ring-sum-moves p b,
+        fixed-moves p b,
+        sharp-sum-moves p b,
+      )
 
   inner-moves : (c : ℕ) → c < n → innerPoint S′ (φ c) ≡ innerPoint S c
   unfolding innerPoint
