@@ -50,7 +50,7 @@ module _ {M : IndexedMesh} (a : WellFormed M) (n : ℕ) (least : 1 ≤ n) (most 
 module _ {M M′ : IndexedMesh} (r : Renumbering M M′) (a : WellFormed M) (k : ℕ) (axis : k < 3) (f : ℕ) (face : f < M .faces) where
   patch-renumbered : (m : ℕ) → patchPoint (view M′ k) (4 * r .faces .to f) m ≡ patchPoint (view M k) (turn (r .start f) (4 * f)) m
   patch-renumbered m =
-      ap₂ (λ (g c : ℕ). patchPoint (record { n = 4 * g; at = at M′; tag = tag M′; value = view M′ k .value }) c m)
+      ap₂ (λ (g c : ℕ). patchPoint (record { shape = record { n = 4 * g; at = at M′; tag = tag M′ }; value = view M′ k .value }) c m)
       (r .same-faces) (sym (face-begins r f face))
       ∙ patch-moves (sound a) (a .fans) (carried r k axis) (turn (r .start f) (4 * f)) (omega arith) m
 
