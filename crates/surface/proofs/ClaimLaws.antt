@@ -14,11 +14,11 @@ use Rattle.sample.specs.Answer.{Answer, point}
 use Rattle.sample.proofs.SampleLaws.{rounded-ext}
 use Rattle.patch.specs.Patch.{patchPoint, units, view}
 use Rattle.patch.proofs.PointLaws.{patch-divisor}
+use Rattle.symmetry.proofs.WellFormedMoves.{sound, alike-well-formed}
 use Rattle.surface.specs.Renumbering.{Renumbering, Place, place, matching, onSide}
 use Rattle.surface.specs.Claim.{Claim, sampleOn, exact}
 use Rattle.surface.proofs.PointMoves.{patch-moves}
-use Rattle.surface.proofs.FromRenumbering.{accepted-sound, carried, face-begins}
-use Rattle.surface.proofs.AcceptedMoves.{renumbered-accepted}
+use Rattle.surface.proofs.FromRenumbering.{alike, carried, face-begins}
 use Rattle.surface.proofs.FaceSamples.{sampleFrom, Within, matching-within, side-within, sample-matching}
 use Rattle.surface.proofs.Seam.{twin-inside, seam}
 use Rattle.surface.proofs.Distance.{distance}
@@ -50,9 +50,9 @@ module _ {M : IndexedMesh} (a : WellFormed M) (n : ℕ) (least : 1 ≤ n) (most 
 module _ {M M′ : IndexedMesh} (r : Renumbering M M′) (a : WellFormed M) (k : ℕ) (axis : k < 3) (f : ℕ) (face : f < M .faces) where
   patch-renumbered : (m : ℕ) → patchPoint (view M′ k) (4 * r .faces .to f) m ≡ patchPoint (view M k) (turn (r .start f) (4 * f)) m
   patch-renumbered m =
-      ap₂ (λ (g c : ℕ). patchPoint (record { n = 4 * g; at = at M′; tag = tag M′; value = view M′ k .value }) c m)
+      ap₂ (λ (g c : ℕ). patchPoint (record { shape = record { n = 4 * g; at = at M′; tag = tag M′ }; value = view M′ k .value }) c m)
       (r .same-faces) (sym (face-begins r f face))
-      ∙ patch-moves (accepted-sound a) (carried r k axis) (turn (r .start f) (4 * f)) (omega arith) m
+      ∙ patch-moves (sound a) (a .fans) (carried r k axis) (turn (r .start f) (4 * f)) (omega arith) m
 
   sample-renumbered : (n : ℕ) (p : Place) → Within n p
       → sampleFrom (view M′ k) n (4 * r .faces .to f) (matching n (r .start f) p) ≡ sampleFrom (view M k) n (4 * f) p
@@ -74,7 +74,7 @@ claim M M′ r a n least most d d′ long long′ = record {
       (side-within n (twin (at M) (corners M) c % 4) (n - t) (omega arith)));
   renumbered = λ f x y l hx hy.
       let p : Place = place x y in
-      sampled (renumbered-accepted a r) n least most d′ (rw (r .same-faces) long′) (r .faces .to f) (matching n (r .start f) p)
+      sampled (alike-well-formed a (alike r)) n least most d′ (rw (r .same-faces) long′) (r .faces .to f) (matching n (r .start f) p)
       (rw (r .same-faces) (r .faces .to-below f l)) (matching-within n (r .start f) p (hx, hy))
       ∙ same-answer M′ M n _ _ _ _ (λ k h. sample-renumbered r a k h f l n p (hx, hy))
       ∙ sym (sampled a n least most d long f p l (hx, hy));

@@ -18,12 +18,13 @@ use Rattle.sample.specs.Bernstein.{coordinateAt}
 use Rattle.sample.specs.Answer.{Answer, point, sampleAnswer, meaning as sampled}
 use Rattle.patch.specs.Patch.{view, patchesAfter}
 use Rattle.patch.specs.Answer.{patchAnswer, patchList}
+use Rattle.symmetry.proofs.WellFormedMoves.{alike-well-formed, alike-counts}
 use Rattle.surface.specs.Renumbering.{Renumbering, Place, place, onSide}
 use Rattle.surface.specs.Claim.{sampleOn, Claim}
 use Rattle.surface.specs.Witness.{Evaluated, Lent, coordinateOf, Shown}
 use Rattle.surface.specs.declared.model.SamplePlace.{SamplePlace}
 use Rattle.surface.specs.declared.model.Evaluation.{Evaluation}
-use Rattle.surface.proofs.AcceptedMoves.{renumbered-accepted, renumbered-counts}
+use Rattle.surface.proofs.FromRenumbering.{alike}
 use Rattle.surface.proofs.FaceSamples.{side-within}
 use Rattle.surface.proofs.Seam.{twin-inside}
 use Rattle.surface.proofs.ClaimLaws.{claim}
@@ -114,10 +115,10 @@ module _ {M M′ : IndexedMesh} {d d′ b b′ : List ℕ} {e e′ w w′ : List
         (seam-lists a n least most e (l .patches-long) e′ (subst (λ (N : IndexedMesh). 48 * N .faces ≤ length e′) same (l′ .patches-long)) c t h b inner
         ∙ sym (there (subst WellFormed (sym same) a) ∙ rw (ef′, ep′, same)));
     counted = λ s.
-        let k = renumbered-counts a s in
+        let k = alike-counts a (alike s) in
         first .mesh-is ∙ accepted-answer a l
-        ∙ sym (second .mesh-is ∙ accepted-answer (renumbered-accepted a s) l′ ∙ rw (k .0, k .1, s .same-vertices, s .same-faces));
+        ∙ sym (second .mesh-is ∙ accepted-answer (alike-well-formed a (alike s)) l′ ∙ rw (k .0, k .1, s .same-vertices, s .same-faces));
     renumbered = λ s h ha hb ef ep.
-        here ∙ sym (there (renumbered-accepted a s)
+        here ∙ sym (there (alike-well-formed a (alike s))
         ∙ rw (ef, ep) (claim M M′ s a n least most e e′ (l .patches-long) (rw (← (s .same-faces)) (l′ .patches-long)) .renumbered (q .face) (q .a) (q .b) h ha hb));
   }
