@@ -20,7 +20,7 @@ use Rattle.mesh.specs.Corner.{turn, next, Corners}
 use Rattle.mesh.specs.HalfEdge.{edges, boundaries, Simple}
 use Rattle.mesh.specs.Fan.{valence, onBoundary, fan}
 use Rattle.mesh.specs.IndexedMesh.{IndexedMesh, corners, at, tag, coordinate}
-use Rattle.mesh.specs.Refusal.{off, sizesOff, coordinateOff, tagOff, vertexOff, vertexTwice, halfEdgeTwice, vertexUnused, fanBroken, valenceOff, innerTagged, entryRows, earlyRows, lateRows, Accepted}
+use Rattle.mesh.specs.Refusal.{off, sizesOff, meshSizesOff, coordinateOff, tagOff, vertexOff, vertexTwice, halfEdgeTwice, vertexUnused, fanBroken, valenceOff, innerTagged, entryRows, earlyRows, lateRows, Accepted}
 use Rattle.mesh.specs.WellFormed.{Sized, WellFormed}
 use Rattle.mesh.proofs.TwinLaws.{doubled-simple, simple-doubled}
 use Rattle.mesh.proofs.SizeLaws.{off-false, sizes-false}
@@ -162,10 +162,11 @@ accepted-late {M} a =
     (λ p l b. (a .boundary-low p l b, a .boundary-high p l b)))
     ∙ skipped 11 _ (tagged-none M (a .tagged-boundary))
 
-pub accepted-from : (M : IndexedMesh) → firstMet (earlyRows M []) ≡ none → firstMet (lateRows M) ≡ none → WellFormed M
-accepted-from M early late =
-    let h₁ = none-met (sizesOff (M .vertices) (M .faces) (length (M .positions)) (length (M .tags)) (length (M .indices))) 1 _ early in
-    let h₃ = none-met (coordinateOff M) 3 _ (h₁ .1) in
+pub accepted-from : (M : IndexedMesh) (own : List Row) → firstMet (earlyRows M own) ≡ none → firstMet (lateRows M) ≡ none → WellFormed M
+accepted-from M own early late =
+    let h₁ = none-met (meshSizesOff M) 1 _ early in
+    let h₂ = append-none own (entryRows M) (h₁ .1) in
+    let h₃ = none-met (coordinateOff M) 3 _ (h₂ .1) in
     let h₄ = none-met (tagOff M) 4 _ (h₃ .1) in
     let h₅ = none-met (vertexOff M) 5 _ (h₄ .1) in
     let h₆ = none-met (vertexTwice M) 6 _ (h₅ .1) in
@@ -198,7 +199,7 @@ well-formed-accepted {M} a = none-append (earlyRows M []) (lateRows M) (accepted
 
 pub accepted-well-formed : {M : IndexedMesh} → Accepted M → WellFormed M
 unfolding Accepted
-accepted-well-formed {M} e = let h = append-none (earlyRows M []) (lateRows M) e in accepted-from M (h .0) (h .1)
+accepted-well-formed {M} e = let h = append-none (earlyRows M []) (lateRows M) e in accepted-from M [] (h .0) (h .1)
 
 -- ---- what an accepted mesh has
 pub accepted-corners : {M : IndexedMesh} → WellFormed M → Corners (corners M)

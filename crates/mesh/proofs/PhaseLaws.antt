@@ -13,14 +13,14 @@ use Rattle.finite.specs.Fold.{anyBelow, countBelow, indicator}
 use Rattle.finite.specs.Filled.{filled}
 use Rattle.finite.proofs.FoldLaws.{bool-cases, fold-ext}
 use Rattle.finite.specs.Table.{Row, firstMet, Answer, result, refusal, answerBy}
-use Rattle.finite.proofs.TableLaws.{skipped, none-met, orElse, first-append, some-append, none-append, append-none}
+use Rattle.finite.proofs.TableLaws.{met-here, skipped, none-met, orElse, first-append, some-append, none-append, append-none}
 use Rattle.mesh.specs.Limits.{maxVertices, noTwin, cornerTag}
 use Rattle.mesh.specs.Corner.{next}
 use Rattle.mesh.specs.HalfEdge.{twin, edges, boundaries}
 use Rattle.mesh.specs.IndexedMesh.{IndexedMesh, corners, at}
-use Rattle.mesh.specs.Refusal.{sizesOff, coordinateOff, tagOff, vertexOff, vertexTwice, halfEdgeTwice, valenceBad, entryRows, earlyRows, lateRows}
+use Rattle.mesh.specs.Refusal.{meshSizesOff, coordinateOff, tagOff, vertexOff, vertexTwice, halfEdgeTwice, valenceBad, entryRows, earlyRows, lateRows}
 use Rattle.mesh.specs.WellFormed.{Sized}
-use Rattle.mesh.specs.Answer.{countsOf, meshAnswer, twinsAfter}
+use Rattle.mesh.specs.Answer.{countsOf, meshRefusal, meshAnswer, twinsAfter}
 use Rattle.mesh.specs.Private.{refusalOf, Holds, vertexOf, twinOf, Indices, Counted}
 use Rattle.mesh.proofs.SizeLaws.{sizes-false, indices-corners}
 use Rattle.mesh.proofs.EdgeLaws.{edges-lead, edges-twice}
@@ -62,7 +62,7 @@ sized-indices M s named = record { whole = omega arith; few = omega arith; liste
 
 pub early-passed : (M : IndexedMesh) (own : List Row) → firstMet (earlyRows M own) ≡ none → (firstMet own ≡ none) × Passed M
 early-passed M own e =
-    let h₁ = none-met (sizesOff (M .vertices) (M .faces) (length (M .positions)) (length (M .tags)) (length (M .indices))) 1 _ e in
+    let h₁ = none-met (meshSizesOff M) 1 _ e in
     let h₂ = append-none own (entryRows M) (h₁ .1) in
     let h₃ = none-met (coordinateOff M) 3 _ (h₂ .1) in
     let h₄ = none-met (tagOff M) 4 _ (h₃ .1) in
@@ -96,7 +96,7 @@ given-none k rest h = rw (eq-eqb k 0 h)
 module _ (M : IndexedMesh) (own : List Row) where
   module _ {k : ℕ} (early : firstMet (earlyRows M own) ≡ some k) where
     pub answer-early : refusal k ≡ meshAnswer M own []
-    unfolding meshAnswer
+    unfolding meshRefusal
     answer-early = rw (some-append (earlyRows M own) (lateRows M ++ []) early)
 
     pub twins-early : (d : List ℕ) → d ≡ twinsAfter M own [] d
@@ -105,7 +105,7 @@ module _ (M : IndexedMesh) (own : List Row) where
 
   module _ (early : firstMet (earlyRows M own) ≡ none) where
     answer-by : answerBy (firstMet (lateRows M)) (countsOf M) ≡ meshAnswer M own []
-    unfolding meshAnswer
+    unfolding meshRefusal
     answer-by = ap (λ (m : Option ℕ). answerBy m (countsOf M)) (sym (none-append (earlyRows M own) (lateRows M ++ []) early))
 
     module _ {k : ℕ} (late : firstMet (lateRows M) ≡ some k) where
@@ -124,15 +124,22 @@ module _ (M : IndexedMesh) (own : List Row) where
       unfolding twinsAfter
       twins-accepted d = rw (early, late)
 
--- rows of a call's own that are not met where the sizes are in their ranges might as well not be there
-pub answer-alone : (M : IndexedMesh) (own : List Row)
-    → (sizesOff (M .vertices) (M .faces) (length (M .positions)) (length (M .tags)) (length (M .indices)) ≡ false → firstMet own ≡ none)
-    → meshAnswer M own [] ≡ meshAnswer M [] []
-unfolding meshAnswer
-answer-alone M own unmet =
-    bool-cases (sizesOff (M .vertices) (M .faces) (length (M .positions)) (length (M .tags)) (length (M .indices)))
-    (λ e. rw e)
-    (λ e. ap (λ (m : Option ℕ). answerBy m (countsOf M)) (first-append (earlyRows M own) (lateRows M ++ []) ∙ ap (λ (m : Option ℕ). orElse m (firstMet (lateRows M))) (passing e) ∙ sym (first-append (earlyRows M []) (lateRows M ++ []))))
-  where
-    passing : sizesOff (M .vertices) (M .faces) (length (M .positions)) (length (M .tags)) (length (M .indices)) ≡ false → firstMet (earlyRows M own) ≡ firstMet (earlyRows M [])
-    passing e = skipped 1 _ e ∙ none-append own (entryRows M) (unmet e) ∙ sym (skipped 1 _ e)
+-- ---- rows of a call's own that are met alike
+module _ (M : IndexedMesh) (own own' : List Row) where
+  -- where the sizes are off their ranges, no other row matters
+  early-alike : (meshSizesOff M ≡ false → firstMet own ≡ firstMet own') → firstMet (earlyRows M own) ≡ firstMet (earlyRows M own')
+  early-alike alike =
+      bool-cases (meshSizesOff M)
+      (λ e. met-here 1 _ e ∙ sym (met-here 1 _ e))
+      (λ e. skipped 1 _ e ∙ first-append own (entryRows M) ∙ ap (λ (m : Option ℕ). orElse m (firstMet (entryRows M))) (alike e) ∙ sym (skipped 1 _ e ∙ first-append own' (entryRows M)))
+
+  pub refusal-alike : (meshSizesOff M ≡ false → firstMet own ≡ firstMet own') → (after : List Row) → meshRefusal M own after ≡ meshRefusal M own' after
+  unfolding meshRefusal
+  refusal-alike alike after =
+      first-append (earlyRows M own) (lateRows M ++ after)
+      ∙ ap (λ (m : Option ℕ). orElse m (firstMet (lateRows M ++ after))) (early-alike alike)
+      ∙ sym (first-append (earlyRows M own') (lateRows M ++ after))
+
+  pub twins-alike : (meshSizesOff M ≡ false → firstMet own ≡ firstMet own') → (after : List Row) (d : List ℕ) → twinsAfter M own after d ≡ twinsAfter M own' after d
+  unfolding twinsAfter
+  twins-alike alike after d = rw (early-alike alike)

@@ -2,7 +2,9 @@
 --
 --   countsOf M          "The check returns V, F, E and B": of the mesh M
 --   checked r           the answer, for each case of the code's enum `Checked`: the counts, or the number of a refusal
---   meshAnswer M own after   the answer for the mesh M by a call with rows of its own: `own` after row 1, `after` behind all rows of the mesh
+--   meshRefusal M own after   the refusal that the mesh M meets in a call with rows of its own: `own` after row 1, `after` behind all rows of
+--                       the mesh
+--   meshAnswer M own after   the answer of that call: its counts, or the refusal
 --   twinsAfter M own after d   the list of twins afterwards, which held d: untouched after an early refusal, all `noTwin` after a later one,
 --                       else the twins
 --   lentRows M d        the row of a call that is lent the twins d: "lent list too short (4F mates ..)"
@@ -13,6 +15,7 @@
 use mathlib.Core.Path.{_≡_}
 use mathlib.Core.Bool.{Bool, not, cond}
 use mathlib.Core.List.{List, [], _∷_, _++_}
+use mathlib.Core.Option.{Option}
 use Prim.Native.Nat.{ℕ, _+_, _*_}
 use lib.Dec.{eqb, ltb, leb}
 use lib.ListN.{length, take, drop}
@@ -38,8 +41,11 @@ abbrev pub checked : Checked → Answer Mesh
 checked (Accepted m) = result m
 checked (Refused k) = refusal k
 
-unfoldable pub meshAnswer : IndexedMesh → List Row → List Row → Answer Mesh
-meshAnswer M own after = answerBy (firstMet (earlyRows M own ++ (lateRows M ++ after))) (countsOf M)
+unfoldable pub meshRefusal : IndexedMesh → List Row → List Row → Option ℕ
+meshRefusal M own after = firstMet (earlyRows M own ++ (lateRows M ++ after))
+
+abbrev pub meshAnswer : IndexedMesh → List Row → List Row → Answer Mesh
+meshAnswer M own after = answerBy (meshRefusal M own after) (countsOf M)
 
 unfoldable pub twinsAfter : IndexedMesh → List Row → List Row → List ℕ → List ℕ
 twinsAfter M own after d =

@@ -26,6 +26,9 @@ sizesOff v f positions tags indices =
     off minVertices maxVertices v || (off minFaces maxFaces f
     || (not (eqb positions (3 * v)) || (not (eqb tags v) || not (eqb indices (4 * f)))))
 
+abbrev pub meshSizesOff : IndexedMesh → Bool
+meshSizesOff M = sizesOff (M .vertices) (M .faces) (length (M .positions)) (length (M .tags)) (length (M .indices))
+
 -- 3: "coordinate off its range"
 unfoldable pub coordinateOff : IndexedMesh → Bool
 coordinateOff M = anyBelow (λ i. ltb maxCoordinate (natAbs (coordinate M i))) (3 * M .vertices)
@@ -80,7 +83,7 @@ entryRows M =
 -- whether one of the lists that it was lent is too short (2), and what later calls add there
 abbrev pub earlyRows : IndexedMesh → List Row → List Row
 earlyRows M own =
-    row (sizesOff (M .vertices) (M .faces) (length (M .positions)) (length (M .tags)) (length (M .indices))) 1 ∷ (own ++ entryRows M)
+    row (meshSizesOff M) 1 ∷ (own ++ entryRows M)
 
 -- the rows of the corners at each vertex: 8 to 10
 abbrev pub fanRows : (ℕ → ℕ) → ℕ → ℕ → List Row
