@@ -30,6 +30,14 @@ abbrev pub orElse : Option ℕ → Option ℕ → Option ℕ
 orElse none y = y
 orElse (some k) y = some k
 
+pub orElse-assoc : (x y z : Option ℕ) → orElse x (orElse y z) ≡ orElse (orElse x y) z
+orElse-assoc none y z = refl
+orElse-assoc (some k) y z = refl
+
+pub orElse-none : (x : Option ℕ) → orElse x none ≡ x
+orElse-none none = refl
+orElse-none (some k) = refl
+
 pub first-append : (xs ys : List Row) → firstMet (xs ++ ys) ≡ orElse (firstMet xs) (firstMet ys)
 first-append [] ys = refl
 first-append (r ∷ xs) ys = go (r .cause) (first-append xs ys)
@@ -58,6 +66,11 @@ append-none xs ys e = go (firstMet xs) (firstMet ys) (sym (first-append xs ys) �
 pub result-none : {A : Type 0} {a x : A} (met : Option ℕ) → result a ≡ answerBy met x → (met ≡ none) × (a ≡ x)
 result-none none e = (refl, (cc))
 result-none (some k) e = let z : _≡_ {A = ℕ} 0 1 = cc in absurd (omega arith)
+
+-- a refusal is what was met
+pub refusal-met : {A : Type 0} (x : A) {k : ℕ} (met : Option ℕ) → refusal k ≡ answerBy met x → met ≡ some k
+refusal-met x none e = let z : _≡_ {A = ℕ} 0 1 = cc in absurd (omega arith)
+refusal-met x (some j) e = cc
 
 -- ---- checking row by row
 pub record From (rows rest : List Row) : Type 0 where

@@ -13,7 +13,7 @@ use Rattle.finite.specs.Fold.{anyBelow, countBelow, indicator}
 use Rattle.finite.specs.Filled.{filled}
 use Rattle.finite.proofs.FoldLaws.{bool-cases, fold-ext}
 use Rattle.finite.specs.Table.{Row, firstMet, Answer, result, refusal, answerBy}
-use Rattle.finite.proofs.TableLaws.{met-here, skipped, none-met, orElse, first-append, some-append, none-append, append-none}
+use Rattle.finite.proofs.TableLaws.{met-here, skipped, none-met, orElse, orElse-assoc, first-append, some-append, none-append, append-none}
 use Rattle.mesh.specs.Limits.{maxVertices, noTwin, cornerTag}
 use Rattle.mesh.specs.Corner.{next}
 use Rattle.mesh.specs.HalfEdge.{twin, edges, boundaries}
@@ -143,3 +143,17 @@ module _ (M : IndexedMesh) (own own' : List Row) where
   pub twins-alike : (meshSizesOff M ≡ false → firstMet own ≡ firstMet own') → (after : List Row) (d : List ℕ) → twinsAfter M own after d ≡ twinsAfter M own' after d
   unfolding twinsAfter
   twins-alike alike after d = rw (early-alike alike)
+
+-- ---- rows of a call's own behind those of the mesh: they tell where no other row is met
+pub refusal-split : (M : IndexedMesh) (own after : List Row) → meshRefusal M own after ≡ orElse (meshRefusal M own []) (firstMet after)
+unfolding meshRefusal
+refusal-split M own after =
+    first-append (earlyRows M own) (lateRows M ++ after)
+    ∙ ap (orElse (firstMet (earlyRows M own))) (first-append (lateRows M) after)
+    ∙ orElse-assoc (firstMet (earlyRows M own)) (firstMet (lateRows M)) (firstMet after)
+    ∙ ap (λ (m : Option ℕ). orElse m (firstMet after)) (sym (first-append (earlyRows M own) (lateRows M ++ [])))
+
+-- ---- a row of a call's own that is met where the sizes are in their ranges
+pub refusal-own : (M : IndexedMesh) (own after : List Row) {k : ℕ} → meshSizesOff M ≡ false → firstMet own ≡ some k → meshRefusal M own after ≡ some k
+unfolding meshRefusal
+refusal-own M own after sizes e = some-append (earlyRows M own) (lateRows M ++ after) (skipped 1 _ sizes ∙ some-append own (entryRows M) e)

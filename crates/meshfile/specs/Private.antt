@@ -1,36 +1,24 @@
 -- What only the contracts of private functions cite: the answer for a mesh that is taken out of a file.
 --
---   refusalOr k answer    the number of the mesh's refusal, k for an accepted mesh
---   tessellated M n d     the answer for the mesh M and N = n, where the patch list d is lent: the mesh's refusal, else 14 where N is
---                         off its range
---   tessellatedList M n d   the patch list afterwards
-use mathlib.Core.Bool.{cond}
-use mathlib.Core.List.{List}
+--   tessellateRefusal M n d   the refusal for the mesh M and N = n, where the patch list d is lent: the mesh's, with 2 for that list, else 14
+--                         where N is off its range
+--   Tessellated M n d r d'    the answer r for the mesh M and N = n, and the patch list d' afterwards, which held d
+use mathlib.Core.Path.{_≡_}
+use mathlib.Core.List.{List, [], _∷_}
+use mathlib.Core.Option.{Option}
 use Prim.Native.Nat.{ℕ}
 use lib.IntN.{ℤ}
+use Rattle.finite.specs.Table.{row, answerBy, writtenBy}
 use Rattle.mesh.specs.IndexedMesh.{IndexedMesh}
-use Rattle.mesh.specs.Refusal.{off}
-use Rattle.mesh.specs.Answer.{Answer as MeshAnswer, counts, refusal as meshRefusal, meshAnswer}
-use Rattle.sample.specs.Refusal.{minSteps, maxSteps}
+use Rattle.mesh.specs.Answer.{countsOf, meshRefusal}
 use Rattle.patch.specs.Patch.{patchesAfter}
 use Rattle.patch.specs.Answer.{patchesShort}
-use Rattle.meshfile.specs.Answer.{Answer, sizes, accepted, refusal}
+use Rattle.meshfile.specs.declared.model.Opened.{Opened}
+use Rattle.meshfile.specs.Answer.{opened, stepsOff}
 
-abbrev pub refusalOr : ℕ → MeshAnswer → ℕ
-refusalOr k (counts v f e b) = k
-refusalOr k (meshRefusal r) = r
+abbrev pub tessellateRefusal : IndexedMesh → ℕ → List ℤ → Option ℕ
+tessellateRefusal M n d = meshRefusal M (row (patchesShort M d) 2 ∷ []) (row (stepsOff n) 14 ∷ [])
 
-abbrev pub withSteps : ℕ → MeshAnswer → Answer
-withSteps n (counts v f e b) = cond (off minSteps maxSteps n) (refusal 14) (accepted v f e b n)
-withSteps n (meshRefusal k) = refusal k
-
-abbrev pub tessellated : IndexedMesh → ℕ → List ℤ → Answer
-tessellated M n d = withSteps n (meshAnswer M (patchesShort M d))
-
-abbrev pub patchesBy : IndexedMesh → Answer → List ℤ → List ℤ
-patchesBy M (sizes v f s) d = d
-patchesBy M (accepted v f e b s) d = patchesAfter M d
-patchesBy M (refusal k) d = d
-
-abbrev pub tessellatedList : IndexedMesh → ℕ → List ℤ → List ℤ
-tessellatedList M n d = patchesBy M (tessellated M n d) d
+pub record Tessellated (M : IndexedMesh) (n : ℕ) (d : List ℤ) (r : Opened) (d' : List ℤ) : Type 0 where
+  pub answer-is : opened r ≡ answerBy (tessellateRefusal M n d) (record { mesh = countsOf M; steps = n })
+  pub patches-are : d' ≡ writtenBy (tessellateRefusal M n d) d (patchesAfter M d)

@@ -16,11 +16,7 @@ use crate::model::Header;
 use crate::model::Opened;
 use crate::tessellate::tessellate;
 use mesh::model::Mesh;
-ghost use mathlib.Core.Path.{_≡_};
-ghost use Prim.Native.Nat.{_*_};
-ghost use lib.ListN.{length};
-ghost use Rattle.meshfile.specs.File.{vertices, faces as faceCount, positionAt, tagAt, indexAt};
-ghost use Rattle.meshfile.specs.Answer.{decoded, decodeAnswer, decodedList, opened, openAnswer, openList};
+ghost use Rattle.meshfile.specs.Answer.{FileDecoded, FileOpened};
 
 // The sizes and the mesh of a file.
 // Returns: V, F and N, or the number of the refusal.
@@ -29,10 +25,7 @@ ghost use Rattle.meshfile.specs.Answer.{decoded, decodeAnswer, decodedLi
 // Refuses, in this order: 15 fewer than 6 bytes, 1 V or F off its range, 15 a length other than 6 + 13V + 8F, 2 a list that is too short.
 // Units: positions in micrometres.
 pub fn decode(bytes: &[u8], positions: &mut [i32], tags: &mut [u8], faces: &mut [u16]) -> Decoded
-    ensures { λ r. ⌜ decoded r ≡ decodeAnswer (now (bytes .entry)) (length (now (positions .entry))) (length (now (tags .entry))) (length (now (faces .entry))) ⌝ }
-    ensures { λ r. ⌜ now (positions .exit) ≡ decodedList (positionAt (now (bytes .entry))) (3 * vertices (now (bytes .entry))) (decodeAnswer (now (bytes .entry)) (length (now (positions .entry))) (length (now (tags .entry))) (length (now (faces .entry)))) (now (positions .entry)) ⌝ }
-    ensures { λ r. ⌜ now (tags .exit) ≡ decodedList (tagAt (now (bytes .entry))) (vertices (now (bytes .entry))) (decodeAnswer (now (bytes .entry)) (length (now (positions .entry))) (length (now (tags .entry))) (length (now (faces .entry)))) (now (tags .entry)) ⌝ }
-    ensures { λ r. ⌜ now (faces .exit) ≡ decodedList (indexAt (now (bytes .entry))) (4 * faceCount (now (bytes .entry))) (decodeAnswer (now (bytes .entry)) (length (now (positions .entry))) (length (now (tags .entry))) (length (now (faces .entry)))) (now (faces .entry)) ⌝ }
+    ensures { λ r. ⌜ FileDecoded (now (bytes .entry)) (now (positions .entry)) (now (tags .entry)) (now (faces .entry)) r (now (positions .exit)) (now (tags .exit)) (now (faces .exit)) ⌝ }
 {
     let refusal = file_refusal(bytes);
     if refusal != 0 {
@@ -57,8 +50,7 @@ pub fn decode(bytes: &[u8], positions: &mut [i32], tags: &mut [u8], faces: &mut 
 // Refuses, in this order: 15, 1 and 15 as `decode` does, 2 patches shorter than 48F, 3 to 11 as `mesh::check` does, 14 N off its range.
 // Units: patch numbers in 1/256 micrometre.
 pub fn open(bytes: &[u8], patches: &mut [i32]) -> Opened
-    ensures { λ r. ⌜ opened r ≡ openAnswer (now (bytes .entry)) (now (patches .entry)) ⌝ }
-    ensures { λ r. ⌜ now (patches .exit) ≡ openList (now (bytes .entry)) (now (patches .entry)) ⌝ }
+    ensures { λ r. ⌜ FileOpened (now (bytes .entry)) (now (patches .entry)) r (now (patches .exit)) ⌝ }
 {
     let mut positions = [0i32; 3 * Mesh::MAX_VERTICES];
     let mut tags = [0u8; Mesh::MAX_VERTICES];

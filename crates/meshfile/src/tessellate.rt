@@ -6,23 +6,21 @@ use mesh::model::Checked;
 use mesh::model::Mesh;
 use sample::model::Point;
 ghost use mathlib.Core.Path.{_≡_};
-ghost use mathlib.Core.Bool.{false};
-ghost use Prim.Native.Nat.{_≤_};
+ghost use mathlib.Core.Bool.{true};
+ghost use mathlib.Core.List.{[], _∷_};
+ghost use mathlib.Core.Option.{some};
 ghost use lib.ListN.{length};
-ghost use Rattle.mesh.specs.Limits.{maxFaces};
+ghost use Rattle.finite.specs.Table.{row};
 ghost use Rattle.mesh.specs.IndexedMesh.{indexed};
 ghost use Rattle.mesh.specs.WellFormed.{Sized};
-ghost use Rattle.mesh.specs.Answer.{meshAnswer};
-ghost use Rattle.meshfile.specs.Answer.{opened};
-ghost use Rattle.meshfile.specs.Private.{refusalOr, tessellated, tessellatedList};
+ghost use Rattle.mesh.specs.Answer.{meshRefusal};
+ghost use Rattle.meshfile.specs.Private.{Tessellated};
 
-// The number of the mesh's refusal, where it is lent lists that are long enough; 14 for none, as N is off its range.
+// The number of the mesh's refusal; 14 for none, as N is off its range.
 fn steps_refusal(v: usize, f: usize, positions: &[i32], tags: &[u8], faces: &[u16]) -> u8
-    requires { ⌜ f ≤ maxFaces ⌝ }
-    ensures { λ r. ⌜ r ≡ refusalOr 14 (meshAnswer (indexed v f (now (positions .entry)) (now (tags .entry)) (now (faces .entry))) false) ⌝ }
+    ensures { λ r. ⌜ meshRefusal (indexed v f (now (positions .entry)) (now (tags .entry)) (now (faces .entry))) [] (row true 14 ∷ []) ≡ some r ⌝ }
 {
-    let mut twins = [0u16; 4 * Mesh::MAX_FACES];
-    match mesh::check(v, f, positions, tags, faces, &mut twins) {
+    match mesh::check_alone(v, f, positions, tags, faces) {
         Checked::Accepted(_) => 14,
         Checked::Refused(k) => k,
     }
@@ -39,8 +37,7 @@ pub(crate) fn tessellate(
     patches: &mut [i32],
 ) -> Opened
     requires { ⌜ Sized v f (length (now positions)) (length (now tags)) (length (now faces)) ⌝ }
-    ensures { λ r. ⌜ opened r ≡ tessellated (indexed v f (now (positions .entry)) (now (tags .entry)) (now (faces .entry))) n (now (patches .entry)) ⌝ }
-    ensures { λ r. ⌜ now (patches .exit) ≡ tessellatedList (indexed v f (now (positions .entry)) (now (tags .entry)) (now (faces .entry))) n (now (patches .entry)) ⌝ }
+    ensures { λ r. ⌜ Tessellated (indexed v f (now (positions .entry)) (now (tags .entry)) (now (faces .entry))) n (now (patches .entry)) r (now (patches .exit)) ⌝ }
 {
     if patches.len() < 48 * f {
         return Opened::Refused(2);

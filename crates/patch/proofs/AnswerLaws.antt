@@ -45,11 +45,6 @@ module _ (M : IndexedMesh) (d : List ℕ) (e : List ℤ) (own : ℕ) (short : ow
   pub same-twins : twinsAfter M (given own ∷ lentRows M d) [] d ≡ patchTwins M d e
   same-twins = twins-alike M (given own ∷ lentRows M d) (patchRows M d e) (λ _. same-rows) [] d
 
--- ---- a refusal leaves the patch list alone
-pub refused-list : {A : Type 0} (a : A) {k : ℕ} (met : Option ℕ) (d w : List ℤ) → refusal k ≡ answerBy met a → writtenBy met d w ≡ d
-refused-list a none d w q = let z : _≡_ {A = ℕ} 0 1 = cc in absurd (omega arith)
-refused-list a (some j) d w q = refl
-
 -- ---- an accepted mesh
 module _ (M : IndexedMesh) (d : List ℕ) (e : List ℤ) {m : Mesh} (answer : result m ≡ patchAnswer M d e) where
   unmet : meshRefusal M (patchRows M d e) [] ≡ none

@@ -12,18 +12,14 @@ use Rattle.finite.specs.Filled.{filled}
 use Rattle.finite.specs.Table.{firstMet}
 use Rattle.mesh.specs.Limits.{maxVertices, maxFaces}
 use Rattle.mesh.specs.Private.{refusalOf}
+use Rattle.mesh.proofs.PhaseLaws.{refusal-some}
 use Rattle.meshfile.specs.declared.model.Header.{Header}
-use Rattle.meshfile.specs.declared.model.Decoded.the-variants.{Read}
 use Rattle.meshfile.specs.Bytes.{le16}
-use Rattle.meshfile.specs.File.{vertices, faces, positionAt, tagAt, indexAt, fileRows}
-use Rattle.meshfile.specs.Answer.{Answer, decoded, placesShort, decodeAnswer}
-use Rattle.meshfile.proofs.FileLaws.{Whole, file-whole, decode-refused, decode-short, decode-read, places-long, kept, gained}
+use Rattle.meshfile.specs.File.{vertices, faces, positionAt, fileRows}
+use Rattle.meshfile.specs.Answer.{placesShort}
+use Rattle.meshfile.proofs.FileLaws.{Whole, file-whole, decode-file, decode-short, decode-read, places-long, file-refused, file-decoded}
 use Rattle.meshfile.proofs.decode.Statement.{statement}
 use Rattle.meshfile.proofs.decode.Tie as tie
-
--- the answer, from the start
-abbrev answer : tie.Start → Answer
-answer s = decodeAnswer (s .args .bytes .now) (length (s .args .positions .now)) (length (s .args .tags .now)) (length (s .args .faces .now))
 
 -- ---- the file's own refusals have passed
 module _ (c : tie.Else1) where
@@ -82,8 +78,8 @@ returns : tie.Need-returns
 returns c =
     let f = c .before in
     let s = f .before .before .before .before in
-    let e = decode-refused (s .args .bytes .now) _ _ _ (f .file-refusal .result) (f .file-refusal .ensures) (c .if1 .taken) in
-    (e, (kept _ _ (answer s) _ _ e, (kept _ _ (answer s) _ _ e, kept _ _ (answer s) _ _ e)))
+    let r = f .file-refusal .result in
+    file-refused (s .args .bytes .now) _ _ _ r (decode-file (s .args .bytes .now) _ _ _ (f .file-refusal .ensures ∙ refusal-some r (c .if1 .taken)))
 
 sizes-of-requires : tie.Need-sizes-of-requires
 sizes-of-requires c κs = omega (arith, whole c .length-is)
@@ -94,9 +90,7 @@ places-short-requires c κs = let w = whole (c .before) in (omega (arith, vertic
 returns-2 : tie.Need-returns-2
 returns-2 c =
     let f = c .before .before .before in
-    let s = start f in
-    let e = decode-short (file f) _ _ _ (passed f) (told (c .before) ∙ c .if2 .taken) in
-    (e, (kept _ _ (answer s) _ _ e, (kept _ _ (answer s) _ _ e, kept _ _ (answer s) _ _ e)))
+    file-refused (file f) _ _ _ 2 (decode-short (file f) _ _ _ (passed f) (told (c .before) ∙ c .if2 .taken))
 
 mul-fill-i32s : tie.Need-mul-fill-i32s
 mul-fill-i32s c = omega (arith, few c .0)
@@ -143,16 +137,10 @@ returns-3 c =
     let r = read k in
     let b = file (r .before) in
     let s = start (r .before) in
-    let e = decode-read b _ _ _ (passed (r .before)) (told (k .before) ∙ k .if2 .left) in (
-      ap (λ (h : Header). decoded (Read h)) (r .sizes-of .ensures) ∙ e,
-      (
-        p .fill-i32s .ensures ∙ ap (λ (n : ℕ). filled (positionAt b) (3 * n) (s .args .positions .now)) (vertices-read r) ∙ gained _ _ (answer s) _ _ _ _ e,
-        (
-          t .fill-bytes .ensures ∙ ap (λ (n : ℕ). filled (λ j. getD b (6 + 12 * n + j) 0) n (s .args .tags .now)) (vertices-read r) ∙ gained (tagAt b) _ (answer s) _ _ _ _ e,
-          i .fill-u16s .ensures ∙ ap₂ (λ (n g : ℕ). filled (λ j. le16 b (6 + 13 * n + 2 * j)) (4 * g) (s .args .faces .now)) (vertices-read r) (faces-read r) ∙ gained (indexAt b) _ (answer s) _ _ _ _ e,
-        ),
-      ),
-    )
+    file-decoded b _ _ _ (decode-read b _ _ _ (passed (r .before)) (told (k .before) ∙ k .if2 .left)) (r .sizes-of .result) (r .sizes-of .ensures) _ _ _
+    (p .fill-i32s .ensures ∙ ap (λ (n : ℕ). filled (positionAt b) (3 * n) (s .args .positions .now)) (vertices-read r))
+    (t .fill-bytes .ensures ∙ ap (λ (n : ℕ). filled (λ j. getD b (6 + 12 * n + j) 0) n (s .args .tags .now)) (vertices-read r))
+    (i .fill-u16s .ensures ∙ ap₂ (λ (n g : ℕ). filled (λ j. le16 b (6 + 13 * n + 2 * j)) (4 * g) (s .args .faces .now)) (vertices-read r) (faces-read r))
 
 pub decode-spec : {M : Type 1} → statement M
 decode-spec =

@@ -10,11 +10,11 @@ use borrow.Author.Needs.{needs}
 use Rattle.mesh.specs.Limits.{maxVertices, maxFaces}
 use Rattle.mesh.specs.IndexedMesh.{IndexedMesh, indexed}
 use Rattle.mesh.specs.WellFormed.{Sized}
-use Rattle.meshfile.specs.File.{vertices, faces, positionAt, tagAt, indexAt, meshOf}
-use Rattle.meshfile.specs.Answer.{Answer, sizes, decoded, decodeAnswer}
-use Rattle.meshfile.specs.Private.{tessellated, tessellatedList}
+use Rattle.meshfile.specs.File.{vertices, faces, steps, positionAt, tagAt, indexAt, meshOf}
+use Rattle.meshfile.specs.declared.model.Header.{Header}
+use Rattle.meshfile.specs.Answer.{decoded}
 use Rattle.meshfile.proofs.FileLaws.{Whole, file-whole}
-use Rattle.meshfile.proofs.OpenLaws.{Read, file-read, part-fits, mesh-is, whole-sized, open-mesh, open-list, open-refused, open-kept}
+use Rattle.meshfile.proofs.OpenLaws.{FileRead, file-read, file-turned-down, part-fits, mesh-is, whole-sized, open-mesh, open-refused}
 use Rattle.meshfile.proofs.open.Statement.{statement}
 use Rattle.meshfile.proofs.open.Tie as tie
 
@@ -27,31 +27,29 @@ file c = start c .args .bytes .now
 -- ---- the file was read
 module _ (c : tie.After-known-told) where
   abbrev call : tie.After-decode
-  call = c .before .before .before .before .before .before
+  call = let t : tie.After-header = c .before in let k : tie.At-match-keys1 = t .before in k .before .before .before .before
 
-  abbrev v : ℕ
-  v = c .before .header .given .0 .0 .vertices
+  abbrev header : Header
+  header = c .before .header .given .0 .0
 
-  abbrev f : ℕ
-  f = c .before .header .given .0 .0 .faces
-
-  abbrev n : ℕ
-  n = c .before .header .given .0 .0 .steps
-
-  abbrev answer : Answer
-  answer = decodeAnswer (file call) (length (replicate (3 * maxVertices) (pos 0))) (length (replicate {A = ℕ} maxVertices 0)) (length (replicate {A = ℕ} (4 * maxFaces) 0))
-
-  told : sizes v f n ≡ answer
-  told = sym (ap decoded (c .before .header .given .1)) ∙ call .decode .ensures .0
-
-  read : Read (file call) v f n
-  read = file-read (file call) _ _ _ v f n told
+  read : FileRead (file call) (replicate (3 * maxVertices) (pos 0)) (replicate maxVertices 0) (replicate (4 * maxFaces) 0) header (call .decode .last .1 .0) (call .decode .last .1 .1 .0) (call .decode .last .1 .1 .1 .0)
+  read = file-read (file call) _ _ _ (ap decoded (c .before .header .given .1)) (call .decode .ensures)
 
   whole : Whole (file call)
   whole = file-whole (file call) (read .passed)
 
-  mesh-read : indexed v f (take (3 * v - 0) (call .decode .last .1 .0)) (take (v - 0) (call .decode .last .1 .1 .0)) (take (4 * f - 0) (call .decode .last .1 .1 .1 .0)) ≡ meshOf (file call)
-  mesh-read = mesh-is (file call) answer read told _ _ _ _ _ _ (call .decode .ensures .1 .0) (call .decode .ensures .1 .1 .0) (call .decode .ensures .1 .1 .1)
+  vertices-are : header .vertices ≡ vertices (file call)
+  vertices-are = ap (λ (h : Header). h .vertices) (read .header-is)
+
+  faces-are : header .faces ≡ faces (file call)
+  faces-are = ap (λ (h : Header). h .faces) (read .header-is)
+
+  steps-are : header .steps ≡ steps (file call)
+  steps-are = ap (λ (h : Header). h .steps) (read .header-is)
+
+-- ---- the parts of the lists are handed on
+abbrev told : tie.After-tessellate-arg4 → tie.After-known-told
+told c = let t : tie.After-tessellate-arg2 = c .before .before .before in t .before .before .before .before
 
 slice-aggregate-decode : tie.Need-slice-aggregate-decode
 slice-aggregate-decode c = search needs
@@ -69,10 +67,10 @@ enum-known-header : tie.Need-enum-known-header
 enum-known-header c = search needs
 
 mul-p : tie.Need-mul-p
-mul-p c = omega (arith, read c .vertices-are, whole c .vertices-high)
+mul-p c = omega (arith, vertices-are c, whole c .vertices-high)
 
 mul-i : tie.Need-mul-i
-mul-i c = omega (arith, read c .faces-are, whole c .faces-high)
+mul-i c = omega (arith, faces-are c, whole c .faces-high)
 
 sub-tessellate : tie.Need-sub-tessellate
 sub-tessellate c = search needs
@@ -83,7 +81,7 @@ part-tessellate-start c = search needs
 part-tessellate-end : tie.Need-part-tessellate-end
 part-tessellate-end c =
     let k = c .before in
-    omega (arith, read k .vertices-are, part-fits (positionAt (file (call k))) (3 * vertices (file (call k))) (answer k) _ _ (told k) (call k .decode .ensures .1 .0))
+    omega (arith, vertices-are k, part-fits (positionAt (file (call k))) (3 * vertices (file (call k))) _ _ (read k .positions-are))
 
 sub-tessellate-2 : tie.Need-sub-tessellate-2
 sub-tessellate-2 c = search needs
@@ -94,7 +92,7 @@ part-tessellate-start-2 c = search needs
 part-tessellate-end-2 : tie.Need-part-tessellate-end-2
 part-tessellate-end-2 c =
     let k = c .before .before .before in
-    omega (arith, read k .vertices-are, part-fits (tagAt (file (call k))) (vertices (file (call k))) (answer k) _ _ (told k) (call k .decode .ensures .1 .1 .0))
+    omega (arith, vertices-are k, part-fits (tagAt (file (call k))) (vertices (file (call k))) _ _ (read k .tags-are))
 
 sub-tessellate-3 : tie.Need-sub-tessellate-3
 sub-tessellate-3 c = search needs
@@ -105,12 +103,12 @@ part-tessellate-start-3 c = search needs
 part-tessellate-end-3 : tie.Need-part-tessellate-end-3
 part-tessellate-end-3 c =
     let k = c .before .before .before .before .before in
-    omega (arith, read k .faces-are, part-fits (indexAt (file (call k))) (4 * faces (file (call k))) (answer k) _ _ (told k) (call k .decode .ensures .1 .1 .1))
+    omega (arith, faces-are k, part-fits (indexAt (file (call k))) (4 * faces (file (call k))) _ _ (read k .faces-are))
 
 tessellate-requires : tie.Need-tessellate-requires
 tessellate-requires c κs =
-    let k = c .before .before .before .before .before .before .before in
-    subst (λ (M : IndexedMesh). Sized (M .vertices) (M .faces) (length (M .positions)) (length (M .tags)) (length (M .indices))) (sym (mesh-read k)) (whole-sized (file (call k)) (whole k))
+    let k = told c in
+    subst (λ (M : IndexedMesh). Sized (M .vertices) (M .faces) (length (M .positions)) (length (M .tags)) (length (M .indices))) (sym (mesh-is (file (call k)) (read k))) (whole-sized (file (call k)) (whole k))
 
 enum-known-k : tie.Need-enum-known-k
 enum-known-k c = search needs
@@ -121,22 +119,18 @@ same-length c = search needs
 returns : tie.Need-returns
 returns c =
     let t = c .before in
-    let k = t .before .before .before .before .before .before .before .before in
+    let k = told (t .before) in
     let b = file (call k) in
-    let d = start (call k) .args .patches .now in (
-      t .tessellate .ensures .0 ∙ ap₂ (λ (M : IndexedMesh) (m : ℕ). tessellated M m d) (mesh-read k) (read k .steps-are) ∙ open-mesh b d (read k .passed),
-      t .tessellate .ensures .1 ∙ ap₂ (λ (M : IndexedMesh) (m : ℕ). tessellatedList M m d) (mesh-read k) (read k .steps-are) ∙ open-list b d (read k .passed),
-    )
+    open-mesh b (start (call k) .args .patches .now) (read k .passed) (mesh-is b (read k)) (steps-are k) (t .tessellate .ensures)
 
 returns-2 : tie.Need-returns-2
 returns-2 c =
-    let a = c .before .before .before .before .before .before in
+    let m : tie.At-match-keys2 = c .before .before in
+    let a = m .before .before .before .before in
     let b = file a in
-    let d = start a .args .patches .now in
-    let e =
-    open-refused b d _ _ _ _ (le-of-eq (sym (length-replicate (3 * maxVertices) (pos 0)))) (le-of-eq (sym (length-replicate {A = ℕ} maxVertices 0))) (le-of-eq (sym (length-replicate {A = ℕ} (4 * maxFaces) 0)))
-    (sym (ap decoded (c .before .k .given .1)) ∙ a .decode .ensures .0) in
-    (e, open-kept b d _ e)
+    open-refused b _
+    (file-turned-down b _ _ _ (le-of-eq (sym (length-replicate (3 * maxVertices) (pos 0)))) (le-of-eq (sym (length-replicate {A = ℕ} maxVertices 0))) (le-of-eq (sym (length-replicate {A = ℕ} (4 * maxFaces) 0)))
+    (ap decoded (c .before .k .given .1)) (a .decode .ensures))
 
 pub open-spec : {M : Type 1} → statement M
 open-spec =

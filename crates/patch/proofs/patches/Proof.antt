@@ -1,16 +1,16 @@
 -- `patches` meets its contract: the check is told of a patch list that is too short, so its refusals are those of the call; where it gives
 -- counts, the mesh is well-formed, its twins are listed, and the patches are written.
 use mathlib.Core.Path.{_≡_, sym, ap, _∙_}
-use mathlib.Core.List.{List}
+use mathlib.Core.List.{List, []}
 use Prim.Native.Nat.{ℕ}
 use native.Mathlib.Omega.{arith}
 use lib.IntN.{ℤ}
 use borrow.Author.Needs.{needs}
+use Rattle.finite.proofs.TableLaws.{refusal-met}
 use Rattle.mesh.specs.IndexedMesh.{IndexedMesh, indexed}
 use Rattle.mesh.specs.Answer.{countsOf, checked, meshRefusal}
-use Rattle.patch.specs.Patch.{patchesAfter}
 use Rattle.patch.specs.Answer.{patchRows, patchAnswer, patchTwins}
-use Rattle.patch.proofs.AnswerLaws.{same-answer, same-twins, refused-list, patches-long, result-well-formed, result-list, twins-listed, twins-held}
+use Rattle.patch.proofs.AnswerLaws.{same-answer, same-twins, patches-long, result-well-formed, result-list, twins-listed, twins-held}
 use Rattle.patch.proofs.patches.Statement.{statement}
 use Rattle.patch.proofs.patches.Tie as tie
 
@@ -74,7 +74,7 @@ returns c =
     record {
       answer-is = answered k;
       twins-are = left k;
-      patches-are = sym (refused-list (countsOf (mesh s)) (meshRefusal (mesh s) (patchRows (mesh s) (twins s) (lent s)) _) (lent s) (patchesAfter (mesh s) (lent s)) (sym (ap checked (c .enum-told .given .1)) ∙ answered k));
+      patches-are = rw (refusal-met (countsOf (mesh s)) (meshRefusal (mesh s) (patchRows (mesh s) (twins s) (lent s)) []) (sym (ap checked (c .enum-told .given .1)) ∙ answered k));
     }
 
 fill-patches-requires : tie.Need-fill-patches-requires

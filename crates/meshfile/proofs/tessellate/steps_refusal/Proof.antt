@@ -1,29 +1,26 @@
--- `steps_refusal` meets its contract: it takes the number out of the check's answer, whose list of twins is long enough.
+-- `steps_refusal` meets its contract: the row of N, which is met, stands behind those of the mesh, which the check tells.
 use mathlib.Core.Path.{_≡_, sym, ap, _∙_}
-use mathlib.Core.Bool.{false}
+use mathlib.Core.Bool.{true}
+use mathlib.Core.List.{[], _∷_}
+use mathlib.Core.Option.{Option, none, some}
 use borrow.Author.Needs.{needs}
+use Rattle.finite.specs.Table.{row}
+use Rattle.finite.proofs.TableLaws.{orElse, result-none, refusal-met}
 use Rattle.mesh.specs.IndexedMesh.{IndexedMesh, indexed}
-use Rattle.mesh.specs.Answer.{meaning, meshAnswer}
-use Rattle.meshfile.specs.Private.{refusalOr}
-use Rattle.meshfile.proofs.OpenLaws.{twins-enough}
+use Rattle.mesh.specs.Answer.{countsOf, checked, meshRefusal}
+use Rattle.mesh.proofs.PhaseLaws.{refusal-split}
 use Rattle.meshfile.proofs.tessellate.steps_refusal.Statement.{statement}
 use Rattle.meshfile.proofs.tessellate.steps_refusal.Tie as tie
 
-module _ (c : tie.After-check) where
-  abbrev start : tie.Start
-  start = c .before .before .before .before
-
+module _ (c : tie.After-check-alone) where
   abbrev mesh : IndexedMesh
-  mesh = indexed (start .args .v) (start .args .f) (start .args .positions .now) (start .args .tags .now) (start .args .faces .now)
+  mesh = let s = c .before .before .before in indexed (s .args .v) (s .args .f) (s .args .positions .now) (s .args .tags .now) (s .args .faces .now)
 
-  answered : meaning (c .check .result) ≡ meshAnswer mesh false
-  answered = c .check .ensures .0 ∙ ap (meshAnswer mesh) (twins-enough mesh (start .pre))
+  split : meshRefusal mesh [] (row true 14 ∷ []) ≡ orElse (meshRefusal mesh [] []) (some 14)
+  split = refusal-split mesh [] (row true 14 ∷ [])
 
-slice-aggregate-check : tie.Need-slice-aggregate-check
-slice-aggregate-check c = search needs
-
-check-requires : tie.Need-check-requires
-check-requires c κs = tt
+check-alone-requires : tie.Need-check-alone-requires
+check-alone-requires c κs = tt
 
 enum-told : tie.Need-enum-told
 enum-told c = search needs
@@ -32,12 +29,14 @@ enum-known-k : tie.Need-enum-known-k
 enum-known-k c = search needs
 
 returns : tie.Need-returns
-returns c = ap (refusalOr 14) (sym (ap meaning (c .enum-told .given .1)) ∙ answered (c .before .before .before))
+returns c =
+    let k = c .before .before in
+    split k ∙ ap (λ (m : Option _). orElse m (some 14)) (result-none (meshRefusal (mesh k) [] []) (sym (ap checked (c .enum-told .given .1)) ∙ k .check-alone .ensures) .0)
 
 returns-2 : tie.Need-returns-2
-returns-2 c = ap (refusalOr 14) (sym (ap meaning (c .before .k .given .1)) ∙ answered (c .before .before .before .before))
+returns-2 c =
+    let k = c .before .before .before in
+    split k ∙ ap (λ (m : Option _). orElse m (some 14)) (refusal-met (countsOf (mesh k)) (meshRefusal (mesh k) [] []) (sym (ap checked (c .before .k .given .1)) ∙ k .check-alone .ensures))
 
 pub steps-refusal-spec : {M : Type 1} → statement M
-steps-refusal-spec =
-    tie.close
-    (tie.spec slice-aggregate-check check-requires enum-told enum-known-k returns returns-2)
+steps-refusal-spec = tie.close (tie.spec check-alone-requires enum-told enum-known-k returns returns-2)

@@ -1,37 +1,52 @@
 -- `tessellate` meets its contract: 2 comes before the mesh's refusals, and 14 after them; else the answer and the patch list are those of the patch call.
 use mathlib.Core.Path.{_≡_, sym, ap, _∙_}
-use mathlib.Core.Bool.{Bool, false}
+use mathlib.Core.Bool.{false}
+use mathlib.Core.List.{List, []}
+use Prim.Native.Nat.{ℕ, _*_}
 use native.Mathlib.Omega.{arith}
+use lib.IntN.{ℤ}
+use lib.ListN.{replicate}
 use borrow.Author.Tests.{lt-ltb, le-ltb}
 use borrow.Author.Needs.{needs}
+use Rattle.finite.proofs.TableLaws.{result-none, refusal-met}
+use Rattle.mesh.specs.Limits.{maxFaces}
 use Rattle.mesh.specs.IndexedMesh.{IndexedMesh, indexed}
-use Rattle.mesh.specs.Answer.{Answer as MeshAnswer, meaning, meshAnswer}
-use Rattle.patch.specs.Answer.{patchesShort, written}
-use Rattle.meshfile.specs.Answer.{Answer, refusal}
-use Rattle.meshfile.specs.Private.{withSteps, patchesBy}
-use Rattle.meshfile.proofs.OpenLaws.{steps-off, steps-on, patches-short, left-alone, lists-short}
+use Rattle.mesh.specs.Answer.{countsOf, checked, meshRefusal}
+use Rattle.patch.specs.Answer.{patchesShort, patchRows}
+use Rattle.meshfile.specs.Private.{tessellateRefusal}
+use Rattle.meshfile.proofs.OpenLaws.{patches-short, steps-off, steps-on, refused-mesh}
 use Rattle.meshfile.proofs.tessellate.tessellate.Statement.{statement}
 use Rattle.meshfile.proofs.tessellate.tessellate.Tie as tie
 
--- the mesh, from the start
-abbrev mesh : tie.Start → IndexedMesh
-mesh s = indexed (s .args .v) (s .args .f) (s .args .positions .now) (s .args .tags .now) (s .args .faces .now)
+-- ---- at the entry: the mesh that was passed, and the list that was lent
+module _ (s : tie.Start) where
+  abbrev mesh : IndexedMesh
+  mesh = indexed (s .args .v) (s .args .f) (s .args .positions .now) (s .args .tags .now) (s .args .faces .now)
+
+  abbrev lent : List ℤ
+  lent = s .args .patches .now
 
 -- ---- the patch list is long enough
 module _ (c : tie.Else1) where
   abbrev start : tie.Start
   start = c .before .before .before
 
-  long : patchesShort (mesh start) (start .args .patches .now) ≡ false
+  long : patchesShort (mesh start) (lent start) ≡ false
   long = le-ltb _ _ (c .if1 .left)
 
--- ---- N is in its range: the answer of the patch call, and its patch list
+-- ---- N is in its range: what the patch call meets is what the contract says
 module _ (c : tie.After-patches) where
-  abbrev first : tie.Else1
-  first = c .before .before .before .before .before
+  abbrev ranged : tie.Else2
+  ranged = c .before .before .before
 
-  answered : meaning (c .patches .result) ≡ meshAnswer (mesh (start first)) (patchesShort (mesh (start first)) (start first .args .patches .now))
-  answered = c .patches .ensures .0 ∙ ap (meshAnswer (mesh (start first))) (lists-short (mesh (start first)) (start first .pre .faces-high) (start first .args .patches .now))
+  abbrev begin : tie.Start
+  begin = start (ranged .before .before)
+
+  same : tessellateRefusal (mesh begin) (begin .args .n) (lent begin) ≡ meshRefusal (mesh begin) (patchRows (mesh begin) (replicate (4 * maxFaces) 0) (lent begin)) []
+  same = steps-on (mesh begin) (begin .args .n) (lent begin) (begin .pre .faces-high) (sym (ranged .before .off-range .ensures) ∙ ranged .if2 .left)
+
+abbrev called : tie.After-patches2 → tie.After-patches
+called c = c .before .before
 
 mul-if1 : tie.Need-mul-if1
 mul-if1 c = omega (arith, c .before .before .pre .faces-high)
@@ -39,24 +54,21 @@ mul-if1 c = omega (arith, c .before .before .pre .faces-high)
 returns : tie.Need-returns
 returns c =
     let s = c .before .before .before in
-    let e = patches-short (s .args .n) (mesh s) (s .args .patches .now) (s .pre) (lt-ltb _ _ (c .if1 .taken)) in
-    (e, left-alone (s .args .n) (mesh s) (s .args .patches .now) 2 e)
+    refused-mesh (mesh s) (s .args .n) (lent s) 2 (patches-short (mesh s) (s .args .n) (lent s) (s .pre) (lt-ltb _ _ (c .if1 .taken)))
 
 off-range-requires : tie.Need-off-range-requires
 off-range-requires c κs = tt
 
 steps-refusal-requires : tie.Need-steps-refusal-requires
-steps-refusal-requires c κs = start (c .before .before) .pre .faces-high
+steps-refusal-requires c κs = tt
 
 returns-2 : tie.Need-returns-2
 returns-2 c =
     let t = c .before in
     let k = t .before .before in
     let s = start k in
-    let m = mesh s in
-    let n = s .args .n in
-    let e = ap refusal (c .steps-refusal .ensures) ∙ steps-off n (sym (t .before .off-range .ensures) ∙ t .if2 .taken) (meshAnswer m false) ∙ ap (λ (b : Bool). withSteps n (meshAnswer m b)) (sym (long k)) in
-    (e, left-alone n m (s .args .patches .now) _ e)
+    refused-mesh (mesh s) (s .args .n) (lent s) _
+    (steps-off (mesh s) (s .args .n) (lent s) (long k) (sym (t .before .off-range .ensures) ∙ t .if2 .taken) (c .steps-refusal .ensures))
 
 slice-aggregate-patches : tie.Need-slice-aggregate-patches
 slice-aggregate-patches c = search needs
@@ -75,35 +87,24 @@ same-length c = search needs
 
 returns-3 : tie.Need-returns-3
 returns-3 c =
-    let g = c .before in
-    let p = g .before .before .before .before in
-    let s = start (first p) in
-    let m = mesh s in
-    let n = s .args .n in
-    let d = s .args .patches .now in
-    let r = p .before .before .before in
-    let told = ap meaning (g .mesh .given .1) in
-    let e = steps-on n (sym (r .before .off-range .ensures) ∙ r .if2 .left) _ _ _ _ ∙ ap (withSteps n) (sym told ∙ answered p) in (
-      e,
-      p .patches .ensures .1 .1 ∙ ap (λ (a : MeshAnswer). written a m d) (sym (p .patches .ensures .0) ∙ told) ∙ ap (λ (a : Answer). patchesBy m a d) e,
-    )
+    let p = called (c .before .before .before) in
+    let s = begin p in
+    let said = p .patches .ensures in
+    let r = result-none (meshRefusal (mesh s) (patchRows (mesh s) (replicate (4 * maxFaces) 0) (lent s)) []) (sym (ap checked (c .before .mesh .given .1)) ∙ said .answer-is) in
+    let unmet = same p ∙ r .0 in
+    record { answer-is = rw (unmet, r .1); patches-are = said .patches-are ∙ rw (r .0, unmet) }
 
 same-length-2 : tie.Need-same-length-2
 same-length-2 c = search needs
 
 returns-4 : tie.Need-returns-4
 returns-4 c =
-    let g = c .before in
-    let p = g .before .before .before .before in
-    let s = start (first p) in
-    let m = mesh s in
-    let n = s .args .n in
-    let d = s .args .patches .now in
-    let told = ap meaning (g .k .given .1) in
-    let e = ap (withSteps n) (sym told ∙ answered p) in (
-      e,
-      p .patches .ensures .1 .1 ∙ ap (λ (a : MeshAnswer). written a m d) (sym (p .patches .ensures .0) ∙ told) ∙ ap (λ (a : Answer). patchesBy m a d) e,
-    )
+    let p = called (c .before .before .before) in
+    let s = begin p in
+    let said = p .patches .ensures in
+    let r = refusal-met (countsOf (mesh s)) (meshRefusal (mesh s) (patchRows (mesh s) (replicate (4 * maxFaces) 0) (lent s)) []) (sym (ap checked (c .before .k .given .1)) ∙ said .answer-is) in
+    let met = same p ∙ r in
+    record { answer-is = rw met; patches-are = said .patches-are ∙ rw (r, met) }
 
 pub tessellate-spec : {M : Type 1} → statement M
 tessellate-spec =
