@@ -1,41 +1,71 @@
 -- The answers of the library as the calls for C give them: a returned number, and lent numbers afterwards. Document 01's numbers
 -- of refusals begin at 1, so that 0 is left for success.
 --
---   code answer           what a mesh call returns: 0 for counts, else the number of the refusal
+--   code answer           what a call returns: 0 for a result, else the number of the refusal
 --   counted answer d      the four lent numbers afterwards, which held d: V, F, E and B, or d after a refusal
---   sampleCode answer     what the sample call and the reading return: 0 for a point, else the number of the refusal
---   sampled answer d      the three lent numbers afterwards, which held d: x, y and z of the sample, or d after a refusal
+--   placed answer d       the three lent numbers afterwards, which held d: x, y and z of the sample, or d after a refusal
 --   Read answer x y z x' y' z'   the three lent doubles x', y', z' afterwards, which held x, y, z: "each exactly the sample over 256",
 --                         or as they were after a refusal
 --   firstCorner corners f d   the lent place of a face's first corner afterwards, which held d: 4f, or d where the face has no corners
+--   CornersTold, CountsStored, CheckStored, PatchesStored, SampleStored, ReadingStored   for each call, what it returns, and every lent
+--                         number and list afterwards
 use mathlib.Core.Path.{_≡_}
 use mathlib.Core.List.{List, [], _∷_}
 use Prim.Native.Nat.{ℕ, _*_}
 use lib.IntN.{ℤ}
 use lib.Ieee.{Float}
-use Rattle.mesh.specs.Answer.{Answer, counts, refusal}
-use Rattle.sample.specs.Answer.{Answer as Sample, point, refusal as sampleRefusal, Over256}
+use lib.ListN.{length, take, drop}
+use Rattle.finite.specs.Table.{Answer, result, refusal}
+use Rattle.mesh.specs.IndexedMesh.{IndexedMesh}
+use Rattle.mesh.specs.Answer.{checked, checkAnswer, checkTwins, faceCorners}
+use Rattle.mesh.specs.declared.model.Mesh.{Mesh}
+use Rattle.mesh.specs.declared.model.Checked.{Checked}
+use Rattle.patch.specs.Answer.{patchAnswer, patchTwins, patchList}
+use Rattle.sample.specs.Answer.{Over256, sampleAnswer}
+use Rattle.sample.specs.declared.model.Point.{Point}
 
-abbrev pub code : Answer → ℕ
-code (counts v f e b) = 0
+abbrev pub code : {A : Type 0} → Answer A → ℕ
+code (result a) = 0
 code (refusal k) = k
 
-abbrev pub counted : Answer → List ℕ → List ℕ
-counted (counts v f e b) d = v ∷ (f ∷ (e ∷ (b ∷ [])))
+abbrev pub counted : Answer Mesh → List ℕ → List ℕ
+counted (result m) d = m .vertices ∷ (m .faces ∷ (m .edges ∷ (m .boundary ∷ [])))
 counted (refusal k) d = d
 
-abbrev pub sampleCode : Sample → ℕ
-sampleCode (point x y z) = 0
-sampleCode (sampleRefusal k) = k
+abbrev pub placed : Answer Point → List ℤ → List ℤ
+placed (result p) d = p .x ∷ (p .y ∷ (p .z ∷ []))
+placed (refusal k) d = d
 
-abbrev pub sampled : Sample → List ℤ → List ℤ
-sampled (point x y z) d = x ∷ (y ∷ (z ∷ []))
-sampled (sampleRefusal k) d = d
-
-abbrev pub Read : Sample → Float → Float → Float → Float → Float → Float → Type 0
-Read (point a b c) x y z x' y' z' = Over256 x' a × Over256 y' b × Over256 z' c
-Read (sampleRefusal k) x y z x' y' z' = (x' ≡ x) × (y' ≡ y) × (z' ≡ z)
+abbrev pub Read : Answer Point → Float → Float → Float → Float → Float → Float → Type 0
+Read (result p) x y z x' y' z' = Over256 x' (p .x) × Over256 y' (p .y) × Over256 z' (p .z)
+Read (refusal k) x y z x' y' z' = (x' ≡ x) × (y' ≡ y) × (z' ≡ z)
 
 abbrev pub firstCorner : List ℕ → ℕ → ℕ → ℕ
 firstCorner [] f d = d
 firstCorner (p ∷ ps) f d = 4 * f
+
+pub record CornersTold (indices : List ℕ) (f d r d' : ℕ) : Type 0 where
+  pub count-is : r ≡ length (faceCorners indices f)
+  pub first-is : d' ≡ firstCorner (faceCorners indices f) f d
+  pub part-is : take r (drop d' indices) ≡ faceCorners indices f
+
+pub record CountsStored (answer : Answer Mesh) (c : List ℕ) (r : ℕ) (c' : List ℕ) : Type 0 where
+  pub code-is : r ≡ code answer
+  pub counts-are : c' ≡ counted answer c
+
+pub record CheckStored (M : IndexedMesh) (d c : List ℕ) (r : ℕ) (d' c' : List ℕ) : Type 0 where
+  pub stored : CountsStored (checkAnswer M d) c r c'
+  pub twins-are : d' ≡ checkTwins M d
+
+pub record PatchesStored (M : IndexedMesh) (d : List ℕ) (e : List ℤ) (c : List ℕ) (r : ℕ) (d' : List ℕ) (e' : List ℤ) (c' : List ℕ) : Type 0 where
+  pub stored : CountsStored (patchAnswer M d e) c r c'
+  pub twins-are : d' ≡ patchTwins M d e
+  pub patches-are : e' ≡ patchList M d e
+
+pub record SampleStored (answer : Answer Point) (d : List ℤ) (r : ℕ) (d' : List ℤ) : Type 0 where
+  pub code-is : r ≡ code answer
+  pub point-is : d' ≡ placed answer d
+
+pub record ReadingStored (answer : Answer Point) (x y z : Float) (r : ℕ) (x' y' z' : Float) : Type 0 where
+  pub code-is : r ≡ code answer
+  pub reading-is : Read answer x y z x' y' z'

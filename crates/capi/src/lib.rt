@@ -3,13 +3,10 @@ use mesh::model::Checked;
 use sample::model::Reading;
 use sample::model::Sampled;
 ghost use mathlib.Core.List.{_∷_, []};
-ghost use mathlib.Core.Path.{_≡_};
-ghost use lib.ListN.{length, take, drop};
 ghost use Rattle.mesh.specs.IndexedMesh.{indexed};
-ghost use Rattle.mesh.specs.Answer.{meaning, checkAnswer, checkTwins, faceCorners};
-ghost use Rattle.patch.specs.Answer.{patchAnswer, patchTwins, patchList};
+ghost use Rattle.mesh.specs.Answer.{checked};
 ghost use Rattle.sample.specs.Answer.{sampleAnswer};
-ghost use Rattle.capi.specs.Answer.{code, counted, firstCorner, sampleCode, sampled, Read};
+ghost use Rattle.capi.specs.Answer.{CornersTold, CountsStored, CheckStored, PatchesStored, SampleStored, ReadingStored};
 
 // The corners of face f: `mesh::face_corners`, whose part of the face list C is told by its first place and its length.
 // Returns: the number of corners, 4, or 0 where 4f + 4 is above the length of indices.
@@ -17,9 +14,7 @@ ghost use Rattle.capi.specs.Answer.{code, counted, firstCorner, sampleCo
 // Refuses: nothing.
 #[no_mangle]
 pub extern "C" fn rusketja_face_corners(indices: &[u16], f: usize, first: &mut usize) -> usize
-    ensures { λ r. ⌜ r ≡ length (faceCorners (now (indices .entry)) f) ⌝ }
-    ensures { λ r. ⌜ now (first .exit) ≡ firstCorner (faceCorners (now (indices .entry)) f) f (now (first .entry)) ⌝ }
-    ensures { λ r. ⌜ take r (drop (now (first .exit)) (now (indices .entry))) ≡ faceCorners (now (indices .entry)) f ⌝ }
+    ensures { λ r. ⌜ CornersTold (now (indices .entry)) f (now (first .entry)) r (now (first .exit)) ⌝ }
 {
     let corners = mesh::face_corners(indices, f);
     let n = corners.len();
@@ -37,8 +32,7 @@ fn store_counts(
     edges: &mut usize,
     boundary: &mut usize,
 ) -> u8
-    ensures { λ r. ⌜ r ≡ code (meaning answer) ⌝ }
-    ensures { λ r. ⌜ now (vertices .exit) ∷ (now (faces .exit) ∷ (now (edges .exit) ∷ (now (boundary .exit) ∷ []))) ≡ counted (meaning answer) (now (vertices .entry) ∷ (now (faces .entry) ∷ (now (edges .entry) ∷ (now (boundary .entry) ∷ [])))) ⌝ }
+    ensures { λ r. ⌜ CountsStored (checked answer) (now (vertices .entry) ∷ (now (faces .entry) ∷ (now (edges .entry) ∷ (now (boundary .entry) ∷ [])))) r (now (vertices .exit) ∷ (now (faces .exit) ∷ (now (edges .exit) ∷ (now (boundary .exit) ∷ [])))) ⌝ }
 {
     match answer {
         Checked::Accepted(m) => {
@@ -70,9 +64,7 @@ pub extern "C" fn rusketja_check(
     edges: &mut usize,
     boundary: &mut usize,
 ) -> u8
-    ensures { λ r. ⌜ r ≡ code (checkAnswer (indexed v f (now (positions .entry)) (now (tags .entry)) (now (indices .entry))) (now (twins .entry))) ⌝ }
-    ensures { λ r. ⌜ now (vertices .exit) ∷ (now (faces .exit) ∷ (now (edges .exit) ∷ (now (boundary .exit) ∷ []))) ≡ counted (checkAnswer (indexed v f (now (positions .entry)) (now (tags .entry)) (now (indices .entry))) (now (twins .entry))) (now (vertices .entry) ∷ (now (faces .entry) ∷ (now (edges .entry) ∷ (now (boundary .entry) ∷ [])))) ⌝ }
-    ensures { λ r. ⌜ now (twins .exit) ≡ checkTwins (indexed v f (now (positions .entry)) (now (tags .entry)) (now (indices .entry))) (now (twins .entry)) ⌝ }
+    ensures { λ r. ⌜ CheckStored (indexed v f (now (positions .entry)) (now (tags .entry)) (now (indices .entry))) (now (twins .entry)) (now (vertices .entry) ∷ (now (faces .entry) ∷ (now (edges .entry) ∷ (now (boundary .entry) ∷ [])))) r (now (twins .exit)) (now (vertices .exit) ∷ (now (faces .exit) ∷ (now (edges .exit) ∷ (now (boundary .exit) ∷ [])))) ⌝ }
 {
     let answer = mesh::check(v, f, positions, tags, indices, twins);
     store_counts(answer, vertices, faces, edges, boundary)
@@ -98,10 +90,7 @@ pub extern "C" fn rusketja_patches(
     edges: &mut usize,
     boundary: &mut usize,
 ) -> u8
-    ensures { λ r. ⌜ r ≡ code (patchAnswer (indexed v f (now (positions .entry)) (now (tags .entry)) (now (indices .entry))) (now (twins .entry)) (now (patches .entry))) ⌝ }
-    ensures { λ r. ⌜ now (vertices .exit) ∷ (now (faces .exit) ∷ (now (edges .exit) ∷ (now (boundary .exit) ∷ []))) ≡ counted (patchAnswer (indexed v f (now (positions .entry)) (now (tags .entry)) (now (indices .entry))) (now (twins .entry)) (now (patches .entry))) (now (vertices .entry) ∷ (now (faces .entry) ∷ (now (edges .entry) ∷ (now (boundary .entry) ∷ [])))) ⌝ }
-    ensures { λ r. ⌜ now (twins .exit) ≡ patchTwins (indexed v f (now (positions .entry)) (now (tags .entry)) (now (indices .entry))) (now (twins .entry)) (now (patches .entry)) ⌝ }
-    ensures { λ r. ⌜ now (patches .exit) ≡ patchList (indexed v f (now (positions .entry)) (now (tags .entry)) (now (indices .entry))) (now (twins .entry)) (now (patches .entry)) ⌝ }
+    ensures { λ r. ⌜ PatchesStored (indexed v f (now (positions .entry)) (now (tags .entry)) (now (indices .entry))) (now (twins .entry)) (now (patches .entry)) (now (vertices .entry) ∷ (now (faces .entry) ∷ (now (edges .entry) ∷ (now (boundary .entry) ∷ [])))) r (now (twins .exit)) (now (patches .exit)) (now (vertices .exit) ∷ (now (faces .exit) ∷ (now (edges .exit) ∷ (now (boundary .exit) ∷ [])))) ⌝ }
 {
     let answer = patch::patches(v, f, positions, tags, indices, twins, patches);
     store_counts(answer, vertices, faces, edges, boundary)
@@ -122,8 +111,7 @@ pub extern "C" fn rusketja_sample(
     y: &mut i32,
     z: &mut i32,
 ) -> u8
-    ensures { λ r. ⌜ r ≡ sampleCode (sampleAnswer (now (patches .entry)) f n a b) ⌝ }
-    ensures { λ r. ⌜ now (x .exit) ∷ (now (y .exit) ∷ (now (z .exit) ∷ [])) ≡ sampled (sampleAnswer (now (patches .entry)) f n a b) (now (x .entry) ∷ (now (y .entry) ∷ (now (z .entry) ∷ []))) ⌝ }
+    ensures { λ r. ⌜ SampleStored (sampleAnswer (now (patches .entry)) f n a b) (now (x .entry) ∷ (now (y .entry) ∷ (now (z .entry) ∷ []))) r (now (x .exit) ∷ (now (y .exit) ∷ (now (z .exit) ∷ []))) ⌝ }
 {
     match sample::sample(patches, f, n, a, b) {
         Sampled::At(p) => {
@@ -154,8 +142,7 @@ pub extern "C" fn rusketja_reading(
     y: &mut f64,
     z: &mut f64,
 ) -> u8
-    ensures { λ r. ⌜ r ≡ sampleCode (sampleAnswer (now (patches .entry)) f n a b) ⌝ }
-    ensures { λ r. ⌜ Read (sampleAnswer (now (patches .entry)) f n a b) (now (x .entry)) (now (y .entry)) (now (z .entry)) (now (x .exit)) (now (y .exit)) (now (z .exit)) ⌝ }
+    ensures { λ r. ⌜ ReadingStored (sampleAnswer (now (patches .entry)) f n a b) (now (x .entry)) (now (y .entry)) (now (z .entry)) r (now (x .exit)) (now (y .exit)) (now (z .exit)) ⌝ }
 {
     match sample::reading(patches, f, n, a, b) {
         Reading::At(p) => {

@@ -9,7 +9,7 @@ use sample::model::Sampled;
 ghost use mathlib.Core.Path.{_≡_};
 ghost use Prim.Native.Nat.{_≤_};
 ghost use lib.ListN.{length};
-ghost use Rattle.meshfile.specs.Answer.{opened, openAnswer, openList};
+ghost use Rattle.meshfile.specs.Answer.{FileOpened};
 
 // The places that the patches of the largest mesh take up: a list of so many is never too short.
 pub const PATCH_PLACES: usize = 48 * Mesh::MAX_FACES;
@@ -103,8 +103,7 @@ fn put_answer(answer: Opened, patches: &[i32], out: &mut [u8]) -> usize
 
 // Opens the file with a list for its patches, and prints its lines through a buffer.
 fn print_through(bytes: &[u8], patches: &mut [i32], out: &mut [u8]) -> Opened
-    ensures { λ r. ⌜ opened r ≡ openAnswer (now (bytes .entry)) (now (patches .entry)) ⌝ }
-    ensures { λ r. ⌜ now (patches .exit) ≡ openList (now (bytes .entry)) (now (patches .entry)) ⌝ }
+    ensures { λ r. ⌜ FileOpened (now (bytes .entry)) (now (patches .entry)) r (now (patches .exit)) ⌝ }
 {
     let answer = meshfile::open(bytes, patches);
     let end = put_answer(answer, patches, out);
@@ -116,8 +115,7 @@ fn print_through(bytes: &[u8], patches: &mut [i32], out: &mut [u8]) -> Opened
 // of any other the refusal alone.
 // Returns, writes, leaves alone, refuses: as `meshfile::open`.
 pub fn print(bytes: &[u8], patches: &mut [i32]) -> Opened
-    ensures { λ r. ⌜ opened r ≡ openAnswer (now (bytes .entry)) (now (patches .entry)) ⌝ }
-    ensures { λ r. ⌜ now (patches .exit) ≡ openList (now (bytes .entry)) (now (patches .entry)) ⌝ }
+    ensures { λ r. ⌜ FileOpened (now (bytes .entry)) (now (patches .entry)) r (now (patches .exit)) ⌝ }
 {
     let mut out = io::large_buffer();
     print_through(bytes, patches, &mut out)

@@ -8,6 +8,7 @@
 --   twinsAfter M own after d   the list of twins afterwards, which held d: untouched after an early refusal, all `noTwin` after a later one,
 --                       else the twins
 --   lentRows M d        the row of a call that is lent the twins d: "lent list too short (4F mates ..)"
+--   checkAnswer, checkTwins   the answer and the list of twins of the check, which is lent a list of twins alone
 --   given k             a row of a call that found the cause of number k met among its own, 0 for none
 --   MeshChecked M own d r d'   what a call that checks the mesh M, with rows of its own, answers and leaves in the lent twins
 --   faceCorners indices f     "The four corners of a face are handed back as that part of the face list itself,
@@ -57,6 +58,12 @@ twinsShort M d = ltb (length d) (corners M)
 
 abbrev pub lentRows : IndexedMesh → List ℕ → List Row
 lentRows M d = row (twinsShort M d) 2 ∷ []
+
+abbrev pub checkAnswer : IndexedMesh → List ℕ → Answer Mesh
+checkAnswer M d = meshAnswer M (lentRows M d) []
+
+abbrev pub checkTwins : IndexedMesh → List ℕ → List ℕ
+checkTwins M d = twinsAfter M (lentRows M d) [] d
 
 abbrev pub given : ℕ → Row
 given k = row (not (eqb k 0)) k

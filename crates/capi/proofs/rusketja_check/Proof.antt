@@ -2,7 +2,8 @@
 use mathlib.Core.Path.{ap, _∙_}
 use mathlib.Core.List.{[], _∷_}
 use borrow.Author.Needs.{needs}
-use Rattle.mesh.specs.Answer.{Answer}
+use Rattle.finite.specs.Table.{Answer}
+use Rattle.mesh.specs.declared.model.Mesh.{Mesh}
 use Rattle.capi.specs.Answer.{code, counted}
 use Rattle.capi.proofs.rusketja_check.Statement.{statement}
 use Rattle.capi.proofs.rusketja_check.Tie as tie
@@ -20,13 +21,13 @@ returns : tie.Need-returns
 returns c =
     let checked = c .before .before .before .before .before .before .before in
     let s = checked .before .before .before .before .before .args in
-    let answer = checked .check .ensures in (
-      c .store-counts .ensures .0 ∙ ap code (answer .0),
-      (
-        c .store-counts .ensures .1 ∙ ap (λ (t : Answer). counted t (s .vertices .now ∷ (s .faces .now ∷ (s .edges .now ∷ (s .boundary .now ∷ []))))) (answer .0),
-        answer .1,
-      ),
-    )
+    let answer = checked .check .ensures in
+    let lent = s .vertices .now ∷ (s .faces .now ∷ (s .edges .now ∷ (s .boundary .now ∷ []))) in
+    let kept = c .store-counts .ensures in
+    record {
+      stored = record { code-is = kept .code-is ∙ ap code (answer .answer-is); counts-are = kept .counts-are ∙ ap (λ (t : Answer Mesh). counted t lent) (answer .answer-is) };
+      twins-are = answer .twins-are;
+    }
 
 pub rusketja-check-spec : {M : Type 1} → statement M
 rusketja-check-spec = tie.close (tie.spec check-requires store-counts-requires same-length returns)

@@ -56,20 +56,19 @@ mul-first c = omega (arith, room _ _ (some-told c))
 returns : tie.Need-returns
 returns c =
     let s = c .before .before .before .args in
-    let n = ap length (c .before .face-corners .ensures) in (
-      n,
-      (
-        first-some (faceCorners (s .indices .now) (s .f)) (s .f) (s .first .now) (some-told c),
-        ap (λ (k : ℕ). take k (drop (4 * s .f) (s .indices .now))) n ∙ part (s .indices .now) (s .f) (some-told c),
-      ),
-    )
+    let n = ap length (c .before .face-corners .ensures) in
+    record {
+      count-is = n;
+      first-is = first-some (faceCorners (s .indices .now) (s .f)) (s .f) (s .first .now) (some-told c);
+      part-is = ap (λ (k : ℕ). take k (drop (4 * s .f) (s .indices .now))) n ∙ part (s .indices .now) (s .f) (some-told c);
+    }
 
 returns-2 : tie.Need-returns-2
 returns-2 c =
     let s = c .before .before .before .args in
     let n = ap length (c .before .face-corners .ensures) in
     let e = none (faceCorners (s .indices .now) (s .f)) (s .f) (s .first .now) (drop (s .first .now) (s .indices .now)) (sym n ∙ c .if1 .left) in
-    (n, (e .0, ap (λ (k : ℕ). take k (drop (s .first .now) (s .indices .now))) n ∙ e .1))
+    record { count-is = n; first-is = e .0; part-is = ap (λ (k : ℕ). take k (drop (s .first .now) (s .indices .now))) n ∙ e .1 }
 
 pub rusketja-face-corners-spec : {M : Type 1} → statement M
 rusketja-face-corners-spec = tie.close (tie.spec face-corners-requires mul-first returns returns-2)

@@ -2,7 +2,8 @@
 use mathlib.Core.Path.{ap, _∙_}
 use mathlib.Core.List.{[], _∷_}
 use borrow.Author.Needs.{needs}
-use Rattle.mesh.specs.Answer.{Answer}
+use Rattle.finite.specs.Table.{Answer}
+use Rattle.mesh.specs.declared.model.Mesh.{Mesh}
 use Rattle.capi.specs.Answer.{code, counted}
 use Rattle.capi.proofs.rusketja_patches.Statement.{statement}
 use Rattle.capi.proofs.rusketja_patches.Tie as tie
@@ -23,13 +24,14 @@ returns : tie.Need-returns
 returns c =
     let written = c .before .before .before .before .before .before .before .before in
     let s = written .before .before .before .before .before .before .args in
-    let answer = written .patches .ensures in (
-      c .store-counts .ensures .0 ∙ ap code (answer .0),
-      (
-        c .store-counts .ensures .1 ∙ ap (λ (t : Answer). counted t (s .vertices .now ∷ (s .faces .now ∷ (s .edges .now ∷ (s .boundary .now ∷ []))))) (answer .0),
-        answer .1,
-      ),
-    )
+    let answer = written .patches .ensures in
+    let lent = s .vertices .now ∷ (s .faces .now ∷ (s .edges .now ∷ (s .boundary .now ∷ []))) in
+    let kept = c .store-counts .ensures in
+    record {
+      stored = record { code-is = kept .code-is ∙ ap code (answer .answer-is); counts-are = kept .counts-are ∙ ap (λ (t : Answer Mesh). counted t lent) (answer .answer-is) };
+      twins-are = answer .twins-are;
+      patches-are = answer .patches-are;
+    }
 
 pub rusketja-patches-spec : {M : Type 1} → statement M
 rusketja-patches-spec =

@@ -6,21 +6,23 @@ use borrow.Author.Needs.{needs}
 use Rattle.sample.specs.declared.model.Micrometres.{Micrometres}
 use Rattle.sample.specs.declared.model.Reading.{Reading}
 use Rattle.sample.specs.declared.model.Reading.the-variants.{At, Refused}
-use Rattle.sample.specs.Answer.{Answer, point, refusal, Reads, sampleAnswer}
-use Rattle.capi.specs.Answer.{sampleCode, Read}
+use Rattle.finite.specs.Table.{Answer, result, refusal}
+use Rattle.sample.specs.declared.model.Point.{Point}
+use Rattle.sample.specs.Answer.{Reads, sampleAnswer}
+use Rattle.capi.specs.Answer.{ReadingStored}
 use Rattle.capi.proofs.rusketja_reading.Statement.{statement}
 use Rattle.capi.proofs.rusketja_reading.Tie as tie
 
-read-at : (answer : Answer) (p : Micrometres) (x y z : Float) → Reads (At p) answer → (0 ≡ sampleCode answer) × Read answer x y z (p .x) (p .y) (p .z)
-read-at (point a b c) p x y z h = (refl, h)
+read-at : (answer : Answer Point) (p : Micrometres) (x y z : Float) → Reads (At p) answer → ReadingStored answer x y z 0 (p .x) (p .y) (p .z)
+read-at (result q) p x y z h = record { code-is = refl; reading-is = h }
 read-at (refusal k) p x y z h = absurd h
 
-read-refused : (answer : Answer) (j : ℕ) (x y z : Float) → Reads (Refused j) answer → (j ≡ sampleCode answer) × Read answer x y z x y z
-read-refused (point a b c) j x y z h = absurd h
-read-refused (refusal k) j x y z h = (h, (refl, refl, refl))
+read-refused : (answer : Answer Point) (j : ℕ) (x y z : Float) → Reads (Refused j) answer → ReadingStored answer x y z j x y z
+read-refused (result q) j x y z h = absurd h
+read-refused (refusal k) j x y z h = record { code-is = h; reading-is = (refl, refl, refl) }
 
 -- the answer that the reading holds
-abbrev answer : tie.Start → Answer
+abbrev answer : tie.Start → Answer Point
 answer s = sampleAnswer (s .args .patches .now) (s .args .f) (s .args .n) (s .args .a) (s .args .b)
 
 reading-requires : tie.Need-reading-requires

@@ -5,8 +5,10 @@ use lib.IntN.{ℤ}
 use mir.Syntax.{w32}
 use mir.Facts.{toZ-ofZ}
 use borrow.Author.Needs.{needs}
-use Rattle.sample.specs.Answer.{Answer, meaning}
-use Rattle.capi.specs.Answer.{sampleCode, sampled}
+use Rattle.finite.specs.Table.{Answer}
+use Rattle.sample.specs.declared.model.Point.{Point}
+use Rattle.sample.specs.Answer.{sampled}
+use Rattle.capi.specs.Answer.{code, placed}
 use Rattle.capi.proofs.rusketja_sample.Statement.{statement}
 use Rattle.capi.proofs.rusketja_sample.Tie as tie
 
@@ -28,16 +30,17 @@ returns c =
     let at = c .before .before .before .before in
     let p = at .p .given .0 .0 in
     let fits = c .struct-told3 .given in
-    let e = sym (ap meaning (at .p .given .1)) ∙ at .before .before .sample .ensures in (
-      ap sampleCode e,
-      rw (toZ-ofZ {w = w32} {z = p .x} (record { sfits = fits .0 .1 }), toZ-ofZ {w = w32} {z = p .y} (record { sfits = fits .1 .0 .1 }), toZ-ofZ {w = w32} {z = p .z} (record { sfits = fits .1 .1 .0 .1 })) (ap (λ (t : Answer). sampled t (lent (at .before .before .before))) e),
-    )
+    let e = sym (ap sampled (at .p .given .1)) ∙ at .before .before .sample .ensures in
+    record {
+      code-is = ap code e;
+      point-is = rw (toZ-ofZ {w = w32} {z = p .x} (record { sfits = fits .0 .1 }), toZ-ofZ {w = w32} {z = p .y} (record { sfits = fits .1 .0 .1 }), toZ-ofZ {w = w32} {z = p .z} (record { sfits = fits .1 .1 .0 .1 })) (ap (λ (t : Answer Point). placed t (lent (at .before .before .before))) e);
+    }
 
 returns-2 : tie.Need-returns-2
 returns-2 c =
     let at = c .before in
-    let e = sym (ap meaning (at .k .given .1)) ∙ at .before .before .sample .ensures in
-    (ap sampleCode e, ap (λ (t : Answer). sampled t (lent (at .before .before .before))) e)
+    let e = sym (ap sampled (at .k .given .1)) ∙ at .before .before .sample .ensures in
+    record { code-is = ap code e; point-is = ap (λ (t : Answer Point). placed t (lent (at .before .before .before))) e }
 
 pub rusketja-sample-spec : {M : Type 1} → statement M
 rusketja-sample-spec =
