@@ -3,6 +3,7 @@ pub mod Iso
 pub mod PointMoves
 pub mod FanMoves
 pub mod FromRenumbering
+pub mod RenumberedLaws
 pub mod AcceptedMoves
 pub mod FaceSamples
 pub mod Seam
