@@ -35,16 +35,16 @@ module _ {positions : List ℤ} {faces weights : List ℕ} {k : ℕ} (r : Readab
 
 -- ---- twins
 module _ {faces twins : List ℕ} (t : Twins faces twins) (positions : List ℤ) (k c : ℕ) (l : c < length faces) where
-  pub sharp-listed : twinOf twins c ≡ noTwin → sharp (seen positions faces k) c ≡ true
+  pub sharp-listed : twinOf twins c ≡ noTwin → sharp (seen positions faces k .shape) c ≡ true
   unfolding sharp boundary
   sharp-listed e = eq-eqb _ _ (sym (t .are c l) ∙ e)
 
-  pub not-sharp-listed : (twinOf twins c ≡ noTwin → ⊥) → sharp (seen positions faces k) c ≡ false
+  pub not-sharp-listed : (twinOf twins c ≡ noTwin → ⊥) → sharp (seen positions faces k .shape) c ≡ false
   unfolding sharp boundary
   not-sharp-listed n = ne-eqb _ _ (λ e. n (t .are c l ∙ e))
 
   pub twin-listed : (twinOf twins c ≡ noTwin → ⊥) → twinOf twins c < length faces
-  twin-listed n = rw (t .are c l) (twin-below (seen positions faces k) c (not-sharp-listed n))
+  twin-listed n = rw (t .are c l) (twin-below (seen positions faces k .shape) c (not-sharp-listed n))
 
 -- ---- the two tables of a patch
 -- the corner of a face that owns a point is one of its corners

@@ -22,12 +22,12 @@ use Rattle.mesh.proofs.CirculationLaws.{around-in, back-some}
 use Rattle.mesh.proofs.TurnLaws.{turn-first, turn-at}
 use Rattle.mesh.proofs.FanLaws.{fan-turning, fan-keeps, fan-means}
 use Rattle.mesh.proofs.BoundaryLaws.{One, BoundaryVertex, inner-vertex}
-use Rattle.patch.specs.Point.{View, x, sharp, sumAt, sharpSum, ringSum}
+use Rattle.patch.specs.Point.{Shape, View, x, sharp, sumAt, sharpSum, ringSum}
 
 -- a half-edge that is not sharp has a twin
-pub twin-below : (S : View) (c : ℕ) → sharp S c ≡ false → twin (S .at) (S .n) c < S .n
+pub twin-below : (G : Shape) (c : ℕ) → sharp G c ≡ false → twin (G .at) (G .n) c < G .n
 unfolding sharp boundary
-twin-below S c e = ⊎-elim (λ w. w .0) (λ w. absurd (eqb-false _ _ e (w .0))) (twin-cases (S .n) (S .at) c)
+twin-below G c e = ⊎-elim (λ w. w .0) (λ w. absurd (eqb-false _ _ e (w .0))) (twin-cases (G .n) (G .at) c)
 
 -- ---- the two boundary neighbours
 split : (t u v : Bool) (a b : ℤ) → cond t (cond u a (pos 0) +ℤ cond v b (pos 0)) (pos 0) ≡ cond (t && u) a (pos 0) +ℤ cond (t && v) b (pos 0)
@@ -43,12 +43,13 @@ sum-one {n} {at} {p} {t} w f =
     (λ c l e. let b = and-true (eqb (at c) p) (t c) e in w .alone c l (eqb-true (at c) p (b .0)) (b .1))
 
 -- "r, r' the rim neighbours": the end of the boundary half-edge that leaves p, and the start of the one that enters it
-pub sharp-neighbours : (S : View) (p : ℕ) (w : BoundaryVertex (S .n) (S .at) p)
+pub sharp-neighbours : (S : View) (p : ℕ) (w : BoundaryVertex (S .shape .n) (S .shape .at) p)
     → sharpSum S p ≡ x S (next (w .leaving .corner)) +ℤ x S (prev (w .entering .corner))
 unfolding sharpSum sharp
 sharp-neighbours S p w =
-    fold-ext (pos 0) _+ℤ_ (S .n) (λ c _. split (eqb (S .at c) p) (sharp S c) (sharp S (prev c)) (x S (next c)) (x S (prev c)))
-    ∙ fold-op sumℤ-monoid _ _ (S .n)
+    fold-ext (pos 0) _+ℤ_ (S .shape .n) (λ c _.
+    split (eqb (S .shape .at c) p) (sharp (S .shape) c) (boundary (S .shape .at) (S .shape .n) (prev c)) (x S (next c)) (x S (prev c)))
+    ∙ fold-op sumℤ-monoid _ _ (S .shape .n)
     ∙ ap₂ _+ℤ_ (sum-one (w .leaving) (λ c. x S (next c))) (sum-one (w .entering) (λ c. x S (prev c)))
 
 -- ---- the edge neighbours and the vertices across, about an inner vertex
@@ -68,47 +69,53 @@ turned N A (suc m) =
 +ℤ-cancel : (a b c d : ℤ) → a +ℤ c ≡ b +ℤ d → d ≡ c → a ≡ b
 +ℤ-cancel a b c d h e = eq-by a b (omega (arith, read-eq (int a ⊕ int c) (int b ⊕ int c) (h ∙ ap (λ (z : ℤ). b +ℤ z) e)))
 
-module _ (S : View) (k : Corners (S .n)) (simple : Simple (S .n) (S .at)) (p : ℕ)
-    (f : fan (S .at) (S .n) p ≡ true) (e : onBoundary (S .at) (S .n) p ≡ false) where
+module _ (S : View) (k : Corners (S .shape .n)) (simple : Simple (S .shape .n) (S .shape .at)) (p : ℕ)
+    (f : fan (S .shape .at) (S .shape .n) p ≡ true) (e : onBoundary (S .shape .at) (S .shape .n) p ≡ false) where
+  abbrev n : ℕ
+  n = S .shape .n
+
+  abbrev at : ℕ → ℕ
+  at = S .shape .at
+
   abbrev s : ℕ → ℕ
-  s = around (twin (S .at) (S .n)) (S .n)
+  s = around (twin at n) n
 
   -- the turn of the corners at p
   abbrev o : ℕ
-  o = fan-means (S .at) k simple p f .first
+  o = fan-means at k simple p f .first
 
   abbrev m : ℕ
-  m = valence (S .at) (S .n) p
+  m = valence at n p
 
-  turn : Turn (S .n) s (backAround (twin (S .at) (S .n)) (S .n)) o m
-  turn = fan-means (S .at) k simple p f .turn
+  turn : Turn n s (backAround (twin at n) n) o m
+  turn = fan-means at k simple p f .turn
 
-  turn-here : (i : ℕ) → i < m → S .at (iterate s i o) ≡ p
-  turn-here i l = turn-at (fan-turning (S .at) k simple) o m turn (S .at) (fan-keeps (S .at) k simple) i l ∙ fan-means (S .at) k simple p f .here
+  turn-here : (i : ℕ) → i < m → at (iterate s i o) ≡ p
+  turn-here i l = turn-at (fan-turning at k simple) o m turn at (fan-keeps at k simple) i l ∙ fan-means at k simple p f .here
 
   -- the step from the last corner leads to the first
   closed : iterate s m o ≡ o
   unfolding sharp
   closed =
-      let l = turn-first (fan-turning (S .at) k simple) o m turn in
-      let t = twin-below S o (inner-vertex (S .at) k simple p f e .leaving o l (fan-means (S .at) k simple p f .here)) in
+      let l = turn-first (fan-turning at k simple) o m turn in
+      let t = twin-below (S .shape) o (inner-vertex at k simple p f e .leaving o l (fan-means at k simple p f .here)) in
       ⊎-elim (λ q. q) (λ q.
-      let b = back-some (twin (S .at) (S .n)) (S .n) o l (not-none k _ t) in
+      let b = back-some (twin at n) n o l (not-none k _ t) in
       absurd (not-none k _ (next-below k _ t) (sym b ∙ q .1)))
       (turn .ends)
 
   -- the previous neighbour in a face at p is the next one in the face after it
-  prev-next-around : (c : ℕ) → c < S .n → S .at c ≡ p → x S (prev c) ≡ x S (next (s c))
+  prev-next-around : (c : ℕ) → c < n → at c ≡ p → x S (prev c) ≡ x S (next (s c))
   unfolding sharp
   prev-next-around c l h =
-      let t = twin-below S (prev c) (inner-vertex (S .at) k simple p f e .entering c l h) in
-      ap (S .value) (sym (ap (λ (d : ℕ). S .at (next d)) (around-in (twin (S .at) (S .n)) (S .n) c l) ∙ twin-ends (S .n) (S .at) (prev c) k t .1))
+      let t = twin-below (S .shape) (prev c) (inner-vertex at k simple p f e .entering c l h) in
+      ap (S .value) (sym (ap (λ (d : ℕ). at (next d)) (around-in (twin at n) n c l) ∙ twin-ends n at (prev c) k t .1))
 
-  along : (g : ℕ → ℤ) → sumAt S p g ≡ sumBelowℤ (λ i. g (iterate s i o)) m
-  along g = gather-along sumℤ-monoid (S .n) m (S .at) (λ i. iterate s i o) p (turn .inside) turn-here (turn .apart) (fan-means (S .at) k simple p f .covers) g
+  along : (g : ℕ → ℤ) → sumAt (S .shape) p g ≡ sumBelowℤ (λ i. g (iterate s i o)) m
+  along g = gather-along sumℤ-monoid n m at (λ i. iterate s i o) p (turn .inside) turn-here (turn .apart) (fan-means at k simple p f .covers) g
 
   -- "4 sum of edge neighbours + sum of vertices across": each edge neighbour is the next of one corner at p
-  pub ring-neighbours : ringSum S p ≡ sumAt S p (λ c. pos 4 *ℤ x S (next c) +ℤ x S (across c))
+  pub ring-neighbours : ringSum S p ≡ sumAt (S .shape) p (λ c. pos 4 *ℤ x S (next c) +ℤ x S (across c))
   unfolding ringSum iterate
   ring-neighbours =
       let N : ℕ → ℤ = λ i. x S (next (iterate s i o)) in

@@ -16,14 +16,14 @@ use Rattle.finite.specs.Fold.{foldBelow, gather}
 use Rattle.mesh.specs.Corner.{turn, prev}
 use Rattle.mesh.specs.HalfEdge.{twin}
 use Rattle.mesh.specs.Fan.{valence}
-use Rattle.mesh.specs.IndexedMesh.{IndexedMesh, corners, at, tag}
+use Rattle.mesh.specs.IndexedMesh.{IndexedMesh, corners, at}
 use Rattle.mesh.specs.WellFormed.{WellFormed}
 use Rattle.mesh.proofs.CornerLaws.{turn-below}
 use Rattle.mesh.proofs.BoundaryLaws.{boundary-vertex}
 use Rattle.mesh.proofs.AcceptedLaws.{accepted-corners}
 use Rattle.patch.specs.Mask.{Fraction, innerMask, edgeMask, boundaryEdgeMask, smoothCornerMask, boundaryCornerMask, vertexMask}
 use Rattle.patch.specs.Point.{View, x, faces, inside, weight, sharp, sharpSum, ringSum, fixed, cornerPoint, innerPoint, edgePoint, alongPoint, beforePoint, Kind, corner, along, before, inner, point}
-use Rattle.patch.specs.Patch.{owner, kind, patchPoint}
+use Rattle.patch.specs.Patch.{owner, kind, patchPoint, shape}
 use Rattle.patch.proofs.NeighbourLaws.{twin-below, sharp-neighbours}
 
 pub record Linear (R : ℕ → ℤ → ℤ → Type 0) : Type 0 where
@@ -37,7 +37,7 @@ pub record Related (R : ℕ → ℤ → ℤ → Type 0) (q q' : Fraction) : Type
   pub related : R (q .den) (q .num) (q' .num)
 
 abbrev pub valued : IndexedMesh → (ℕ → ℤ) → View
-valued M X = record { n = corners M; at = at M; tag = tag M; value = X }
+valued M X = record { shape = shape M; value = X }
 
 module _ {R : ℕ → ℤ → ℤ → Type 0} (L : Linear R) where
   cast : {k l : ℕ} {z z' : ℤ} → k ≡ l → R k z z' → R l z z'
@@ -116,12 +116,12 @@ module _ {R : ℕ → ℤ → ℤ → Type 0} (L : Linear R) where
     at-turn : (i c : ℕ) → c < corners M → R 1 (x S (turn i c)) (x S' (turn i c))
     at-turn i c l = at-corner (turn i c) (turn-below (accepted-corners a) i c l)
 
-    ring-sum : (p : ℕ) → R (5 * faces S p) (ringSum S p) (ringSum S' p)
+    ring-sum : (p : ℕ) → R (5 * faces (shape M) p) (ringSum S p) (ringSum S' p)
     unfolding ringSum
     ring-sum p =
         sum-at (at M) p 5 _ _ (corners M) (λ c l. L .plus (L .plus (L .times 2 (at-turn 1 c l)) (L .times 2 (at-turn 3 c l))) (at-turn 2 c l))
 
-    sharp-sum : (p : ℕ) → p < M .vertices → inside S p ≡ false → R 2 (sharpSum S p) (sharpSum S' p)
+    sharp-sum : (p : ℕ) → p < M .vertices → inside (shape M) p ≡ false → R 2 (sharpSum S p) (sharpSum S' p)
     sharp-sum p l e =
         let w = boundary-vertex (at M) (accepted-corners a) (a .simple) p (a .fans p l) (not-false _ e) in
         rw (sharp-neighbours S p w, sharp-neighbours S' p w)
@@ -130,12 +130,12 @@ module _ {R : ℕ → ℤ → ℤ → Type 0} (L : Linear R) where
     corner-related : (p : ℕ) → p < M .vertices → Related R (cornerPoint S p) (cornerPoint S' p)
     unfolding cornerPoint fixed
     corner-related p l =
-        either (inside S p) (λ _. smooth-corner-mask (faces S p) (a .used p l) (base p l) (ring-sum p))
-        (λ e. either (fixed S p) (λ _. vertex-mask (base p l)) (λ _. boundary-corner-mask (base p l) (sharp-sum p l e)))
+        either (inside (shape M) p) (λ _. smooth-corner-mask (faces (shape M) p) (a .used p l) (base p l) (ring-sum p))
+        (λ e. either (fixed (shape M) p) (λ _. vertex-mask (base p l)) (λ _. boundary-corner-mask (base p l) (sharp-sum p l e)))
 
     inner-related : (c : ℕ) → c < corners M → Related R (innerPoint S c) (innerPoint S' c)
     unfolding innerPoint weight
-    inner-related c l = inner-mask (weight S c) (at-corner c l) (at-turn 1 c l) (at-turn 3 c l) (at-turn 2 c l)
+    inner-related c l = inner-mask (weight (shape M) c) (at-corner c l) (at-turn 1 c l) (at-turn 3 c l) (at-turn 2 c l)
 
     edge-related : (c d : ℕ) → c < corners M → d < corners M → Related R (edgePoint S c d) (edgePoint S' c d)
     unfolding edgePoint weight
@@ -144,13 +144,13 @@ module _ {R : ℕ → ℤ → ℤ → Type 0} (L : Linear R) where
     along-related : (c : ℕ) → c < corners M → Related R (alongPoint S c) (alongPoint S' c)
     unfolding alongPoint sharp
     along-related c l =
-        either (sharp S c) (λ _. boundary-edge-mask (at-corner c l) (at-turn 1 c l)) (λ e. edge-related c (twin (at M) (corners M) c) l (twin-below S c e))
+        either (sharp (shape M) c) (λ _. boundary-edge-mask (at-corner c l) (at-turn 1 c l)) (λ e. edge-related c (twin (at M) (corners M) c) l (twin-below (shape M) c e))
 
     before-related : (c : ℕ) → c < corners M → Related R (beforePoint S c) (beforePoint S' c)
     unfolding beforePoint sharp
     before-related c l =
-        either (sharp S (prev c)) (λ _. boundary-edge-mask (at-corner c l) (at-turn 3 c l))
-        (λ e. edge-related (twin (at M) (corners M) (prev c)) (prev c) (twin-below S (prev c) e) (turn-below (accepted-corners a) 3 c l))
+        either (sharp (shape M) (prev c)) (λ _. boundary-edge-mask (at-corner c l) (at-turn 3 c l))
+        (λ e. edge-related (twin (at M) (corners M) (prev c)) (prev c) (twin-below (shape M) (prev c) e) (turn-below (accepted-corners a) 3 c l))
 
     pub point-related : (c : ℕ) → c < corners M → (k : Kind) → Related R (point (valued M X) c k) (point (valued M X') c k)
     unfolding point

@@ -14,7 +14,7 @@ use Rattle.mesh.specs.WellFormed.{WellFormed}
 use Rattle.mesh.proofs.CornerLaws.{turn-below}
 use Rattle.mesh.proofs.AcceptedLaws.{accepted-corners}
 use Rattle.patch.specs.Point.{Kind, corner, along, before, inner, weight, sharp, alongPoint, beforePoint, innerPoint, edgePoint, point}
-use Rattle.patch.specs.Patch.{owner, kind, patchPoint, view, units, patchNumber}
+use Rattle.patch.specs.Patch.{owner, kind, patchPoint, shape, view, units, patchNumber}
 use Rattle.patch.specs.Private.{vertexWeight, Tables, Readable, Source, pointFrom, numberFrom}
 
 pub face-listed : {M : IndexedMesh} → WellFormed M → (g : ℕ) → g < M .faces → 4 * g + 4 ≤ length (M .indices)
@@ -25,7 +25,7 @@ module _ {M : IndexedMesh} (a : WellFormed M) {twins weights : List ℕ} {points
   whole = a .sized .indices-are
 
   -- a weight is at most twice eight faces
-  light : (p : ℕ) → p < M .vertices → vertexWeight (view M 0) p ≤ 32
+  light : (p : ℕ) → p < M .vertices → vertexWeight (shape M) p ≤ 32
   unfolding vertexWeight
   light p l =
       bool-cases (onBoundary (at M) (corners M) p)

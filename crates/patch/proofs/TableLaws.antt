@@ -25,7 +25,7 @@ use Rattle.mesh.proofs.BoundaryLaws.{boundary-vertex}
 use Rattle.mesh.proofs.AcceptedLaws.{accepted-corners}
 use Rattle.patch.specs.Mask.{smoothCornerMask, boundaryCornerMask, vertexMask}
 use Rattle.patch.specs.Point.{View, x, ringTerm, sharpTerm, inside, sharp, sharpSum, ringSum, fixed, cornerPoint}
-use Rattle.patch.specs.Patch.{view}
+use Rattle.patch.specs.Patch.{shape, view}
 use Rattle.patch.specs.Private.{vertexWeight, Placed}
 use Rattle.patch.proofs.MaskLaws.{one, term, _⊞_, size}
 use Rattle.patch.proofs.NeighbourLaws.{sharp-neighbours}
@@ -36,24 +36,24 @@ pub cond-size : (b : Bool) (z : ℤ) (B : ℕ) → natAbs z ≤ B → natAbs (co
 cond-size true z B h = h
 cond-size false z B h = zero-le
 
-module _ (S : View) (k : Corners (S .n)) (small : (c : ℕ) → c < S .n → natAbs (x S c) ≤ maxCoordinate) where
-  turn-size : (i c : ℕ) → c < S .n → natAbs (x S (turn i c)) ≤ maxCoordinate
+module _ (S : View) (k : Corners (S .shape .n)) (small : (c : ℕ) → c < S .shape .n → natAbs (x S c) ≤ maxCoordinate) where
+  turn-size : (i c : ℕ) → c < S .shape .n → natAbs (x S (turn i c)) ≤ maxCoordinate
   turn-size i c l = small (turn i c) (turn-below k i c l)
 
-  pub ring-term-size : (c : ℕ) → c < S .n → natAbs (ringTerm S c) ≤ 5 * maxCoordinate
+  pub ring-term-size : (c : ℕ) → c < S .shape .n → natAbs (ringTerm S c) ≤ 5 * maxCoordinate
   ring-term-size c l =
       omega (arith, size (term 2 (x S (next c)) ⊞ term 2 (x S (prev c)) ⊞ one (x S (across c))) ((turn-size 1 c l, turn-size 3 c l), turn-size 2 c l))
 
-  pub sharp-term-size : (c : ℕ) → c < S .n → natAbs (sharpTerm S c) ≤ 5 * maxCoordinate
+  pub sharp-term-size : (c : ℕ) → c < S .shape .n → natAbs (sharpTerm S c) ≤ 5 * maxCoordinate
   sharp-term-size c l =
       omega (
         arith,
-        abs-+ (cond (sharp S c) (x S (next c)) (pos 0)) (cond (sharp S (prev c)) (x S (prev c)) (pos 0)),
-        cond-size (sharp S c) (x S (next c)) maxCoordinate (turn-size 1 c l),
-        cond-size (sharp S (prev c)) (x S (prev c)) maxCoordinate (turn-size 3 c l),
+        abs-+ (cond (sharp (S .shape) c) (x S (next c)) (pos 0)) (cond (boundary (S .shape .at) (S .shape .n) (prev c)) (x S (prev c)) (pos 0)),
+        cond-size (sharp (S .shape) c) (x S (next c)) maxCoordinate (turn-size 1 c l),
+        cond-size (boundary (S .shape .at) (S .shape .n) (prev c)) (x S (prev c)) maxCoordinate (turn-size 3 c l),
       )
 
-faces-weight : (M : IndexedMesh) (p : ℕ) → valence (at M) (corners M) p ≤ vertexWeight (view M 0) p
+faces-weight : (M : IndexedMesh) (p : ℕ) → valence (at M) (corners M) p ≤ vertexWeight (shape M) p
 unfolding vertexWeight
 faces-weight M p = bool-cases (onBoundary (at M) (corners M) p) (λ e. rw e (omega arith)) (λ e. rw e (omega arith))
 
@@ -67,7 +67,7 @@ module _ {M : IndexedMesh} (a : WellFormed M) where
   }
 
   -- the weight of a vertex
-  weight-range : (p : ℕ) → p < M .vertices → (0 < vertexWeight (view M 0) p) × (vertexWeight (view M 0) p ≤ maxValence)
+  weight-range : (p : ℕ) → p < M .vertices → (0 < vertexWeight (shape M) p) × (vertexWeight (shape M) p ≤ maxValence)
   unfolding vertexWeight
   weight-range p l =
       bool-cases (onBoundary (at M) (corners M) p)
@@ -86,14 +86,14 @@ module _ {M : IndexedMesh} (a : WellFormed M) where
     ring-size p = gather-size (at M) p (5 * maxCoordinate) _ (corners M) (ring-term-size (view M k) (accepted-corners a) (accepted-placed .small))
 
     -- what a function asks that makes the corner point of vertex p from the entries of the tables
-    pub corner-asked : (p : ℕ) → p < M .vertices → (w : ℕ) (z r : ℤ) → w ≡ vertexWeight (view M 0) p → z ≡ view M k .value p → r ≡ ringSum (view M k) p
+    pub corner-asked : (p : ℕ) → p < M .vertices → (w : ℕ) (z r : ℤ) → w ≡ vertexWeight (shape M) p → z ≡ view M k .value p → r ≡ ringSum (view M k) p
         → (0 < w) × (w ≤ maxValence) × (natAbs z ≤ maxCoordinate) × (natAbs r ≤ 5 * maxCoordinate * w)
     corner-asked p l w z r hw hz hr =
         let range = weight-range p l in
         rw (hw, hz, hr) (range .0, range .1, a .coordinates (3 * p + k) (omega arith), omega (arith, ring-size p, faces-weight M p))
 
     -- two half-edges at a boundary vertex are boundary
-    pub sharp-size : (p : ℕ) → p < M .vertices → inside (view M k) p ≡ false → natAbs (sharpSum (view M k) p) ≤ 2 * maxCoordinate
+    pub sharp-size : (p : ℕ) → p < M .vertices → inside (shape M) p ≡ false → natAbs (sharpSum (view M k) p) ≤ 2 * maxCoordinate
     sharp-size p l e =
         let w = boundary-vertex (at M) (accepted-corners a) (a .simple) p (a .fans p l) (not-false _ e) in
         let n = w .leaving .corner in
@@ -104,13 +104,13 @@ module _ {M : IndexedMesh} (a : WellFormed M) where
 
 -- ---- the corner point, from the entries of the tables
 module _ (M : IndexedMesh) (p : ℕ) where
-  pub inside-count : eqb (gather 0 _+_ (at M) (λ c. indicator (boundary (at M) (corners M) c)) (corners M) p) 0 ≡ inside (view M 0) p
+  pub inside-count : eqb (gather 0 _+_ (at M) (λ c. indicator (boundary (at M) (corners M) c)) (corners M) p) 0 ≡ inside (shape M) p
   unfolding onBoundary
   inside-count = count-none (at M) p (boundary (at M) (corners M)) (corners M)
 
   -- a boundary vertex with one face has the weight 2
   pub corner-entries : (k : ℕ) (i : Bool) (w : ℕ) (z r s : ℤ)
-      → i ≡ inside (view M 0) p → w ≡ vertexWeight (view M 0) p → z ≡ view M k .value p → r ≡ ringSum (view M k) p → s ≡ sharpSum (view M k) p
+      → i ≡ inside (shape M) p → w ≡ vertexWeight (shape M) p → z ≡ view M k .value p → r ≡ ringSum (view M k) p → s ≡ sharpSum (view M k) p
       → cond i (smoothCornerMask w z r) (cond (eqb (tag M p) cornerTag || eqb w 2) (vertexMask z) (boundaryCornerMask z s)) ≡ cornerPoint (view M k) p
   unfolding cornerPoint fixed vertexWeight
   corner-entries k i w z r s hi hw hz hr hs =

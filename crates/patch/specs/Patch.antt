@@ -8,6 +8,7 @@
 --                      "b(0,0), b(3,0), b(3,3), b(0,3) belong to q0 to q3."
 --   patchPoint S c m   point m of the patch of the face of corner c, where c counts as the face's first corner
 --   control S c m      "256 times the fraction, rounded once to the nearest whole number, halves to the even one"
+--   shape M            the mesh M without its coordinates
 --   view M k           coordinate k (x, y, z) of the mesh M
 --   patchNumber M i    what stands at place i of the patch list: coordinate i % 3 of point i % 48 / 3 of face i / 48
 --   patchesAfter M d   the patch list after an accepted mesh was written over d: "places from 48F on are not touched"
@@ -20,7 +21,7 @@ use Rattle.finite.specs.Filled.{filled}
 use Rattle.mesh.specs.Corner.{turn}
 use Rattle.mesh.specs.IndexedMesh.{IndexedMesh, corners, at, tag, coordinate}
 use Rattle.patch.specs.Mask.{Fraction}
-use Rattle.patch.specs.Point.{View, Kind, corner, along, before, inner, point}
+use Rattle.patch.specs.Point.{Shape, View, Kind, corner, along, before, inner, point}
 
 unfoldable pub owner : ℕ → ℕ
 owner m = getD (0 ∷ 0 ∷ 1 ∷ 1 ∷ 0 ∷ 0 ∷ 1 ∷ 1 ∷ 3 ∷ 3 ∷ 2 ∷ 2 ∷ 3 ∷ 3 ∷ 2 ∷ 2 ∷ []) m 0
@@ -39,8 +40,11 @@ units q = nearest (pos 256 *ℤ q .num) (q .den)
 abbrev pub control : View → ℕ → ℕ → ℤ
 control S c m = units (patchPoint S c m)
 
+abbrev pub shape : IndexedMesh → Shape
+shape M = record { n = corners M; at = at M; tag = tag M }
+
 abbrev pub view : IndexedMesh → ℕ → View
-view M k = record { n = corners M; at = at M; tag = tag M; value = λ p. coordinate M (3 * p + k) }
+view M k = record { shape = shape M; value = λ p. coordinate M (3 * p + k) }
 
 unfoldable pub patchNumber : IndexedMesh → ℕ → ℤ
 patchNumber M i = control (view M (i % 3)) (4 * (i / 48)) (i % 48 / 3)

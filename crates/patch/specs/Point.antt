@@ -1,12 +1,13 @@
 -- The control points that each corner of a face owns, of one coordinate, from the corners, the tags and that coordinate of each vertex.
 --
---   View            what the points are read from: n corners, the vertex `at c` of each, a tag and a coordinate of each vertex
---   weight S c      "Let w be n at an inner vertex and 2k at a rim vertex (document 001, also for k = 1)", at the vertex of corner c
---   sharp S c       half-edge c takes the boundary rule: it has no twin
+--   Shape           what no coordinate tells: n corners, the vertex `at c` of each, a tag of each vertex
+--   View            what the points are read from: a shape, and a coordinate of each vertex
+--   weight G c      "Let w be n at an inner vertex and 2k at a rim vertex (document 001, also for k = 1)", at the vertex of corner c
+--   sharp G c       half-edge c takes the boundary rule: it has no twin
 --   sharpSum S p    the far ends of the sharp half-edges at p: "r, r' the rim neighbours"
 --   ringSum S p     four times the edge neighbours of p and the vertices across: each edge neighbour is the next of one corner at p
 --                   and the previous of another, so each counts twice here
---   fixed S p       the corner point of a boundary vertex is the vertex itself: "Rim with tag 1 or with k = 1"
+--   fixed G p       the corner point of a boundary vertex is the vertex itself: "Rim with tag 1 or with k = 1"
 --   cornerPoint S p    the corner point of vertex p
 --   edgePoint S c d    the edge point on the inner edge of half-edge c, with twin d, near its start
 --   alongPoint S c     the edge point on half-edge c near its start
@@ -23,72 +24,78 @@ use Rattle.mesh.specs.HalfEdge.{twin, boundary}
 use Rattle.mesh.specs.Fan.{valence, onBoundary}
 use Rattle.patch.specs.Mask.{Fraction, innerMask, edgeMask, boundaryEdgeMask, smoothCornerMask, boundaryCornerMask, vertexMask}
 
-pub record View : Type 0 where
+pub record Shape : Type 0 where
   pub n : ℕ
   pub at : ℕ → ℕ
   pub tag : ℕ → ℕ
+
+pub record View : Type 0 where
+  pub shape : Shape
   pub value : ℕ → ℤ
 
 -- the coordinate of the vertex of corner c
 abbrev pub x : View → ℕ → ℤ
-x S c = S .value (S .at c)
+x S c = S .value (S .shape .at c)
 
 -- how many faces vertex p has
-abbrev pub faces : View → ℕ → ℕ
-faces S p = valence (S .at) (S .n) p
+abbrev pub faces : Shape → ℕ → ℕ
+faces G p = valence (G .at) (G .n) p
 
-abbrev pub inside : View → ℕ → Bool
-inside S p = not (onBoundary (S .at) (S .n) p)
+abbrev pub inside : Shape → ℕ → Bool
+inside G p = not (onBoundary (G .at) (G .n) p)
 
-unfoldable pub weight : View → ℕ → ℕ
-weight S c = cond (inside S (S .at c)) (faces S (S .at c)) (2 * faces S (S .at c))
+unfoldable pub weight : Shape → ℕ → ℕ
+weight G c = cond (inside G (G .at c)) (faces G (G .at c)) (2 * faces G (G .at c))
 
-unfoldable pub sharp : View → ℕ → Bool
-sharp S c = boundary (S .at) (S .n) c
+unfoldable pub sharp : Shape → ℕ → Bool
+sharp G c = boundary (G .at) (G .n) c
 
 -- the sum over the corners at p
-abbrev pub sumAt : View → ℕ → (ℕ → ℤ) → ℤ
-sumAt S p term = gather (pos 0) _+ℤ_ (S .at) term (S .n) p
+abbrev pub sumAt : Shape → ℕ → (ℕ → ℤ) → ℤ
+sumAt G p term = gather (pos 0) _+ℤ_ (G .at) term (G .n) p
 
--- what corner c adds to the two sums at its vertex
+-- what corner c adds to the two sums at its vertex; a sharp edge counts once, where it leaves the vertex, or enters it and has no twin
 abbrev pub sharpTerm : View → ℕ → ℤ
-sharpTerm S c = cond (sharp S c) (x S (next c)) (pos 0) +ℤ cond (sharp S (prev c)) (x S (prev c)) (pos 0)
+sharpTerm S c =
+    cond (sharp (S .shape) c) (x S (next c)) (pos 0) +ℤ cond (boundary (S .shape .at) (S .shape .n) (prev c)) (x S (prev c)) (pos 0)
 
 abbrev pub ringTerm : View → ℕ → ℤ
 ringTerm S c = pos 2 *ℤ x S (next c) +ℤ pos 2 *ℤ x S (prev c) +ℤ x S (across c)
 
 unfoldable pub sharpSum : View → ℕ → ℤ
-sharpSum S p = sumAt S p (sharpTerm S)
+sharpSum S p = sumAt (S .shape) p (sharpTerm S)
 
 unfoldable pub ringSum : View → ℕ → ℤ
-ringSum S p = sumAt S p (ringTerm S)
+ringSum S p = sumAt (S .shape) p (ringTerm S)
 
-unfoldable pub fixed : View → ℕ → Bool
-fixed S p = eqb (S .tag p) cornerTag || eqb (faces S p) 1
+unfoldable pub fixed : Shape → ℕ → Bool
+fixed G p = eqb (G .tag p) cornerTag || eqb (faces G p) 1
 
 unfoldable pub cornerPoint : View → ℕ → Fraction
 cornerPoint S p =
-    cond (inside S p) (smoothCornerMask (faces S p) (S .value p) (ringSum S p))
-    (cond (fixed S p) (vertexMask (S .value p)) (boundaryCornerMask (S .value p) (sharpSum S p)))
+    cond (inside (S .shape) p) (smoothCornerMask (faces (S .shape) p) (S .value p) (ringSum S p))
+    (cond (fixed (S .shape) p) (vertexMask (S .value p)) (boundaryCornerMask (S .value p) (sharpSum S p)))
 
 unfoldable pub innerPoint : View → ℕ → Fraction
-innerPoint S c = innerMask (weight S c) (x S c) (x S (next c)) (x S (prev c)) (x S (across c))
+innerPoint S c = innerMask (weight (S .shape) c) (x S c) (x S (next c)) (x S (prev c)) (x S (across c))
 
 unfoldable pub edgePoint : View → ℕ → ℕ → Fraction
-edgePoint S c d = edgeMask (weight S c) (x S c) (x S (next c)) (x S (prev c)) (x S (across d)) (x S (across c)) (x S (prev d))
+edgePoint S c d =
+    edgeMask (weight (S .shape) c) (x S c) (x S (next c)) (x S (prev c)) (x S (across d)) (x S (across c)) (x S (prev d))
 
 unfoldable pub alongPoint : View → ℕ → Fraction
-alongPoint S c = cond (sharp S c) (boundaryEdgeMask (x S c) (x S (next c))) (edgePoint S c (twin (S .at) (S .n) c))
+alongPoint S c = cond (sharp (S .shape) c) (boundaryEdgeMask (x S c) (x S (next c))) (edgePoint S c (twin (S .shape .at) (S .shape .n) c))
 
 unfoldable pub beforePoint : View → ℕ → Fraction
-beforePoint S c = cond (sharp S (prev c)) (boundaryEdgeMask (x S c) (x S (prev c))) (edgePoint S (twin (S .at) (S .n) (prev c)) (prev c))
+beforePoint S c =
+    cond (sharp (S .shape) (prev c)) (boundaryEdgeMask (x S c) (x S (prev c))) (edgePoint S (twin (S .shape .at) (S .shape .n) (prev c)) (prev c))
 
 -- the four points of its face that each corner owns
 pub data Kind : Type 0 where
   corner along before inner : Kind
 
 unfoldable pub point : View → ℕ → Kind → Fraction
-point S c corner = cornerPoint S (S .at c)
+point S c corner = cornerPoint S (S .shape .at c)
 point S c along = alongPoint S c
 point S c before = beforePoint S c
 point S c inner = innerPoint S c

@@ -1,6 +1,6 @@
 -- What only the contracts of private functions cite: the tables by vertex that the patches are written from, and what is read from them.
 --
---   vertexWeight S p   the weight at every corner of vertex p
+--   vertexWeight G p   the weight at every corner of vertex p
 --   Tables M twins weights points   the twins of the mesh M, the weight of each vertex, and the corner point of each vertex, in units:
 --                      coordinate k of vertex p at place 3p + k
 --   Placed positions faces n k   each of the first n corners has a coordinate k, within its range
@@ -22,19 +22,19 @@ use Rattle.mesh.specs.Corner.{turn, Corners}
 use Rattle.mesh.specs.HalfEdge.{twin}
 use Rattle.mesh.specs.IndexedMesh.{IndexedMesh, corners, at}
 use Rattle.mesh.specs.Private.{Holds, vertexOf}
-use Rattle.patch.specs.Point.{View, Kind, corner, along, before, inner, faces, inside, weight, cornerPoint, innerPoint, alongPoint, beforePoint}
-use Rattle.patch.specs.Patch.{owner, kind, view, units}
+use Rattle.patch.specs.Point.{Shape, View, Kind, corner, along, before, inner, faces, inside, weight, cornerPoint, innerPoint, alongPoint, beforePoint}
+use Rattle.patch.specs.Patch.{owner, kind, shape, view, units}
 use Rattle.patch.specs.declared.writer.Kind as code
 use Rattle.patch.specs.declared.writer.Kind.the-variants.{Corner, Along, Before, Inner}
 
-unfoldable pub vertexWeight : View → ℕ → ℕ
-vertexWeight S p = cond (inside S p) (faces S p) (2 * faces S p)
+unfoldable pub vertexWeight : Shape → ℕ → ℕ
+vertexWeight G p = cond (inside G p) (faces G p) (2 * faces G p)
 
 pub record Tables (M : IndexedMesh) (twins weights : List ℕ) (points : List ℤ) : Type 0 where
   pub twins-listed : corners M ≤ length twins
   pub twins-are : Holds 0 twins (corners M) (twin (at M) (corners M))
   pub weights-listed : M .vertices ≤ length weights
-  pub weights-are : Holds 0 weights (M .vertices) (vertexWeight (view M 0))
+  pub weights-are : Holds 0 weights (M .vertices) (vertexWeight (shape M))
   pub points-listed : 3 * M .vertices ≤ length points
   pub points-are : (p k : ℕ) → p < M .vertices → k < 3 → getD points (3 * p + k) (pos 0) ≡ units (cornerPoint (view M k) p)
 
@@ -44,14 +44,14 @@ pub record Placed (positions : List ℤ) (faces : List ℕ) (n k : ℕ) : Type 0
 
 abbrev pub seen : List ℤ → List ℕ → ℕ → View
 seen positions faces k =
-    record { n = length faces; at = vertexOf faces; tag = λ p. 0; value = λ p. getD positions (3 * p + k) (pos 0) }
+    record { shape = record { n = length faces; at = vertexOf faces; tag = λ p. 0 }; value = λ p. getD positions (3 * p + k) (pos 0) }
 
 pub record Readable (positions : List ℤ) (faces weights : List ℕ) (k : ℕ) : Type 0 where
   pub corners : Corners (length faces)
   pub placed : Placed positions faces (length faces) k
   pub weighed : (c : ℕ) → c < length faces → vertexOf faces c < length weights
   pub light : (c : ℕ) → c < length faces → getD weights (vertexOf faces c) 0 ≤ 32
-  pub weights-are : (c : ℕ) → c < length faces → getD weights (vertexOf faces c) 0 ≡ weight (seen positions faces k) c
+  pub weights-are : (c : ℕ) → c < length faces → getD weights (vertexOf faces c) 0 ≡ weight (seen positions faces k .shape) c
 
 pub record Twins (faces twins : List ℕ) : Type 0 where
   pub listed : length faces ≤ length twins

@@ -22,7 +22,7 @@ ghost use Rattle.mesh.specs.IndexedMesh.{indexed};
 ghost use Rattle.mesh.specs.WellFormed.{WellFormed};
 ghost use Rattle.mesh.specs.Private.{Holds, vertexOf, Indices};
 ghost use Rattle.patch.specs.Point.{cornerPoint};
-ghost use Rattle.patch.specs.Patch.{view, units};
+ghost use Rattle.patch.specs.Patch.{shape, view, units};
 ghost use Rattle.patch.specs.Private.{vertexWeight, Tables};
 
 // Whether a vertex is inside: so many boundary half-edges leave it.
@@ -73,7 +73,7 @@ fn fill_coordinate(
     requires { ⌜ (k < 3) × (3 * v ≤ length (now points)) ⌝ }
     requires { ⌜ Holds 0 (now twins) (4 * f) (twin (vertexOf (now faces)) (4 * f)) ⌝ }
     requires { ⌜ Holds (pos 0) (now leaving) maxVertices (λ p. pos (gather 0 _+_ (vertexOf (now faces)) (λ c. indicator (boundary (vertexOf (now faces)) (4 * f) c)) (4 * f) p)) ⌝ }
-    requires { ⌜ Holds 0 (now weights) v (vertexWeight (view (indexed v f (now positions) (now tags) (now faces)) 0)) ⌝ }
+    requires { ⌜ Holds 0 (now weights) v (vertexWeight (shape (indexed v f (now positions) (now tags) (now faces)))) ⌝ }
     ensures { λ _. ⌜ ((p : ℕ) → p < v → getD (now (points .exit)) (3 * p + k) (pos 0) ≡ units (cornerPoint (view (indexed v f (now (positions .entry)) (now (tags .entry)) (now (faces .entry))) k) p)) ⌝ }
     ensures { λ _. ⌜ ((p j : ℕ) → j < 3 → (j ≡ k → ⊥) → getD (now (points .exit)) (3 * p + j) (pos 0) ≡ getD (now (points .entry)) (3 * p + j) (pos 0)) ⌝ }
 {

@@ -21,12 +21,12 @@ use Rattle.sample.proofs.SampleLaws.{rounded-ext}
 use Rattle.sample.proofs.RefusalLaws.{place-on}
 use Rattle.patch.specs.Patch.{patchPoint, units, view, patchesAfter}
 use Rattle.patch.proofs.PointLaws.{patch-divisor}
+use Rattle.symmetry.proofs.WellFormedMoves.{sound, alike-well-formed}
 use Rattle.surface.specs.Renumbering.{Renumbering, Place, matching, onSide}
 use Rattle.surface.specs.Claim.{OnMesh, exact, Multiples, exactSum}
 use Rattle.surface.specs.declared.model.SamplePlace.{SamplePlace}
 use Rattle.surface.proofs.PointMoves.{patch-moves}
-use Rattle.surface.proofs.FromRenumbering.{accepted-sound, carried, face-begins}
-use Rattle.surface.proofs.AcceptedMoves.{renumbered-accepted}
+use Rattle.surface.proofs.FromRenumbering.{alike, carried, face-begins}
 use Rattle.surface.proofs.FaceSamples.{sampleFrom, Within, matching-within, side-within, sample-matching}
 use Rattle.surface.proofs.Seam.{twin-inside, seam}
 use Rattle.surface.proofs.Distance.{distance}
@@ -60,9 +60,9 @@ sampled {M} a d long n f p l on =
 module _ {M M′ : IndexedMesh} (r : Renumbering M M′) (a : WellFormed M) (k : ℕ) (axis : k < 3) (f : ℕ) (face : f < M .faces) where
   patch-renumbered : (m : ℕ) → patchPoint (view M′ k) (4 * r .faces .to f) m ≡ patchPoint (view M k) (turn (r .start f) (4 * f)) m
   patch-renumbered m =
-      ap₂ (λ (g c : ℕ). patchPoint (record { n = 4 * g; at = at M′; tag = tag M′; value = view M′ k .value }) c m)
+      ap₂ (λ (g c : ℕ). patchPoint (record { shape = record { n = 4 * g; at = at M′; tag = tag M′ }; value = view M′ k .value }) c m)
       (r .same-faces) (sym (face-begins r f face))
-      ∙ patch-moves (accepted-sound a) (carried r k axis) (turn (r .start f) (4 * f)) (omega arith) m
+      ∙ patch-moves (sound a) (a .fans) (carried r k axis) (turn (r .start f) (4 * f)) (omega arith) m
 
   sample-renumbered : (n : ℕ) (p : Place) → Within n p
       → sampleFrom (view M′ k) n (4 * r .faces .to f) (matching n (r .start f) p) ≡ sampleFrom (view M k) n (4 * f) p
@@ -104,5 +104,5 @@ module _ {M : IndexedMesh} (a : WellFormed M) (d : List ℤ) (long : 48 * M .fac
       let w = matching-within n (r .start f) p (s .2, s .3) in
       sampled a d long n f p l on
       ∙ sym (same-answer M′ M n _ _ _ _ (λ k h. sample-renumbered r a k h f l n p (s .2, s .3)))
-      ∙ sym (sampled (renumbered-accepted a r) d′ long′ n (r .faces .to f) (matching n (r .start f) p)
+      ∙ sym (sampled (alike-well-formed a (alike r)) d′ long′ n (r .faces .to f) (matching n (r .start f) p)
       (rw (r .same-faces) (r .faces .to-below f l)) (place-none n (p .a) (p .b) _ _ on (w .0) (w .1)))

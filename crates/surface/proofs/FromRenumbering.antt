@@ -2,23 +2,21 @@
 --
 --   spot g s         corner s, modulo 4, of face g
 --   to r c, from r c the corner that c has become, and the one that has become c
---   shape r          the two meshes are of one shape
---   carried r k h    and each vertex takes its tag and its coordinate k along
+--   alike r          the two meshes are of one shape, their faces turned the same way
+--   carried r k h    each vertex takes its tag and its coordinate k along
 use mathlib.Core.Path.{_≡_, ap, _∙_}
 use Prim.Native.Nat.{ℕ, _+_, _-_, _*_, _/_, _%_, _<_}
 use native.Mathlib.Omega.{arith}
+use lib.IntN.{natAbs}
 use Rattle.finite.specs.Permutation.{Permutation}
 use Rattle.mesh.specs.Corner.{turn, next}
 use Rattle.mesh.specs.IndexedMesh.{IndexedMesh, corners, at, tag}
-use Rattle.mesh.specs.WellFormed.{WellFormed}
-use Rattle.mesh.proofs.AcceptedLaws.{accepted-corners}
 use Rattle.patch.specs.Patch.{view}
+use Rattle.symmetry.proofs.Sense.{same}
+use Rattle.symmetry.proofs.Iso.{Iso}
+use Rattle.symmetry.proofs.WellFormedMoves.{Alike}
 use Rattle.surface.specs.Renumbering.{Renumbering}
-use Rattle.surface.proofs.Iso.{Sound, Iso}
 use Rattle.surface.proofs.PointMoves.{Carried}
-
-pub accepted-sound : {M : IndexedMesh} → WellFormed M → Sound (corners M) (M .vertices) (at M)
-accepted-sound a = record { whole = accepted-corners a; named = a .named; simple = a .simple }
 
 -- ---- corners by face
 spot : ℕ → ℕ → ℕ
@@ -112,8 +110,20 @@ module _ {M M′ : IndexedMesh} (r : Renumbering M M′) where
       let z : (turn (r .start f) (4 * f) + (4 - r .start f)) % 4 ≡ 0 = omega arith in
       ap (λ (g : ℕ). 4 * r .faces .to g + (turn (r .start f) (4 * f) + (4 - r .start g)) % 4) e ∙ omega arith
 
-  abbrev pub shape : Iso (corners M) (M .vertices) (at M) (at M′)
+  abbrev shape : Iso same (corners M) (M .vertices) (at M) (at M′)
   shape = record { corners = cornerMap; vertices = r .vertices; next-moves = λ c l. next-moves c; at-moves = at-moves }
+
+  pub alike : Alike same M M′
+  alike = record {
+    same-vertices = r .same-vertices;
+    same-faces = r .same-faces;
+    same-positions = r .same-positions;
+    same-tags = r .same-tags;
+    same-indices = r .same-indices;
+    shape = shape;
+    sizes-move = λ p k b h. ap natAbs (r .positions-move p k b h);
+    tags-move = r .tags-move;
+  }
 
   abbrev pub carried : (k : ℕ) → k < 3
       → Carried (corners M) (M .vertices) (at M) (at M′) (tag M) (tag M′) (view M k .value) (view M′ k .value)

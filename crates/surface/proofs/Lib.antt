@@ -1,10 +1,7 @@
--- The proof of the claim, from the two meshes of one shape to the theorem.
-pub mod Iso
+-- The proof of the claim, from what a renumbering is to the theorem.
 pub mod PointMoves
-pub mod FanMoves
 pub mod FromRenumbering
 pub mod RenumberedLaws
-pub mod AcceptedMoves
 pub mod FaceSamples
 pub mod Seam
 pub mod Distance

@@ -11,13 +11,16 @@ use Rattle.finite.proofs.IntegerSum.{sumℤ-monoid}
 use Rattle.mesh.specs.Limits.{noTwin}
 use Rattle.mesh.specs.Corner.{turn, prev}
 use Rattle.mesh.specs.HalfEdge.{twin, boundary}
+use Rattle.mesh.specs.Fan.{fan}
 use Rattle.mesh.proofs.CornerLaws.{turn-below, prev-below}
-use Rattle.patch.specs.Point.{View, x, weight, sharp, sharpSum, ringSum, fixed, cornerPoint, innerPoint, edgePoint, alongPoint, beforePoint, Kind, corner, along, before, inner, point}
+use Rattle.patch.specs.Point.{Shape, View, x, weight, sharp, sharpSum, ringSum, fixed, cornerPoint, innerPoint, edgePoint, alongPoint, beforePoint, Kind, corner, along, before, inner, point}
 use Rattle.patch.specs.Patch.{owner, kind, patchPoint}
-use Rattle.surface.proofs.Iso.{Sound, Iso, turn-moves, at-turn, twin-moves, boundary-moves, gather-moves, valence-moves, on-boundary-moves}
+use Rattle.symmetry.proofs.Sense.{same}
+use Rattle.symmetry.proofs.Iso.{Sound, Iso, turn-moves, at-turn, twin-moves, boundary-moves}
+use Rattle.symmetry.proofs.VertexMoves.{gather-moves, valence-moves, on-boundary-moves}
 
 pub record Carried (n v : ℕ) (at at′ tag tag′ : ℕ → ℕ) (value value′ : ℕ → ℤ) : Type 0 where
-  pub iso : Iso n v at at′
+  pub iso : Iso same n v at at′
   pub tag-moves : (p : ℕ) → p < v → tag′ (iso .vertices .to p) ≡ tag p
   pub value-moves : (p : ℕ) → p < v → value′ (iso .vertices .to p) ≡ value p
 
@@ -25,18 +28,25 @@ cond-same : {A : Type 0} (b b′ : Bool) (y z y′ z′ : A) → b′ ≡ b → 
 cond-same true b′ y z y′ z′ e f g = rw e (f refl)
 cond-same false b′ y z y′ z′ e f g = rw e (g refl)
 
-module _ {n v : ℕ} {at at′ tag tag′ : ℕ → ℕ} {value value′ : ℕ → ℤ} (s : Sound n v at) (i : Carried n v at at′ tag tag′ value value′) where
+module _ {n v : ℕ} {at at′ tag tag′ : ℕ → ℕ} {value value′ : ℕ → ℤ} (s : Sound n v at) (fans : (p : ℕ) → p < v → fan at n p ≡ true)
+    (i : Carried n v at at′ tag tag′ value value′) where
   abbrev φ : ℕ → ℕ
   φ = i .iso .corners .to
 
   abbrev π : ℕ → ℕ
   π = i .iso .vertices .to
 
+  abbrev G : Shape
+  G = record { n = n; at = at; tag = tag }
+
+  abbrev G′ : Shape
+  G′ = record { n = n; at = at′; tag = tag′ }
+
   abbrev S : View
-  S = record { n = n; at = at; tag = tag; value = value }
+  S = record { shape = G; value = value }
 
   abbrev S′ : View
-  S′ = record { n = n; at = at′; tag = tag′; value = value′ }
+  S′ = record { shape = G′; value = value′ }
 
   x-turn : (k c : ℕ) → c < n → x S′ (turn k (φ c)) ≡ x S (turn k c)
   x-turn k c l = ap value′ (at-turn s (i .iso) k c l) ∙ i .value-moves (at (turn k c)) (s .named (turn k c) (turn-below (s .whole) k c l))
@@ -44,14 +54,15 @@ module _ {n v : ℕ} {at at′ tag tag′ : ℕ → ℕ} {value value′ : ℕ �
   x-moves : (c : ℕ) → c < n → x S′ (φ c) ≡ x S c
   x-moves c l = ap value′ (i .iso .at-moves c l) ∙ i .value-moves (at c) (s .named c l)
 
-  sharp-moves : (c : ℕ) → c < n → sharp S′ (φ c) ≡ sharp S c
+  sharp-moves : (c : ℕ) → c < n → sharp G′ (φ c) ≡ sharp G c
   unfolding sharp
   sharp-moves c l = boundary-moves s (i .iso) c l
 
-  weight-moves : (c : ℕ) → c < n → weight S′ (φ c) ≡ weight S c
+  weight-moves : (c : ℕ) → c < n → weight G′ (φ c) ≡ weight G c
   unfolding weight
   weight-moves c l =
-      rw (i .iso .at-moves c l, on-boundary-moves s (i .iso) (at c) (s .named c l), valence-moves s (i .iso) (at c) (s .named c l))
+      let b = s .named c l in
+      rw (i .iso .at-moves c l, on-boundary-moves s (i .iso) (at c) b (fans (at c) b), valence-moves s (i .iso) (at c) b)
 
   -- ---- sums at a vertex
   sharp-sum-moves : (p : ℕ) → p < v → sharpSum S′ (π p) ≡ sharpSum S p
@@ -59,13 +70,13 @@ module _ {n v : ℕ} {at at′ tag tag′ : ℕ → ℕ} {value value′ : ℕ �
   sharp-sum-moves =
       gather-moves s (i .iso) sumℤ-monoid _ _ (λ c l.
       let h = prev-below (s .whole) c l in
-      rw (turn-moves s (i .iso) 3 c l, sharp-moves c l, sharp-moves (prev c) h, x-turn 1 c l, x-moves (prev c) h))
+      rw (turn-moves s (i .iso) 3 c l, sharp-moves c l, boundary-moves s (i .iso) (prev c) h, x-turn 1 c l, x-moves (prev c) h))
 
   ring-sum-moves : (p : ℕ) → p < v → ringSum S′ (π p) ≡ ringSum S p
   unfolding ringSum
   ring-sum-moves = gather-moves s (i .iso) sumℤ-monoid _ _ (λ c l. rw (x-turn 1 c l, x-turn 3 c l, x-turn 2 c l))
 
-  fixed-moves : (p : ℕ) → p < v → fixed S′ (π p) ≡ fixed S p
+  fixed-moves : (p : ℕ) → p < v → fixed G′ (π p) ≡ fixed G p
   unfolding fixed
   fixed-moves p b = rw (i .tag-moves p b, valence-moves s (i .iso) p b)
 
@@ -73,7 +84,14 @@ module _ {n v : ℕ} {at at′ tag tag′ : ℕ → ℕ} {value value′ : ℕ �
   corner-moves : (p : ℕ) → p < v → cornerPoint S′ (π p) ≡ cornerPoint S p
   unfolding cornerPoint
   corner-moves p b =
-      rw (on-boundary-moves s (i .iso) p b, valence-moves s (i .iso) p b, i .value-moves p b, ring-sum-moves p b, fixed-moves p b, sharp-sum-moves p b)
+      rw (
+        on-boundary-moves s (i .iso) p b (fans p b),
+        valence-moves s (i .iso) p b,
+        i .value-moves p b,
+        ring-sum-moves p b,
+        fixed-moves p b,
+        sharp-sum-moves p b,
+      )
 
   inner-moves : (c : ℕ) → c < n → innerPoint S′ (φ c) ≡ innerPoint S c
   unfolding innerPoint
@@ -84,14 +102,14 @@ module _ {n v : ℕ} {at at′ tag tag′ : ℕ → ℕ} {value value′ : ℕ �
   edge-moves c d l k = rw (weight-moves c l, x-moves c l, x-turn 1 c l, x-turn 3 c l, x-turn 2 d k, x-turn 2 c l, x-turn 3 d k)
 
   -- a half-edge that is not sharp has a twin, which is the same
-  sharp-twin : (c : ℕ) → c < n → sharp S c ≡ false → (twin at n c < n) × (twin at′ n (φ c) ≡ φ (twin at n c))
+  sharp-twin : (c : ℕ) → c < n → sharp G c ≡ false → (twin at n c < n) × (twin at′ n (φ c) ≡ φ (twin at n c))
   unfolding sharp boundary
   sharp-twin c l e = ⊎-elim (λ w. w) (λ w. absurd (eqb-false (twin at n c) noTwin e (w .0))) (twin-moves s (i .iso) c l)
 
   along-moves : (c : ℕ) → c < n → alongPoint S′ (φ c) ≡ alongPoint S c
   unfolding alongPoint
   along-moves c l =
-      cond-same (sharp S c) (sharp S′ (φ c)) _ _ _ _ (sharp-moves c l)
+      cond-same (sharp G c) (sharp G′ (φ c)) _ _ _ _ (sharp-moves c l)
       (λ e. rw (x-moves c l, x-turn 1 c l))
       (λ e. let w = sharp-twin c l e in rw (w .1) (edge-moves c (twin at n c) l (w .0)))
 
@@ -100,7 +118,7 @@ module _ {n v : ℕ} {at at′ tag tag′ : ℕ → ℕ} {value value′ : ℕ �
   before-moves c l =
       let h = prev-below (s .whole) c l in
       rw (turn-moves s (i .iso) 3 c l)
-      (cond-same (sharp S (prev c)) (sharp S′ (φ (prev c))) _ _ _ _ (sharp-moves (prev c) h)
+      (cond-same (sharp G (prev c)) (sharp G′ (φ (prev c))) _ _ _ _ (sharp-moves (prev c) h)
       (λ e. rw (x-moves c l, x-moves (prev c) h))
       (λ e. let w = sharp-twin (prev c) h e in rw (w .1) (edge-moves (twin at n (prev c)) (prev c) (w .0) h)))
 

@@ -18,40 +18,41 @@ use Rattle.surface.specs.Renumbering.{place, onSide}
 use Rattle.surface.proofs.FaceSamples.{sampleFrom, sample-side}
 
 -- the edge point on a half-edge that is not sharp near its start, and near its end
-along-inner : (S : View) (c : ℕ) → sharp S c ≡ false → alongPoint S c ≡ edgePoint S c (twin (S .at) (S .n) c)
+along-inner : (S : View) (c : ℕ) → sharp (S .shape) c ≡ false → alongPoint S c ≡ edgePoint S c (twin (S .shape .at) (S .shape .n) c)
 unfolding alongPoint
 along-inner S c e = rw e
 
-before-inner : (S : View) (c : ℕ) → sharp S c ≡ false → beforePoint S (next c) ≡ edgePoint S (twin (S .at) (S .n) c) c
+before-inner : (S : View) (c : ℕ) → sharp (S .shape) c ≡ false → beforePoint S (next c) ≡ edgePoint S (twin (S .shape .at) (S .shape .n) c) c
 unfolding beforePoint
 before-inner S c e = rw (prev-next c, e)
 
-module _ (S : View) (k : Corners (S .n)) (simple : Simple (S .n) (S .at)) (c : ℕ) (l : c < S .n) (e : boundary (S .at) (S .n) c ≡ false) where
+module _ (S : View) (k : Corners (S .shape .n)) (simple : Simple (S .shape .n) (S .shape .at)) (c : ℕ)
+    (l : c < S .shape .n) (e : boundary (S .shape .at) (S .shape .n) c ≡ false) where
   abbrev d : ℕ
-  d = twin (S .at) (S .n) c
+  d = twin (S .shape .at) (S .shape .n) c
 
-  inner : sharp S c ≡ false
+  inner : sharp (S .shape) c ≡ false
   unfolding sharp
   inner = e
 
-  pub twin-inside : twin (S .at) (S .n) c < S .n
-  twin-inside = twin-below S c inner
+  pub twin-inside : twin (S .shape .at) (S .shape .n) c < S .shape .n
+  twin-inside = twin-below (S .shape) c inner
 
-  back : twin (S .at) (S .n) d ≡ c
-  back = twin-twin (S .at) k simple c l twin-inside
+  back : twin (S .shape .at) (S .shape .n) d ≡ c
+  back = twin-twin (S .shape .at) k simple c l twin-inside
 
-  inner-twin : sharp S d ≡ false
+  inner-twin : sharp (S .shape) d ≡ false
   unfolding sharp boundary
-  inner-twin = ne-eqb (twin (S .at) (S .n) d) noTwin (λ q. not-none k c l (sym back ∙ q))
+  inner-twin = ne-eqb (twin (S .shape .at) (S .shape .n) d) noTwin (λ q. not-none k c l (sym back ∙ q))
 
   twin-points : (i : ℕ) → i < 4 → patchPoint S d i ≡ patchPoint S c (3 - i)
   unfolding patchPoint owner kind point
-  twin-points zero b = ap (cornerPoint S) (ap (S .at) (turn-none d) ∙ twin-ends (S .n) (S .at) c k twin-inside .0)
+  twin-points zero b = ap (cornerPoint S) (ap (S .shape .at) (turn-none d) ∙ twin-ends (S .shape .n) (S .shape .at) c k twin-inside .0)
   twin-points (suc zero) b = rw turn-none (along-inner S d inner-twin) ∙ ap (edgePoint S d) back ∙ sym (before-inner S c inner)
   twin-points (suc (suc zero)) b =
       before-inner S d inner-twin ∙ ap (λ (j : ℕ). edgePoint S j d) back ∙ sym (rw turn-none (along-inner S c inner))
   twin-points (suc (suc (suc zero))) b =
-      ap (cornerPoint S) (twin-ends (S .n) (S .at) c k twin-inside .1 ∙ ap (S .at) (sym (turn-none c)))
+      ap (cornerPoint S) (twin-ends (S .shape .n) (S .shape .at) c k twin-inside .1 ∙ ap (S .shape .at) (sym (turn-none c)))
   twin-points (suc (suc (suc (suc i)))) b = absurd (omega arith)
 
   -- "the sample at place t of the side and the sample at place N - t of its mate"

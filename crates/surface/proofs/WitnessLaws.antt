@@ -19,13 +19,14 @@ use Rattle.sample.specs.Bernstein.{coordinateAt}
 use Rattle.sample.specs.Answer.{Answer, point, meaning as sampled}
 use Rattle.patch.specs.Patch.{patchesAfter}
 use Rattle.patch.specs.Answer.{listsShort, patchAnswer, patchTwins, patchList}
+use Rattle.symmetry.proofs.WellFormedMoves.{alike-well-formed, alike-counts}
 use Rattle.surface.specs.Claim.{OnMesh, coordinateOf, number, Claim}
 use Rattle.surface.specs.Renumbering.{place}
 use Rattle.surface.specs.Witness.{sampleAt, Evaluated, Witnessed}
 use Rattle.surface.specs.declared.model.SamplePlace.{SamplePlace}
 use Rattle.surface.specs.declared.model.Evaluation.{Evaluation}
 use Rattle.surface.specs.declared.model.Witness.{Witness}
-use Rattle.surface.proofs.AcceptedMoves.{renumbered-accepted, renumbered-counts}
+use Rattle.surface.proofs.FromRenumbering.{alike}
 use Rattle.surface.proofs.AnsweredLaws.{answered}
 use Rattle.surface.proofs.ClaimLaws.{distance-on, seam-on, renumbered-on}
 
@@ -85,11 +86,11 @@ module _ {M M′ : IndexedMesh} {d d′ b b′ : List ℕ} {e e′ p p′ : List
           here ∙ ap (sampleAt after n) at-q ∙ seam-on a e (patches-long d e a long) n c t h inner on
           ∙ sym (other-is ∙ sample-on d e a long n o ∙ ap (sampleAt after n) at-o);
       counted = λ r long′.
-          let k = renumbered-counts a r in
+          let k = alike-counts a (alike r) in
           first .mesh-is ∙ accepted-answer d e a long
-          ∙ sym (second .mesh-is ∙ accepted-answer d′ e′ (renumbered-accepted a r) long′ ∙ rw (k .0, k .1, r .same-vertices, r .same-faces));
+          ∙ sym (second .mesh-is ∙ accepted-answer d′ e′ (alike-well-formed a (alike r)) long′ ∙ rw (k .0, k .1, r .same-vertices, r .same-faces));
       renumbered = λ r long′ on at-q′.
-          let a′ = renumbered-accepted a r in
+          let a′ = alike-well-formed a (alike r) in
           here ∙ renumbered-on a e (patches-long d e a long) n r e′ (patches-long d′ e′ a′ long′) (q .face) (place (q .a) (q .b)) (on .0) (on .1)
           ∙ sym (second .sample-is ∙ sample-on d′ e′ a′ long′ n q′ ∙ ap (sampleAt (patchesAfter M′ e′) n) at-q′);
     }

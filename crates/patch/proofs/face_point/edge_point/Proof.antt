@@ -59,7 +59,7 @@ module _ (c : tie.After-turned-value5) where
   abbrev S : View
   S = seen (start .args .positions .now) (start .args .faces .now) (start .args .k)
 
-  weight-read : value .before .corner-weight .result ≡ weight S (start .args .c)
+  weight-read : value .before .corner-weight .result ≡ weight (S .shape) (start .args .c)
   weight-read = value .before .corner-weight .ensures ∙ start .pre .0 .weights-are (start .args .c) (start .pre .1)
 
   p-read : toZ w64 (ofZ w64 (value .corner-value .result)) ≡ x S (start .args .c)

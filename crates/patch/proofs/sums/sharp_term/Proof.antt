@@ -56,14 +56,16 @@ module _ (c : tie.After-sharp-value2) where
   abbrev start : tie.Start
   start = c .before .before .before .before .before .before
 
-  leaving-read : toZ w64 (ofZ w64 (c .before .sharp-value .result)) ≡ cond (sharp (S start) (start .args .c)) (x (S start) (turn 1 (start .args .c))) (pos 0)
+  leaving-read : toZ w64 (ofZ w64 (c .before .sharp-value .result))
+      ≡ cond (sharp (S start .shape) (start .args .c)) (x (S start) (turn 1 (start .args .c))) (pos 0)
   unfolding sharp boundary
   leaving-read =
       read-back w64 (c .before .sharp-value .ok)
       (c .before .sharp-value .ensures
       ∙ ap₂ (λ (t d : ℕ). cond (eqb t noTwin) (x (S start) d) (pos 0)) (start .pre .1 .0 (start .args .c) (start .pre .0 .2)) (c .before .before .turned2 .ensures))
 
-  entering-read : toZ w64 (ofZ w64 (c .sharp-value2 .result)) ≡ cond (sharp (S start) (turn 3 (start .args .c))) (x (S start) (turn 3 (start .args .c))) (pos 0)
+  entering-read : toZ w64 (ofZ w64 (c .sharp-value2 .result))
+      ≡ cond (boundary (S start .shape .at) (S start .shape .n) (turn 3 (start .args .c))) (x (S start) (turn 3 (start .args .c))) (pos 0)
   unfolding sharp boundary
   entering-read =
       read-back w64 (c .sharp-value2 .ok)
@@ -74,8 +76,8 @@ module _ (c : tie.After-sharp-value2) where
 plus-requires : tie.Need-plus-requires
 plus-requires c κs =
     let s = start c in
-    let leaving = cond-size (sharp (S s) (s .args .c)) (x (S s) (turn 1 (s .args .c))) maxCoordinate (size s 1) in
-    let entering = cond-size (sharp (S s) (turn 3 (s .args .c))) (x (S s) (turn 3 (s .args .c))) maxCoordinate (size s 3) in
+    let leaving = cond-size (sharp (S s .shape) (s .args .c)) (x (S s) (turn 1 (s .args .c))) maxCoordinate (size s 1) in
+    let entering = cond-size (boundary (S s .shape .at) (S s .shape .n) (turn 3 (s .args .c))) (x (S s) (turn 3 (s .args .c))) maxCoordinate (size s 3) in
     rw (leaving-read c, entering-read c) (omega (arith, leaving, entering))
 
 returns : tie.Need-returns

@@ -14,7 +14,7 @@ use borrow.Author.Needs.{needs}
 use Rattle.mesh.specs.Limits.{maxVertices}
 use Rattle.mesh.specs.IndexedMesh.{IndexedMesh, indexed}
 use Rattle.patch.specs.Point.{View, inside, sharp, sharpSum, ringSum, cornerPoint}
-use Rattle.patch.specs.Patch.{view, units}
+use Rattle.patch.specs.Patch.{shape, view, units}
 use Rattle.patch.specs.Private.{vertexWeight}
 use Rattle.patch.proofs.SumLaws.{read-back}
 use Rattle.patch.proofs.TableLaws.{accepted-indices, accepted-placed, corner-asked, sharp-size, inside-count, corner-entries, strided-more, strided-other}
@@ -64,10 +64,10 @@ module _ (c : tie.After-corner-point-arg2 Inv-loop μ-loop) where
   value-read : toZ w64 (ofZ w64 (valued .coordinate .result)) ≡ S .value p
   value-read = read-back w64 (valued .coordinate .ok) (valued .coordinate .ensures)
 
-  weight-read : getD (start head .args .weights .now) p 0 ≡ vertexWeight (view (mesh head) 0) p
+  weight-read : getD (start head .args .weights .now) p 0 ≡ vertexWeight (shape (mesh head)) p
   weight-read = start head .pre .1 .1 .1 .1 p below
 
-  inside-read : c .before .before .before .before .inside .result ≡ inside S p
+  inside-read : c .before .before .before .before .inside .result ≡ inside (S .shape) p
   inside-read =
       let f : SFits w64 (getD (start head .args .leaving .now) p (pos 0)) = record { sfits = c .before .before .before .before .before .inside-arg .given } in
       (simp (toZ-ofZ f) at (c .before .before .before .before .inside .ensures))

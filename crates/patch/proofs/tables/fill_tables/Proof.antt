@@ -16,7 +16,7 @@ use Rattle.mesh.specs.Fan.{valence}
 use Rattle.mesh.specs.IndexedMesh.{IndexedMesh, indexed}
 use Rattle.mesh.specs.Private.{Holds, vertexOf}
 use Rattle.patch.specs.Point.{cornerPoint}
-use Rattle.patch.specs.Patch.{view, units}
+use Rattle.patch.specs.Patch.{shape, view, units}
 use Rattle.patch.specs.Private.{vertexWeight}
 use Rattle.patch.proofs.TableLaws.{accepted-indices, inside-count, strided-all}
 use Rattle.patch.proofs.tables.fill_tables.Statement.{statement}
@@ -42,7 +42,7 @@ module _ (c : tie.After-fill-weights Inv-loop μ-loop) where
   abbrev start : tie.Start Inv-loop μ-loop
   start = counted .before .before .before .before .before .before
 
-  weights-are : Holds 0 (c .fill-weights .last .1 .1 .1 .1 .0) (start .args .v) (vertexWeight (view (mesh start) 0))
+  weights-are : Holds 0 (c .fill-weights .last .1 .1 .1 .1 .0) (start .args .v) (vertexWeight (shape (mesh start)))
   unfolding vertexWeight
   weights-are p l =
       let m = valence (vertexOf (start .args .faces .now)) (4 * start .args .f) p in

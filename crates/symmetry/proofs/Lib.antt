@@ -1,0 +1,7 @@
+-- The laws of the crate: what two meshes of one shape have in common.
+pub mod Sense
+pub mod Iso
+pub mod VertexMoves
+pub mod FanBack
+pub mod FanMoves
+pub mod WellFormedMoves
