@@ -7,3 +7,4 @@ pub mod Counting
 pub mod Gather
 pub mod FilledLaws
 pub mod IntegerSum
+pub mod TableLaws

@@ -1,9 +1,17 @@
--- A table of causes in the order of checking, each with its number, and the first one that is met.
--- Document 01: "A call gives a number in the table exactly when its cause is the first met".
+-- A table of causes to refuse, in the order of checking, each with its number, and the first one that is met: a call gives a number
+-- exactly when its cause is the first met.
+--
+--   firstMet rows        the number of the first cause that is met, if one is
+--   Answer A             what a call returns: its result, or the number of a refusal
+--   answerBy met a       the refusal that was met, else the result a
+--   writtenBy met before after   a lent list afterwards: as it was before after a refusal, else what was written
+--   outcome r            the answer of a call without a result, for each case of the code's enum `Outcome`
 use mathlib.Core.Bool.{Bool, cond}
 use mathlib.Core.List.{List, [], _∷_}
 use mathlib.Core.Option.{Option, none, some}
 use Prim.Native.Nat.{ℕ}
+use Rattle.finite.specs.declared.model.Outcome.{Outcome}
+use Rattle.finite.specs.declared.model.Outcome.the-variants.{Done, Refused}
 
 -- a row of the table
 pub record Row : Type 0 where
@@ -13,7 +21,22 @@ pub record Row : Type 0 where
 abbrev pub row : Bool → ℕ → Row
 row cause number = record { cause = cause; number = number }
 
--- the number of the first cause that is met, if one is
 abbrev pub firstMet : List Row → Option ℕ
 firstMet [] = none
 firstMet (r ∷ rows) = cond (r .cause) (some (r .number)) (firstMet rows)
+
+pub data Answer (A : Type 0) : Type 0 where
+  result : A → Answer A
+  refusal : ℕ → Answer A
+
+abbrev pub answerBy : {A : Type 0} → Option ℕ → A → Answer A
+answerBy none a = result a
+answerBy (some k) a = refusal k
+
+abbrev pub writtenBy : {A : Type 0} → Option ℕ → A → A → A
+writtenBy none before after = after
+writtenBy (some k) before after = before
+
+abbrev pub outcome : Outcome → Answer Unit
+outcome Done = result tt
+outcome (Refused k) = refusal k

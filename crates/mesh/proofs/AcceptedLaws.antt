@@ -1,8 +1,10 @@
--- An accepted mesh and the causes of refusal: the facts of `WellFormed` hold exactly when no cause that concerns the mesh itself is met.
+-- An accepted mesh and the causes of refusal: the facts of `WellFormed` hold exactly where the mesh is `Accepted`, which is to say that no
+-- cause that concerns the mesh itself is met.
 -- For each cause, `-false` says what follows where it is not met, and `-none` that these facts rule it out.
-use mathlib.Core.Path.{_≡_, refl, ap}
-use mathlib.Core.Bool.{Bool, true, false, not, cond}
-use mathlib.Core.Option.{Option, none, some}
+use mathlib.Core.Path.{_≡_, refl, ap, _∙_}
+use mathlib.Core.Bool.{true, false, not}
+use mathlib.Core.List.{List, []}
+use mathlib.Core.Option.{none}
 use Prim.Native.Nat.{ℕ, suc, _+_, _*_, _≤_, _<_}
 use native.Mathlib.Omega.{arith}
 use lib.Dec.{eqb}
@@ -11,26 +13,18 @@ use lib.ListN.{length}
 use borrow.Author.Tests.{ltb-false, leb-false, eqb-true, eqb-false, not-false, le-ltb, lt-leb, eq-eqb, ne-eqb}
 use Rattle.finite.proofs.FoldLaws.{bool-cases}
 use Rattle.finite.proofs.AnyAll.{any-false, any-none}
-use Rattle.finite.specs.Table.{firstMet}
+use Rattle.finite.specs.Table.{Row, firstMet}
+use Rattle.finite.proofs.TableLaws.{skipped, none-met, none-append, append-none}
 use Rattle.mesh.specs.Limits.{minVertices, maxVertices, minFaces, maxFaces, maxCoordinate, minValence, maxValence, minBoundaryFaces, maxBoundaryFaces, cornerTag}
 use Rattle.mesh.specs.Corner.{turn, next, Corners}
 use Rattle.mesh.specs.HalfEdge.{edges, boundaries, Simple}
 use Rattle.mesh.specs.Fan.{valence, onBoundary, fan}
 use Rattle.mesh.specs.IndexedMesh.{IndexedMesh, corners, at, tag, coordinate}
-use Rattle.mesh.specs.Refusal.{off, sizesOff, coordinateOff, tagOff, vertexOff, vertexTwice, halfEdgeTwice, vertexUnused, fanBroken, valenceOff, innerTagged, earlyRows, lateRows}
+use Rattle.mesh.specs.Refusal.{off, sizesOff, meshSizesOff, coordinateOff, tagOff, vertexOff, vertexTwice, halfEdgeTwice, vertexUnused, fanBroken, valenceOff, innerTagged, entryRows, earlyRows, lateRows, Accepted}
 use Rattle.mesh.specs.WellFormed.{Sized, WellFormed}
 use Rattle.mesh.proofs.TwinLaws.{doubled-simple, simple-doubled}
 use Rattle.mesh.proofs.SizeLaws.{off-false, sizes-false}
 use Rattle.mesh.proofs.EdgeLaws.{edges-twice}
-
--- ---- the rows of the table: `firstMet (row b k ∷ rows)` is `cond b (some k) (firstMet rows)`
--- nothing is met: not this cause, and nothing after it
-pub met-false : (b : Bool) (k : ℕ) (rest : Option ℕ) → cond b (some k) rest ≡ none → (b ≡ false) × (rest ≡ none)
-met-false true k rest e = let z : _≡_ {A = ℕ} 0 1 = cc in absurd (omega arith)
-met-false false k rest e = (refl, e)
-
-pub met-none : {b : Bool} {rest : Option ℕ} (k : ℕ) → b ≡ false → rest ≡ none → cond b (some k) rest ≡ none
-met-none k e r = rw e r
 
 -- ---- 1: sizes
 pub off-none : (a b x : ℕ) → a ≤ x → x ≤ b → off a b x ≡ false
@@ -93,49 +87,49 @@ module _ (M : IndexedMesh) where
   unfolding halfEdgeTwice
   half-edge-none h = simple-doubled (corners M) (at M) h
 
+module _ (at : ℕ → ℕ) (n v : ℕ) where
   -- ---- 8: a vertex in no face
-  pub unused-false : vertexUnused M ≡ false → (p : ℕ) → p < M .vertices → 0 < valence (at M) (corners M) p
+  pub unused-false : vertexUnused at n v ≡ false → (p : ℕ) → p < v → 0 < valence at n p
   unfolding vertexUnused
-  unused-false e p l = omega (arith, eqb-false (valence (at M) (corners M) p) 0 (any-false _ (M .vertices) e p l))
+  unused-false e p l = omega (arith, eqb-false (valence at n p) 0 (any-false _ v e p l))
 
-  pub unused-none : ((p : ℕ) → p < M .vertices → 0 < valence (at M) (corners M) p) → vertexUnused M ≡ false
+  pub unused-none : ((p : ℕ) → p < v → 0 < valence at n p) → vertexUnused at n v ≡ false
   unfolding vertexUnused
-  unused-none h = any-none _ (M .vertices) (λ p l. ne-eqb (valence (at M) (corners M) p) 0 (λ e. omega (arith, h p l)))
+  unused-none h = any-none _ v (λ p l. ne-eqb (valence at n p) 0 (λ e. omega (arith, h p l)))
 
   -- ---- 9: the corners at a vertex
-  pub fan-false : fanBroken M ≡ false → (p : ℕ) → p < M .vertices → fan (at M) (corners M) p ≡ true
+  pub fan-false : fanBroken at n v ≡ false → (p : ℕ) → p < v → fan at n p ≡ true
   unfolding fanBroken
-  fan-false e p l = not-false (fan (at M) (corners M) p) (any-false _ (M .vertices) e p l)
+  fan-false e p l = not-false (fan at n p) (any-false _ v e p l)
 
-  pub fan-none : ((p : ℕ) → p < M .vertices → fan (at M) (corners M) p ≡ true) → fanBroken M ≡ false
+  pub fan-none : ((p : ℕ) → p < v → fan at n p ≡ true) → fanBroken at n v ≡ false
   unfolding fanBroken
-  fan-none h = any-none _ (M .vertices) (λ p l. ap not (h p l))
+  fan-none h = any-none _ v (λ p l. ap not (h p l))
 
   -- ---- 10: how many corners are at an inner vertex, and at one of the boundary
-  pub inner-false : valenceOff M ≡ false → (p : ℕ) → p < M .vertices → onBoundary (at M) (corners M) p ≡ false
-      → (minValence ≤ valence (at M) (corners M) p) × (valence (at M) (corners M) p ≤ maxValence)
+  pub inner-false : valenceOff at n v ≡ false → (p : ℕ) → p < v → onBoundary at n p ≡ false
+      → (minValence ≤ valence at n p) × (valence at n p ≤ maxValence)
   unfolding valenceOff
-  inner-false e p l b = off-false minValence maxValence (valence (at M) (corners M) p) (rw b at (any-false _ (M .vertices) e p l))
+  inner-false e p l b = off-false minValence maxValence (valence at n p) (rw b at (any-false _ v e p l))
 
-  pub boundary-false : valenceOff M ≡ false → (p : ℕ) → p < M .vertices → onBoundary (at M) (corners M) p ≡ true
-      → (minBoundaryFaces ≤ valence (at M) (corners M) p) × (valence (at M) (corners M) p ≤ maxBoundaryFaces)
+  pub boundary-false : valenceOff at n v ≡ false → (p : ℕ) → p < v → onBoundary at n p ≡ true
+      → (minBoundaryFaces ≤ valence at n p) × (valence at n p ≤ maxBoundaryFaces)
   unfolding valenceOff
-  boundary-false e p l b = off-false minBoundaryFaces maxBoundaryFaces (valence (at M) (corners M) p) (rw b at (any-false _ (M .vertices) e p l))
+  boundary-false e p l b = off-false minBoundaryFaces maxBoundaryFaces (valence at n p) (rw b at (any-false _ v e p l))
 
   pub valence-none :
-      ((p : ℕ) → p < M .vertices → onBoundary (at M) (corners M) p ≡ false
-      → (minValence ≤ valence (at M) (corners M) p) × (valence (at M) (corners M) p ≤ maxValence))
-      → ((p : ℕ) → p < M .vertices → onBoundary (at M) (corners M) p ≡ true
-      → (minBoundaryFaces ≤ valence (at M) (corners M) p) × (valence (at M) (corners M) p ≤ maxBoundaryFaces))
-      → valenceOff M ≡ false
+      ((p : ℕ) → p < v → onBoundary at n p ≡ false → (minValence ≤ valence at n p) × (valence at n p ≤ maxValence))
+      → ((p : ℕ) → p < v → onBoundary at n p ≡ true → (minBoundaryFaces ≤ valence at n p) × (valence at n p ≤ maxBoundaryFaces))
+      → valenceOff at n v ≡ false
   unfolding valenceOff
   valence-none inner outer =
-      any-none _ (M .vertices) (λ p l.
-      let m = valence (at M) (corners M) p in
-      bool-cases (onBoundary (at M) (corners M) p)
+      any-none _ v (λ p l.
+      let m = valence at n p in
+      bool-cases (onBoundary at n p)
       (λ t. let w = outer p l t in rw t (off-none minBoundaryFaces maxBoundaryFaces m (w .0) (w .1)))
       (λ t. let w = inner p l t in rw t (off-none minValence maxValence m (w .0) (w .1))))
 
+module _ (M : IndexedMesh) where
   -- ---- 11: the tags of inner vertices
   pub tagged-false : innerTagged M ≡ false → (p : ℕ) → p < M .vertices → tag M p ≡ cornerTag → onBoundary (at M) (corners M) p ≡ true
   unfolding innerTagged
@@ -147,35 +141,42 @@ module _ (M : IndexedMesh) where
       any-none _ (M .vertices) (λ p l.
       bool-cases (eqb (tag M p) cornerTag) (λ t. rw (t, h p l (eqb-true (tag M p) cornerTag t))) (λ t. rw t))
 
--- ---- no cause is met exactly where the mesh is accepted
-pub accepted-early : {M : IndexedMesh} → WellFormed M → firstMet (earlyRows M false) ≡ none
-accepted-early {M} a =
-    met-none 1 (sizes-none (a .sized))
-    (met-none 3 (coordinate-none M (a .coordinates))
-    (met-none 4 (tag-none M (a .tags-known))
-    (met-none 5 (vertex-none M (a .named))
-    (met-none 6 (twice-none M (a .distinct))
-    (met-none 7 (half-edge-none M (a .simple)) refl)))))
+-- ---- no cause is met exactly where the mesh is well-formed
+pub accepted-early : {M : IndexedMesh} → WellFormed M → (own : List Row) → firstMet own ≡ none → firstMet (earlyRows M own) ≡ none
+accepted-early {M} a own e =
+    skipped 1 _ (sizes-none (a .sized))
+    ∙ none-append own (entryRows M) e
+    ∙ skipped 3 _ (coordinate-none M (a .coordinates))
+    ∙ skipped 4 _ (tag-none M (a .tags-known))
+    ∙ skipped 5 _ (vertex-none M (a .named))
+    ∙ skipped 6 _ (twice-none M (a .distinct))
+    ∙ skipped 7 _ (half-edge-none M (a .simple))
 
 pub accepted-late : {M : IndexedMesh} → WellFormed M → firstMet (lateRows M) ≡ none
 accepted-late {M} a =
-    met-none 8 (unused-none M (a .used))
-    (met-none 9 (fan-none M (a .fans))
-    (met-none 10 (valence-none M (λ p l b. (a .inner-low p l b, a .inner-high p l b)) (λ p l b. (a .boundary-low p l b, a .boundary-high p l b)))
-    (met-none 11 (tagged-none M (a .tagged-boundary)) refl)))
+    skipped 8 _ (unused-none (at M) (corners M) (M .vertices) (a .used))
+    ∙ skipped 9 _ (fan-none (at M) (corners M) (M .vertices) (a .fans))
+    ∙ skipped 10 _
+    (valence-none (at M) (corners M) (M .vertices)
+    (λ p l b. (a .inner-low p l b, a .inner-high p l b))
+    (λ p l b. (a .boundary-low p l b, a .boundary-high p l b)))
+    ∙ skipped 11 _ (tagged-none M (a .tagged-boundary))
 
-pub accepted-from : (M : IndexedMesh) → firstMet (earlyRows M false) ≡ none → firstMet (lateRows M) ≡ none → WellFormed M
-accepted-from M early late =
-    let h₁ = met-false (sizesOff (M .vertices) (M .faces) (length (M .positions)) (length (M .tags)) (length (M .indices))) 1 _ early in
-    let h₃ = met-false (coordinateOff M) 3 _ (h₁ .1) in
-    let h₄ = met-false (tagOff M) 4 _ (h₃ .1) in
-    let h₅ = met-false (vertexOff M) 5 _ (h₄ .1) in
-    let h₆ = met-false (vertexTwice M) 6 _ (h₅ .1) in
-    let h₇ = met-false (halfEdgeTwice M) 7 _ (h₆ .1) in
-    let h₈ = met-false (vertexUnused M) 8 _ late in
-    let h₉ = met-false (fanBroken M) 9 _ (h₈ .1) in
-    let h₁₀ = met-false (valenceOff M) 10 _ (h₉ .1) in
-    let h₁₁ = met-false (innerTagged M) 11 _ (h₁₀ .1) in
+pub accepted-from : (M : IndexedMesh) (own : List Row) → firstMet (earlyRows M own) ≡ none → firstMet (lateRows M) ≡ none → WellFormed M
+accepted-from M own early late =
+    let h₁ = none-met (meshSizesOff M) 1 _ early in
+    let h₂ = append-none own (entryRows M) (h₁ .1) in
+    let h₃ = none-met (coordinateOff M) 3 _ (h₂ .1) in
+    let h₄ = none-met (tagOff M) 4 _ (h₃ .1) in
+    let h₅ = none-met (vertexOff M) 5 _ (h₄ .1) in
+    let h₆ = none-met (vertexTwice M) 6 _ (h₅ .1) in
+    let h₇ = none-met (halfEdgeTwice M) 7 _ (h₆ .1) in
+    let h₈ = none-met (vertexUnused (at M) (corners M) (M .vertices)) 8 _ late in
+    let h₉ = none-met (fanBroken (at M) (corners M) (M .vertices)) 9 _ (h₈ .1) in
+    let h₁₀ = none-met (valenceOff (at M) (corners M) (M .vertices)) 10 _ (h₉ .1) in
+    let h₁₁ = none-met (innerTagged M) 11 _ (h₁₀ .1) in
+    let inner = inner-false (at M) (corners M) (M .vertices) (h₁₀ .0) in
+    let outer = boundary-false (at M) (corners M) (M .vertices) (h₁₀ .0) in
     record {
       sized = sizes-false (M .vertices) (M .faces) (length (M .positions)) (length (M .tags)) (length (M .indices)) (h₁ .0);
       coordinates = coordinate-false M (h₃ .0);
@@ -183,14 +184,22 @@ accepted-from M early late =
       named = vertex-false M (h₅ .0);
       distinct = twice-false M (h₆ .0);
       simple = half-edge-false M (h₇ .0);
-      used = unused-false M (h₈ .0);
-      fans = fan-false M (h₉ .0);
-      inner-low = λ p l b. inner-false M (h₁₀ .0) p l b .0;
-      inner-high = λ p l b. inner-false M (h₁₀ .0) p l b .1;
-      boundary-low = λ p l b. boundary-false M (h₁₀ .0) p l b .0;
-      boundary-high = λ p l b. boundary-false M (h₁₀ .0) p l b .1;
+      used = unused-false (at M) (corners M) (M .vertices) (h₈ .0);
+      fans = fan-false (at M) (corners M) (M .vertices) (h₉ .0);
+      inner-low = λ p l b. inner p l b .0;
+      inner-high = λ p l b. inner p l b .1;
+      boundary-low = λ p l b. outer p l b .0;
+      boundary-high = λ p l b. outer p l b .1;
       tagged-boundary = tagged-false M (h₁₁ .0);
     }
+
+pub well-formed-accepted : {M : IndexedMesh} → WellFormed M → Accepted M
+unfolding Accepted
+well-formed-accepted {M} a = none-append (earlyRows M []) (lateRows M) (accepted-early a [] refl) ∙ accepted-late a
+
+pub accepted-well-formed : {M : IndexedMesh} → Accepted M → WellFormed M
+unfolding Accepted
+accepted-well-formed {M} e = let h = append-none (earlyRows M []) (lateRows M) e in accepted-from M [] (h .0) (h .1)
 
 -- ---- what an accepted mesh has
 pub accepted-corners : {M : IndexedMesh} → WellFormed M → Corners (corners M)

@@ -1,62 +1,69 @@
--- What the check answers and what it leaves in the list of twins, whatever it is passed.
+-- What a mesh call answers and what it leaves in the list of twins, whatever it is passed.
 --
---   Answer              what document 01 lets a mesh call return: "The check returns V, F, E and B", or the number of a refusal
---   meaning r           that answer, for each case of the code's enum `Checked`
---   meshAnswer M short  the answer for the mesh M, where `short` says that a lent list is too short
---   twinsAfter M short d   the list of twins afterwards, which held d: untouched, all `noTwin`, or the twins
---   checkAnswer, checkTwins   the two for the check, which is lent a list of twins alone
+--   countsOf M          "The check returns V, F, E and B": of the mesh M
+--   checked r           the answer, for each case of the code's enum `Checked`: the counts, or the number of a refusal
+--   meshRefusal M own after   the refusal that the mesh M meets in a call with rows of its own: `own` after row 1, `after` behind all rows of
+--                       the mesh
+--   meshAnswer M own after   the answer of that call: its counts, or the refusal
+--   twinsAfter M own after d   the list of twins afterwards, which held d: untouched after an early refusal, all `noTwin` after a later one,
+--                       else the twins
+--   lentRows M d        the row of a call that is lent the twins d: "lent list too short (4F mates ..)"
+--   given k             a row of a call that found the cause of number k met among its own, 0 for none
+--   MeshChecked M own d r d'   what a call that checks the mesh M, with rows of its own, answers and leaves in the lent twins
 --   faceCorners indices f     "The four corners of a face are handed back as that part of the face list itself,
---                             and an empty part for a face f with 4f + 4 above the list's length."
-use mathlib.Core.Bool.{Bool, cond}
-use mathlib.Core.List.{List, []}
-use mathlib.Core.Option.{Option, none, some}
+--                       and an empty part for a face f with 4f + 4 above the list's length."
+use mathlib.Core.Path.{_≡_}
+use mathlib.Core.Bool.{Bool, not, cond}
+use mathlib.Core.List.{List, [], _∷_, _++_}
+use mathlib.Core.Option.{Option}
 use Prim.Native.Nat.{ℕ, _+_, _*_}
-use lib.Dec.{ltb, leb}
+use lib.Dec.{eqb, ltb, leb}
 use lib.ListN.{length, take, drop}
 use Rattle.finite.specs.Filled.{filled}
+use Rattle.finite.specs.Table.{Row, row, firstMet, Answer, result, refusal, answerBy, writtenBy}
 use Rattle.mesh.specs.Limits.{noTwin}
 use Rattle.mesh.specs.HalfEdge.{twin, edges, boundaries}
 use Rattle.mesh.specs.IndexedMesh.{IndexedMesh, corners, at}
-use Rattle.finite.specs.Table.{firstMet}
 use Rattle.mesh.specs.Refusal.{earlyRows, lateRows}
+use Rattle.mesh.specs.declared.model.Mesh.{Mesh}
 use Rattle.mesh.specs.declared.model.Checked.{Checked}
 use Rattle.mesh.specs.declared.model.Checked.the-variants.{Accepted, Refused}
 
-pub data Answer : Type 0 where
-  -- V, F, E, B
-  counts : ℕ → ℕ → ℕ → ℕ → Answer
-  refusal : ℕ → Answer
+abbrev pub countsOf : IndexedMesh → Mesh
+countsOf M = record {
+  vertices = M .vertices;
+  faces = M .faces;
+  edges = edges (at M) (corners M) (M .vertices);
+  boundary = boundaries (at M) (corners M);
+}
 
-abbrev pub meaning : Checked → Answer
-meaning (Accepted m) = counts (m .vertices) (m .faces) (m .edges) (m .boundary)
-meaning (Refused k) = refusal k
+abbrev pub checked : Checked → Answer Mesh
+checked (Accepted m) = result m
+checked (Refused k) = refusal k
 
--- the refusal that was met, else what comes without one
-abbrev pub unless : {A : Type 0} → Option ℕ → (ℕ → A) → A → A
-unless none refused otherwise = otherwise
-unless (some k) refused otherwise = refused k
+unfoldable pub meshRefusal : IndexedMesh → List Row → List Row → Option ℕ
+meshRefusal M own after = firstMet (earlyRows M own ++ (lateRows M ++ after))
 
-unfoldable pub meshAnswer : IndexedMesh → Bool → Answer
-meshAnswer M short =
-    unless (firstMet (earlyRows M short)) refusal
-    (unless (firstMet (lateRows M)) refusal
-    (counts (M .vertices) (M .faces) (edges (at M) (corners M) (M .vertices)) (boundaries (at M) (corners M))))
+abbrev pub meshAnswer : IndexedMesh → List Row → List Row → Answer Mesh
+meshAnswer M own after = answerBy (meshRefusal M own after) (countsOf M)
 
-unfoldable pub twinsAfter : IndexedMesh → Bool → List ℕ → List ℕ
-twinsAfter M short d =
-    unless (firstMet (earlyRows M short)) (λ k. d)
-    (unless (firstMet (lateRows M)) (λ k. filled (λ c. noTwin) (corners M) d)
-    (filled (twin (at M) (corners M)) (corners M) d))
+unfoldable pub twinsAfter : IndexedMesh → List Row → List Row → List ℕ → List ℕ
+twinsAfter M own after d =
+    writtenBy (firstMet (earlyRows M own)) d
+    (writtenBy (firstMet (lateRows M ++ after)) (filled (λ c. noTwin) (corners M) d) (filled (twin (at M) (corners M)) (corners M) d))
 
--- "lent list too short (4F mates ..)"
 abbrev pub twinsShort : IndexedMesh → List ℕ → Bool
 twinsShort M d = ltb (length d) (corners M)
 
-abbrev pub checkAnswer : IndexedMesh → List ℕ → Answer
-checkAnswer M d = meshAnswer M (twinsShort M d)
+abbrev pub lentRows : IndexedMesh → List ℕ → List Row
+lentRows M d = row (twinsShort M d) 2 ∷ []
 
-abbrev pub checkTwins : IndexedMesh → List ℕ → List ℕ
-checkTwins M d = twinsAfter M (twinsShort M d) d
+abbrev pub given : ℕ → Row
+given k = row (not (eqb k 0)) k
+
+pub record MeshChecked (M : IndexedMesh) (own : List Row) (d : List ℕ) (r : Checked) (d' : List ℕ) : Type 0 where
+  pub answer-is : checked r ≡ meshAnswer M own []
+  pub twins-are : d' ≡ twinsAfter M own [] d
 
 unfoldable pub faceCorners : List ℕ → ℕ → List ℕ
 faceCorners indices f = cond (leb (4 * f + 4) (length indices)) (take 4 (drop (4 * f) indices)) []

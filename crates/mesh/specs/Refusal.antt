@@ -1,13 +1,15 @@
 -- When a mesh is turned down: the causes of document 01's table, "When a call says no", each as a Bool rendered from its sentence,
 -- and the table itself in the order of checking. "Checked in the order of the numbers; each looks at the whole mesh before the next begins."
+use mathlib.Core.Path.{_≡_}
 use mathlib.Core.Bool.{Bool, not, cond, _&&_, _||_}
-use mathlib.Core.List.{List, [], _∷_}
+use mathlib.Core.List.{List, [], _∷_, _++_}
+use mathlib.Core.Option.{none}
 use Prim.Native.Nat.{ℕ, suc, _*_}
 use lib.Dec.{eqb, ltb, leb}
 use lib.IntN.{natAbs}
 use lib.ListN.{length}
 use Rattle.finite.specs.Fold.{anyBelow}
-use Rattle.finite.specs.Table.{Row, row}
+use Rattle.finite.specs.Table.{Row, row, firstMet}
 use Rattle.mesh.specs.Limits.{minVertices, maxVertices, minFaces, maxFaces, maxCoordinate, minValence, maxValence, minBoundaryFaces, maxBoundaryFaces, cornerTag}
 use Rattle.mesh.specs.Corner.{turn}
 use Rattle.mesh.specs.HalfEdge.{doubled}
@@ -23,6 +25,9 @@ unfoldable pub sizesOff : ℕ → ℕ → ℕ → ℕ → ℕ → Bool
 sizesOff v f positions tags indices =
     off minVertices maxVertices v || (off minFaces maxFaces f
     || (not (eqb positions (3 * v)) || (not (eqb tags v) || not (eqb indices (4 * f)))))
+
+abbrev pub meshSizesOff : IndexedMesh → Bool
+meshSizesOff M = sizesOff (M .vertices) (M .faces) (length (M .positions)) (length (M .tags)) (length (M .indices))
 
 -- 3: "coordinate off its range"
 unfoldable pub coordinateOff : IndexedMesh → Bool
@@ -44,38 +49,54 @@ vertexTwice M = anyBelow (λ c. anyBelow (λ i. eqb (at M (turn (suc i) c)) (at 
 unfoldable pub halfEdgeTwice : IndexedMesh → Bool
 halfEdgeTwice M = doubled (at M) (corners M)
 
+-- 8 to 10 look at the vertices `at c` of the n corners alone, for the vertices below v
 -- 8: "vertex in no face"
-unfoldable pub vertexUnused : IndexedMesh → Bool
-vertexUnused M = anyBelow (λ p. eqb (valence (at M) (corners M) p) 0) (M .vertices)
+unfoldable pub vertexUnused : (ℕ → ℕ) → ℕ → ℕ → Bool
+vertexUnused at n v = anyBelow (λ p. eqb (valence at n p) 0) v
 
 -- 9: "corners at a vertex form neither one turn nor one chain"
-unfoldable pub fanBroken : IndexedMesh → Bool
-fanBroken M = anyBelow (λ p. not (fan (at M) (corners M) p)) (M .vertices)
+unfoldable pub fanBroken : (ℕ → ℕ) → ℕ → ℕ → Bool
+fanBroken at n v = anyBelow (λ p. not (fan at n p)) v
 
 -- 10: "n or k off its range", of a vertex with m corners
 abbrev pub valenceBad : Bool → ℕ → Bool
 valenceBad boundary m = cond boundary (off minBoundaryFaces maxBoundaryFaces m) (off minValence maxValence m)
 
-unfoldable pub valenceOff : IndexedMesh → Bool
-valenceOff M = anyBelow (λ p. valenceBad (onBoundary (at M) (corners M) p) (valence (at M) (corners M) p)) (M .vertices)
+unfoldable pub valenceOff : (ℕ → ℕ) → ℕ → ℕ → Bool
+valenceOff at n v = anyBelow (λ p. valenceBad (onBoundary at n p) (valence at n p)) v
 
 -- 11: "tag 1 at an inner vertex"
 unfoldable pub innerTagged : IndexedMesh → Bool
 innerTagged M = anyBelow (λ p. eqb (tag M p) cornerTag && not (onBoundary (at M) (corners M) p)) (M .vertices)
 
--- the rows that are checked before the twins are written: "an earlier refusal does not touch them". Row 2 is the call's own:
--- whether one of the lists that it was lent is too short
-abbrev pub earlyRows : IndexedMesh → Bool → List Row
-earlyRows M short =
-    row (sizesOff (M .vertices) (M .faces) (length (M .positions)) (length (M .tags)) (length (M .indices))) 1
-    ∷ (row short 2
-    ∷ (row (coordinateOff M) 3
+-- ---- the table
+-- the rows of the entries of the lists, and of half-edges: 3 to 7
+abbrev pub entryRows : IndexedMesh → List Row
+entryRows M =
+    row (coordinateOff M) 3
     ∷ (row (tagOff M) 4
     ∷ (row (vertexOff M) 5
     ∷ (row (vertexTwice M) 6
-    ∷ (row (halfEdgeTwice M) 7 ∷ []))))))
+    ∷ (row (halfEdgeTwice M) 7 ∷ []))))
 
--- the rows after it: "After 8 to 11 .. the first 4F mates hold 65535"
+-- the rows that are checked before the twins are written: a refusal by one of them touches no list. The rows `own` are the call's own:
+-- whether one of the lists that it was lent is too short (2), and what later calls add there
+abbrev pub earlyRows : IndexedMesh → List Row → List Row
+earlyRows M own =
+    row (meshSizesOff M) 1 ∷ (own ++ entryRows M)
+
+-- the rows of the corners at each vertex: 8 to 10
+abbrev pub fanRows : (ℕ → ℕ) → ℕ → ℕ → List Row
+fanRows at n v = row (vertexUnused at n v) 8 ∷ (row (fanBroken at n v) 9 ∷ (row (valenceOff at n v) 10 ∷ []))
+
+-- the rows of what is listed by vertex: 11
+abbrev pub vertexRows : IndexedMesh → List Row
+vertexRows M = row (innerTagged M) 11 ∷ []
+
+-- the rows after it: a refusal by one of them leaves no twin in the first 4F places
 abbrev pub lateRows : IndexedMesh → List Row
-lateRows M =
-    row (vertexUnused M) 8 ∷ (row (fanBroken M) 9 ∷ (row (valenceOff M) 10 ∷ (row (innerTagged M) 11 ∷ [])))
+lateRows M = fanRows (at M) (corners M) (M .vertices) ++ vertexRows M
+
+-- "A mesh is accepted when no cause in the table below that concerns the mesh itself is met": no row but the calls' own
+unfoldable pub Accepted : IndexedMesh → Type 0
+Accepted M = firstMet (earlyRows M [] ++ lateRows M) ≡ none

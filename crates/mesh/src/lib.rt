@@ -15,9 +15,11 @@ use crate::model::Mesh;
 use crate::phases::accepted;
 use crate::phases::early_refusal;
 use crate::phases::late_refusal;
+use crate::phases::own_refusal;
 ghost use mathlib.Core.Path.{_≡_};
+ghost use mathlib.Core.List.{[], _∷_};
 ghost use Rattle.mesh.specs.IndexedMesh.{indexed};
-ghost use Rattle.mesh.specs.Answer.{meaning, checkAnswer, checkTwins, faceCorners};
+ghost use Rattle.mesh.specs.Answer.{checked, meshAnswer, lentRows, given, MeshChecked, faceCorners};
 
 // The corners of face f.
 // Returns: the four vertex numbers of the face, as that part of the face list; an empty part where 4f + 4 is above its length.
@@ -36,7 +38,7 @@ pub fn face_corners(faces: &[u16], f: usize) -> &[u16]
 // The check of a whole mesh of v vertices and f faces.
 // Returns: V, F, E and B of an accepted mesh, or the number of the refusal.
 // Writes: the twins (document 01's mates) into the first 4f places of twins, 65535 for a boundary half-edge; 65535 into all of
-// them after a refusal from 8 to 11.
+// them after a refusal from 8 on.
 // Leaves alone: the twins from 4f on; all of them after a refusal from 1 to 7.
 // Refuses, in this order: 1 sizes, 2 twins shorter than 4f, 3 coordinate, 4 tag, 5 vertex number, 6 vertex twice in a face,
 // 7 half-edge twice, 8 vertex in no face, 9 corners at a vertex neither one turn nor one chain, 10 valence, 11 tag at an inner vertex.
@@ -49,21 +51,38 @@ pub fn check(
     faces: &[u16],
     twins: &mut [u16],
 ) -> Checked
-    ensures { λ r. ⌜ meaning r ≡ checkAnswer (indexed v f (now (positions .entry)) (now (tags .entry)) (now (faces .entry))) (now (twins .entry)) ⌝ }
-    ensures { λ r. ⌜ now (twins .exit) ≡ checkTwins (indexed v f (now (positions .entry)) (now (tags .entry)) (now (faces .entry))) (now (twins .entry)) ⌝ }
+    ensures { λ r. ⌜ (let M = indexed v f (now (positions .entry)) (now (tags .entry)) (now (faces .entry)) in MeshChecked M (lentRows M (now (twins .entry))) (now (twins .entry)) r (now (twins .exit))) ⌝ }
+{
+    check_after(0, v, f, positions, tags, faces, twins)
+}
+
+// The check of a whole mesh with a list of twins of its own, for calls that lend none.
+// Returns: V, F, E and B of an accepted mesh, or the number of the refusal. Writes: nothing.
+// Refuses: as `check`, but for 2, which has no list to speak of.
+pub fn check_alone(v: usize, f: usize, positions: &[i32], tags: &[u8], faces: &[u16]) -> Checked
+    ensures { λ r. ⌜ checked r ≡ meshAnswer (indexed v f (now (positions .entry)) (now (tags .entry)) (now (faces .entry))) [] [] ⌝ }
+{
+    let mut twins = [0u16; 4 * Mesh::MAX_FACES];
+    check_after(0, v, f, positions, tags, faces, &mut twins)
+}
+
+// The check of a whole mesh for a call that has causes of its own after 1: `own` is the number of the first of them that is met, 0 for none.
+// Returns, writes, leaves alone, refuses: as `check`, with `own` before 2.
+pub fn check_after(
+    own: u8,
+    v: usize,
+    f: usize,
+    positions: &[i32],
+    tags: &[u8],
+    faces: &[u16],
+    twins: &mut [u16],
+) -> Checked
+    ensures { λ r. ⌜ (let M = indexed v f (now (positions .entry)) (now (tags .entry)) (now (faces .entry)) in MeshChecked M (given own ∷ lentRows M (now (twins .entry))) (now (twins .entry)) r (now (twins .exit))) ⌝ }
 {
     let mut head = [0u16; Mesh::MAX_VERTICES];
     let mut link = [0u16; 4 * Mesh::MAX_FACES];
-    let early = early_refusal(
-        v,
-        f,
-        positions,
-        tags,
-        faces,
-        twins.len(),
-        &mut head,
-        &mut link,
-    );
+    let first = own_refusal(own, f, twins.len());
+    let early = early_refusal(first, v, f, positions, tags, faces, &mut head, &mut link);
     if early != 0 {
         return Checked::Refused(early);
     }

@@ -1,4 +1,4 @@
-// The two groups of causes, those checked before the twins are written and those after, and the counts of a mesh that meets none.
+// The groups of causes, in the order of the table, and the counts of a mesh that meets none.
 use crate::chain::link_corners;
 use crate::count::count_edges;
 use crate::entries::any_coordinate_off;
@@ -14,40 +14,37 @@ use crate::vertex::any_valence_off;
 use crate::vertex::count_corners;
 use crate::vertex::mark_boundary;
 ghost use mathlib.Core.Path.{_≡_};
-ghost use mathlib.Core.List.{[]};
+ghost use mathlib.Core.Bool.{false};
+ghost use mathlib.Core.List.{List, [], _∷_};
 ghost use Prim.Native.Nat.{_*_, _≤_};
 ghost use lib.Dec.{eqb, ltb};
+ghost use lib.IntN.{ℤ};
 ghost use lib.ListN.{length};
+ghost use Rattle.finite.specs.Table.{row, firstMet};
 ghost use Rattle.mesh.specs.Limits.{maxVertices, maxFaces};
 ghost use Rattle.mesh.specs.HalfEdge.{twin, edges, boundaries, Simple};
 ghost use Rattle.mesh.specs.IndexedMesh.{indexed};
-ghost use Rattle.finite.specs.Table.{firstMet};
-ghost use Rattle.mesh.specs.Refusal.{earlyRows, lateRows};
-ghost use Rattle.mesh.specs.Private.{refusalOf, Holds, vertexOf, latest, Chained, Indices, Counted};
+ghost use Rattle.mesh.specs.WellFormed.{Sized};
+ghost use Rattle.mesh.specs.Refusal.{lateRows};
+ghost use Rattle.mesh.specs.Answer.{given};
+ghost use Rattle.mesh.specs.Private.{refusalOf, Holds, vertexOf, latest, Indices, EntriesMet, EarlyMet, FansMet, Counted};
 
-// Causes 1 to 7. Where none is met, head and link are the chains of all corners afterwards; they come in zeroed.
-pub(crate) fn early_refusal(
+// Causes 3 to 7, of lists that have the lengths of the sizes. Where none is met, head and link are the chains of all corners afterwards;
+// they come in zeroed.
+fn entry_refusal(
     v: usize,
     f: usize,
     positions: &[i32],
     tags: &[u8],
     faces: &[u16],
-    twins: usize,
     head: &mut [u16],
     link: &mut [u16],
 ) -> u8
-    requires { ⌜ (maxVertices ≤ length (now head)) × (4 * maxFaces ≤ length (now link)) ⌝ }
-    requires { ⌜ Holds 0 (now head) maxVertices (λ p. 0) ⌝ }
-    ensures { λ r. ⌜ firstMet (earlyRows (indexed v f (now (positions .entry)) (now (tags .entry)) (now (faces .entry))) (ltb twins (4 * f))) ≡ refusalOf r ⌝ }
-    ensures { λ r. ⌜ (r ≡ 0 → Chained (vertexOf (now (faces .entry))) (4 * f) (now (head .exit)) (now (link .exit))) ⌝ }
+    requires { ⌜ Sized v f (length (now positions)) (length (now tags)) (length (now faces)) ⌝ }
+    requires { ⌜ (maxVertices ≤ length (now head)) × (4 * maxFaces ≤ length (now link)) × Holds 0 (now head) maxVertices (λ p. 0) ⌝ }
+    ensures { λ r. ⌜ EntriesMet (indexed v f (now (positions .entry)) (now (tags .entry)) (now (faces .entry))) (now (head .exit)) (now (link .exit)) r ⌝ }
 {
-    if sizes_off(v, f, positions.len(), tags.len(), faces.len()) {
-        return 1;
-    }
     let n = 4 * f;
-    if twins < n {
-        return 2;
-    }
     if any_coordinate_off(positions, 3 * v) {
         return 3;
     }
@@ -66,7 +63,77 @@ pub(crate) fn early_refusal(
     0
 }
 
+// Causes 1 to 7, with the call's own after 1: `own` is the number of the first of them that is met, 0 for none. Head and link as above.
+pub(crate) fn early_refusal(
+    own: u8,
+    v: usize,
+    f: usize,
+    positions: &[i32],
+    tags: &[u8],
+    faces: &[u16],
+    head: &mut [u16],
+    link: &mut [u16],
+) -> u8
+    requires { ⌜ (maxVertices ≤ length (now head)) × (4 * maxFaces ≤ length (now link)) × Holds 0 (now head) maxVertices (λ p. 0) ⌝ }
+    ensures { λ r. ⌜ EarlyMet (indexed v f (now (positions .entry)) (now (tags .entry)) (now (faces .entry))) own (now (head .exit)) (now (link .exit)) r ⌝ }
+{
+    if sizes_off(v, f, positions.len(), tags.len(), faces.len()) {
+        return 1;
+    }
+    if own != 0 {
+        return own;
+    }
+    entry_refusal(v, f, positions, tags, faces, head, link)
+}
+
+// The first of the call's own causes that is met: `own`, where it is not 0, else 2 where there are too few places for the twins of f faces.
+pub(crate) fn own_refusal(own: u8, f: usize, twins: usize) -> u8
+    ensures { λ r. ⌜ firstMet (given own ∷ (row (ltb twins (4 * f)) 2 ∷ [])) ≡ refusalOf r ⌝ }
+{
+    if own != 0 {
+        return own;
+    }
+    if twins / 4 < f {
+        return 2;
+    }
+    0
+}
+
+// Causes 8 to 10, of a mesh whose twins are written; head has the last corner at each vertex. Where none is met, on_boundary tells the
+// vertices of the boundary afterwards; it comes in without marks.
+fn fan_refusal(
+    v: usize,
+    f: usize,
+    faces: &[u16],
+    twins: &[u16],
+    head: &[u16],
+    on_boundary: &mut [bool],
+) -> u8
+    requires { ⌜ Indices (now faces) (4 * f) × Simple (4 * f) (vertexOf (now faces)) × (v ≤ maxVertices) ⌝ }
+    requires { ⌜ (4 * f ≤ length (now twins)) × (maxVertices ≤ length (now head)) × (maxVertices ≤ length (now «on_boundary»)) ⌝ }
+    requires { ⌜ Holds 0 (now twins) (4 * f) (twin (vertexOf (now faces)) (4 * f)) ⌝ }
+    requires { ⌜ Holds 0 (now head) maxVertices (λ p. latest (λ d. eqb (vertexOf (now faces) d) p) (4 * f)) ⌝ }
+    requires { ⌜ Holds false (now «on_boundary») maxVertices (λ p. false) ⌝ }
+    ensures { λ r. ⌜ FansMet (vertexOf (now (faces .entry))) (4 * f) v (now («on_boundary» .exit)) r ⌝ }
+{
+    let n = 4 * f;
+    let mut valences = [0u16; Mesh::MAX_VERTICES];
+    count_corners(faces, n, &mut valences);
+    if any_unused(&valences, v) {
+        return 8;
+    }
+    if any_fan_broken(faces, n, v, twins, &valences, head) {
+        return 9;
+    }
+    mark_boundary(faces, n, twins, on_boundary);
+    if any_valence_off(&valences, on_boundary, v) {
+        return 10;
+    }
+    0
+}
+
 // Causes 8 to 11, of a mesh that meets none of the earlier ones and whose twins are written; head has the last corner at each vertex.
+// None of them looks at a position.
 pub(crate) fn late_refusal(
     v: usize,
     f: usize,
@@ -79,21 +146,12 @@ pub(crate) fn late_refusal(
     requires { ⌜ (4 * f ≤ length (now twins)) × (maxVertices ≤ length (now head)) ⌝ }
     requires { ⌜ Holds 0 (now twins) (4 * f) (twin (vertexOf (now faces)) (4 * f)) ⌝ }
     requires { ⌜ Holds 0 (now head) maxVertices (λ p. latest (λ d. eqb (vertexOf (now faces) d) p) (4 * f)) ⌝ }
-    ensures { λ r. ⌜ firstMet (lateRows (indexed v f [] (now (tags .entry)) (now (faces .entry)))) ≡ refusalOf r ⌝ }
+    ensures { λ r. ⌜ ((positions : List ℤ) → firstMet (lateRows (indexed v f positions (now (tags .entry)) (now (faces .entry)))) ≡ refusalOf r) ⌝ }
 {
-    let n = 4 * f;
-    let mut valences = [0u16; Mesh::MAX_VERTICES];
-    count_corners(faces, n, &mut valences);
-    if any_unused(&valences, v) {
-        return 8;
-    }
-    if any_fan_broken(faces, n, v, twins, &valences, head) {
-        return 9;
-    }
     let mut on_boundary = [false; Mesh::MAX_VERTICES];
-    mark_boundary(faces, n, twins, &mut on_boundary);
-    if any_valence_off(&valences, &on_boundary, v) {
-        return 10;
+    let fans = fan_refusal(v, f, faces, twins, head, &mut on_boundary);
+    if fans != 0 {
+        return fans;
     }
     if any_inner_tagged(tags, &on_boundary, v) {
         return 11;

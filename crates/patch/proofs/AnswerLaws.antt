@@ -1,84 +1,86 @@
 -- From the answer of the check to that of the patch call.
-use mathlib.Core.Path.{_≡_, refl, sym, _∙_, subst}
-use mathlib.Core.Bool.{Bool, true, false, or-true, or-false}
-use mathlib.Core.List.{List, []}
+use mathlib.Core.Path.{_≡_, refl, sym, ap, _∙_}
+use mathlib.Core.Bool.{Bool, true, false, cond, _||_}
+use mathlib.Core.List.{List, [], _∷_}
 use mathlib.Core.Option.{Option, none, some}
-use Prim.Native.Nat.{ℕ, _*_, _/_, _≤_, _<_}
+use Prim.Native.Nat.{ℕ, _*_, _≤_}
 use native.Mathlib.Omega.{arith}
 use lib.IntN.{ℤ}
 use lib.ListN.{length}
-use borrow.Author.Tests.{lt-ltb, le-ltb, ltb-false}
+use borrow.Author.Tests.{ltb-false}
 use Rattle.finite.specs.Filled.{filled}
-use Rattle.finite.specs.Table.{firstMet}
-use Rattle.finite.proofs.FoldLaws.{bool-cases}
+use Rattle.finite.specs.Table.{Row, row, firstMet, Answer, result, refusal, answerBy, writtenBy}
+use Rattle.finite.proofs.TableLaws.{none-met, append-none, none-append, result-none}
+use Rattle.finite.proofs.AnyAll.{or-false}
 use Rattle.finite.proofs.FilledLaws.{length-filled, filled-at}
 use Rattle.mesh.specs.HalfEdge.{twin}
 use Rattle.mesh.specs.IndexedMesh.{IndexedMesh, corners, at}
-use Rattle.mesh.specs.Refusal.{sizesOff, earlyRows, lateRows}
+use Rattle.mesh.specs.Refusal.{earlyRows, lateRows}
 use Rattle.mesh.specs.WellFormed.{WellFormed}
-use Rattle.mesh.specs.Answer.{Answer, counts, refusal, unless, meshAnswer, twinsAfter, twinsShort}
+use Rattle.mesh.specs.Answer.{countsOf, meshRefusal, meshAnswer, twinsAfter, twinsShort, lentRows, given}
+use Rattle.mesh.specs.declared.model.Mesh.{Mesh}
 use Rattle.mesh.specs.Private.{Holds}
 use Rattle.mesh.proofs.AcceptedLaws.{accepted-from}
-use Rattle.mesh.proofs.PhaseLaws.{early-1, early-2, early-passed, twins-accepted}
-use Rattle.patch.specs.Answer.{listsShort, written}
+use Rattle.mesh.proofs.PhaseLaws.{early-passed, refusal-alike, twins-alike, twins-accepted}
+use Rattle.patch.specs.Patch.{patchesAfter}
+use Rattle.patch.specs.Answer.{patchesShort, listsShort, patchRows, patchAnswer, patchTwins, patchList}
 
--- ---- a list that is too short
-module _ (M : IndexedMesh) where
-  -- 1 or 2 is met
-  short-early : {B : Type 0} → ((k : ℕ) → firstMet (earlyRows M true) ≡ some k → B) → B
-  short-early met =
-      bool-cases (sizesOff (M .vertices) (M .faces) (length (M .positions)) (length (M .tags)) (length (M .indices)))
-      (λ e. met 1 (early-1 M true e))
-      (λ e. met 2 (early-2 M true e refl))
+-- ---- the call's own row, as it is handed to the check: first the patch list, then the twins
+given-short : (twins patches : Bool) → firstMet (given (cond patches 2 0) ∷ (row twins 2 ∷ [])) ≡ firstMet (row (twins || patches) 2 ∷ [])
+given-short true true = refl
+given-short true false = refl
+given-short false true = refl
+given-short false false = refl
 
-  pub short-written : (d : List ℤ) → written (meshAnswer M true) M d ≡ d
-  unfolding meshAnswer
-  short-written d = short-early (λ k e. rw e)
+module _ (M : IndexedMesh) (d : List ℕ) (e : List ℤ) (own : ℕ) (short : own ≡ cond (patchesShort M e) 2 0) where
+  same-rows : firstMet (given own ∷ lentRows M d) ≡ firstMet (patchRows M d e)
+  same-rows = rw short (given-short (twinsShort M d) (patchesShort M e))
 
-  pub short-twins : (d : List ℕ) → twinsAfter M true d ≡ d
-  unfolding twinsAfter
-  short-twins d = short-early (λ k e. rw e)
+  pub same-refusal : meshRefusal M (given own ∷ lentRows M d) [] ≡ meshRefusal M (patchRows M d e) []
+  same-refusal = refusal-alike M (given own ∷ lentRows M d) (patchRows M d e) (λ _. same-rows) []
 
-  pub patches-short : (twins : List ℕ) (patches : List ℤ) → length patches / 48 < M .faces → listsShort M twins patches ≡ true
-  patches-short twins patches l = rw (lt-ltb (length patches) (48 * M .faces) (omega arith)) (or-true (twinsShort M twins))
+  pub same-answer : meshAnswer M (given own ∷ lentRows M d) [] ≡ patchAnswer M d e
+  same-answer = ap (λ (k : Option ℕ). answerBy k (countsOf M)) same-refusal
 
-  pub none-short : 0 < M .faces → twinsShort M [] ≡ true
-  none-short l = lt-ltb 0 (corners M) (omega arith)
+  pub same-twins : twinsAfter M (given own ∷ lentRows M d) [] d ≡ patchTwins M d e
+  same-twins = twins-alike M (given own ∷ lentRows M d) (patchRows M d e) (λ _. same-rows) [] d
 
-  pub patches-long : (twins : List ℕ) (patches : List ℤ) → M .faces ≤ length patches / 48 → listsShort M twins patches ≡ twinsShort M twins
-  patches-long twins patches l = rw (le-ltb (length patches) (48 * M .faces) (omega arith)) (or-false (twinsShort M twins))
+-- ---- a refusal leaves the patch list alone
+pub refused-list : {A : Type 0} (a : A) {k : ℕ} (met : Option ℕ) (d w : List ℤ) → refusal k ≡ answerBy met a → writtenBy met d w ≡ d
+refused-list a none d w q = let z : _≡_ {A = ℕ} 0 1 = cc in absurd (omega arith)
+refused-list a (some j) d w q = refl
 
 -- ---- an accepted mesh
-unless-counts : {v f e b : ℕ} (met : Option ℕ) (x : Answer) → counts v f e b ≡ unless met refusal x → (met ≡ none) × (counts v f e b ≡ x)
-unless-counts none x q = (refl, q)
-unless-counts (some k) x q = let z : _≡_ {A = ℕ} 0 1 = cc in absurd (omega arith)
+module _ (M : IndexedMesh) (d : List ℕ) (e : List ℤ) {m : Mesh} (answer : result m ≡ patchAnswer M d e) where
+  unmet : meshRefusal M (patchRows M d e) [] ≡ none
+  unmet = result-none (meshRefusal M (patchRows M d e) []) answer .0
 
-module _ (M : IndexedMesh) (short : Bool) {v f e b : ℕ} (answer : counts v f e b ≡ meshAnswer M short) where
-  rows : (firstMet (earlyRows M short) ≡ none) × (firstMet (lateRows M) ≡ none)
-  unfolding meshAnswer
-  rows =
-      let early = unless-counts (firstMet (earlyRows M short)) _ answer in
-      (early .0, unless-counts (firstMet (lateRows M)) _ (early .1) .0)
+  parts : (firstMet (earlyRows M (patchRows M d e)) ≡ none) × (firstMet (lateRows M) ≡ none)
+  unfolding meshRefusal
+  parts = append-none (earlyRows M (patchRows M d e)) (lateRows M) unmet
 
-  pub counts-long : short ≡ false
-  counts-long = early-passed M short (rows .0) .long
+  lists-long : listsShort M d e ≡ false
+  lists-long = none-met (listsShort M d e) 2 none (early-passed M (patchRows M d e) (parts .0) .0) .0
 
-  pub counts-accepted : WellFormed M
-  counts-accepted = accepted-from M (subst (λ (s : Bool). firstMet (earlyRows M s) ≡ none) counts-long (rows .0)) (rows .1)
+  pub twins-long : corners M ≤ length d
+  twins-long = ltb-false (length d) (corners M) (or-false (twinsShort M d) (patchesShort M e) lists-long .0)
 
-  pub counts-twins : (d : List ℕ) → twinsAfter M short d ≡ filled (twin (at M) (corners M)) (corners M) d
-  counts-twins d = sym (twins-accepted M short (rows .0) (rows .1) d)
+  pub patches-long : 48 * M .faces ≤ length e
+  patches-long = ltb-false (length e) (48 * M .faces) (or-false (twinsShort M d) (patchesShort M e) lists-long .1)
 
--- the twins that the check left
-module _ (M : IndexedMesh) (d m : List ℕ) {v f e b : ℕ} (answer : counts v f e b ≡ meshAnswer M (twinsShort M d)) (left : m ≡ twinsAfter M (twinsShort M d) d) where
-  filled-twins : m ≡ filled (twin (at M) (corners M)) (corners M) d
-  filled-twins = left ∙ counts-twins M (twinsShort M d) answer d
+  pub result-well-formed : WellFormed M
+  result-well-formed = accepted-from M (patchRows M d e) (parts .0) (parts .1)
 
-  long : corners M ≤ length d
-  long = ltb-false (length d) (corners M) (counts-long M (twinsShort M d) answer)
+  pub result-list : patchList M d e ≡ patchesAfter M e
+  result-list = rw unmet
 
-  pub twins-listed : corners M ≤ length m
-  twins-listed = rw (filled-twins, length-filled (twin (at M) (corners M)) (corners M) d long) long
+  -- the twins that the call left
+  module _ (t : List ℕ) (left : t ≡ patchTwins M d e) where
+    filled-twins : t ≡ filled (twin (at M) (corners M)) (corners M) d
+    filled-twins = left ∙ sym (twins-accepted M (patchRows M d e) (parts .0) (parts .1) d)
 
-  pub twins-held : Holds 0 m (corners M) (twin (at M) (corners M))
-  twins-held c l = rw filled-twins (filled-at (twin (at M) (corners M)) (corners M) c d 0 l)
+    pub twins-listed : corners M ≤ length t
+    twins-listed = rw (filled-twins, length-filled (twin (at M) (corners M)) (corners M) d twins-long) twins-long
+
+    pub twins-held : Holds 0 t (corners M) (twin (at M) (corners M))
+    twins-held c l = rw filled-twins (filled-at (twin (at M) (corners M)) (corners M) c d 0 l)

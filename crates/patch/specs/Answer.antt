@@ -1,17 +1,24 @@
 -- What the patch call answers and what it leaves in the two lists that it is lent, whatever it is passed.
 --
 --   listsShort M twins patches   "lent list too short (4F mates, 48F patch numbers)"
+--   patchRows ..     the call's own row
 --   patchAnswer ..   "The patch call checks the whole mesh": the answer is the check's, and "returns the same four counts"
 --   patchTwins ..    the list of twins afterwards: "The patch call lends mates too; accepted, it fills them as the check does"
 --   patchList ..     the patch list afterwards: written where the mesh is accepted, and as it was after a refusal
+--   Patched M d e r d' e'   r is the answer of the patch call on the mesh M with the lent twins d and patch list e; d' and e' are the lists
+--                    afterwards
+use mathlib.Core.Path.{_≡_}
 use mathlib.Core.Bool.{Bool, _||_}
-use mathlib.Core.List.{List}
+use mathlib.Core.List.{List, [], _∷_}
 use Prim.Native.Nat.{ℕ, _*_}
 use lib.Dec.{ltb}
 use lib.IntN.{ℤ}
 use lib.ListN.{length}
+use Rattle.finite.specs.Table.{Row, row, Answer, writtenBy}
 use Rattle.mesh.specs.IndexedMesh.{IndexedMesh}
-use Rattle.mesh.specs.Answer.{Answer, counts, refusal, meshAnswer, twinsAfter, twinsShort}
+use Rattle.mesh.specs.Answer.{checked, meshRefusal, meshAnswer, twinsAfter, twinsShort}
+use Rattle.mesh.specs.declared.model.Mesh.{Mesh}
+use Rattle.mesh.specs.declared.model.Checked.{Checked}
 use Rattle.patch.specs.Patch.{patchesAfter}
 
 abbrev pub patchesShort : IndexedMesh → List ℤ → Bool
@@ -20,16 +27,19 @@ patchesShort M patches = ltb (length patches) (48 * M .faces)
 abbrev pub listsShort : IndexedMesh → List ℕ → List ℤ → Bool
 listsShort M twins patches = twinsShort M twins || patchesShort M patches
 
-abbrev pub patchAnswer : IndexedMesh → List ℕ → List ℤ → Answer
-patchAnswer M twins patches = meshAnswer M (listsShort M twins patches)
+abbrev pub patchRows : IndexedMesh → List ℕ → List ℤ → List Row
+patchRows M twins patches = row (listsShort M twins patches) 2 ∷ []
+
+abbrev pub patchAnswer : IndexedMesh → List ℕ → List ℤ → Answer Mesh
+patchAnswer M twins patches = meshAnswer M (patchRows M twins patches) []
 
 abbrev pub patchTwins : IndexedMesh → List ℕ → List ℤ → List ℕ
-patchTwins M twins patches = twinsAfter M (listsShort M twins patches) twins
-
--- the patch list by the answer
-abbrev pub written : Answer → IndexedMesh → List ℤ → List ℤ
-written (counts v f e b) M d = patchesAfter M d
-written (refusal k) M d = d
+patchTwins M twins patches = twinsAfter M (patchRows M twins patches) [] twins
 
 abbrev pub patchList : IndexedMesh → List ℕ → List ℤ → List ℤ
-patchList M twins d = written (patchAnswer M twins d) M d
+patchList M twins patches = writtenBy (meshRefusal M (patchRows M twins patches) []) patches (patchesAfter M patches)
+
+pub record Patched (M : IndexedMesh) (d : List ℕ) (e : List ℤ) (r : Checked) (d' : List ℕ) (e' : List ℤ) : Type 0 where
+  pub answer-is : checked r ≡ patchAnswer M d e
+  pub twins-are : d' ≡ patchTwins M d e
+  pub patches-are : e' ≡ patchList M d e

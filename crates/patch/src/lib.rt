@@ -11,9 +11,21 @@ mod writer;
 use crate::fill::fill_patches;
 use mesh::model::Checked;
 ghost use mathlib.Core.Path.{_≡_};
+ghost use mathlib.Core.Bool.{cond};
+ghost use Prim.Native.Nat.{_*_};
+ghost use lib.Dec.{ltb};
 ghost use Rattle.mesh.specs.IndexedMesh.{indexed};
-ghost use Rattle.mesh.specs.Answer.{meaning};
-ghost use Rattle.patch.specs.Answer.{patchAnswer, patchTwins, patchList};
+ghost use Rattle.patch.specs.Answer.{Patched};
+
+// 2 where there are too few places for the patches of f faces, else 0.
+fn own_refusal(f: usize, places: usize) -> u8
+    ensures { λ r. ⌜ r ≡ cond (ltb places (48 * f)) 2 0 ⌝ }
+{
+    if places / 48 < f {
+        return 2;
+    }
+    0
+}
 
 // The patches of a mesh of v vertices and f faces, which is checked first.
 // Returns: V, F, E and B of an accepted mesh, or the number of the refusal.
@@ -30,14 +42,10 @@ pub fn patches(
     twins: &mut [u16],
     patches: &mut [i32],
 ) -> Checked
-    ensures { λ r. ⌜ meaning r ≡ patchAnswer (indexed v f (now (positions .entry)) (now (tags .entry)) (now (faces .entry))) (now (twins .entry)) (now (patches .entry)) ⌝ }
-    ensures { λ r. ⌜ now (twins .exit) ≡ patchTwins (indexed v f (now (positions .entry)) (now (tags .entry)) (now (faces .entry))) (now (twins .entry)) (now (patches .entry)) ⌝ }
-    ensures { λ r. ⌜ now (patches .exit) ≡ patchList (indexed v f (now (positions .entry)) (now (tags .entry)) (now (faces .entry))) (now (twins .entry)) (now (patches .entry)) ⌝ }
+    ensures { λ r. ⌜ Patched (indexed v f (now (positions .entry)) (now (tags .entry)) (now (faces .entry))) (now (twins .entry)) (now (patches .entry)) r (now (twins .exit)) (now (patches .exit)) ⌝ }
 {
-    if patches.len() / 48 < f {
-        return mesh::check(v, f, positions, tags, faces, &mut twins[0..0]);
-    }
-    let answer = mesh::check(v, f, positions, tags, faces, twins);
+    let own = own_refusal(f, patches.len());
+    let answer = mesh::check_after(own, v, f, positions, tags, faces, twins);
     let Checked::Accepted(counts) = answer else {
         return answer;
     };

@@ -2,18 +2,19 @@
 use mathlib.Core.Path.{_≡_}
 use mathlib.Core.Bool.{true, false}
 use mathlib.Core.List.{List}
+use mathlib.Core.Option.{none, some}
 use Prim.Native.Nat.{ℕ, _+_, _*_, _/_, _≤_, _<_}
 use native.Mathlib.Omega.{arith}
 use lib.Dec.{ltb}
 use lib.IntN.{ℤ}
 use lib.ListN.{length}
 use borrow.Author.Tests.{lt-ltb, le-ltb, ltb-false}
+use Rattle.finite.specs.Table.{firstMet, Answer, result, refusal}
 use Rattle.finite.proofs.AnyAll.{or-false}
 use Rattle.sample.specs.declared.model.Point.{Point}
-use Rattle.sample.specs.declared.model.Sampled.the-variants.{At}
 use Rattle.sample.specs.Bernstein.{rounded}
-use Rattle.sample.specs.Refusal.{minSteps, maxSteps, faceOff, controlOff, placeOff}
-use Rattle.sample.specs.Answer.{refusal, meaning, sampleAnswer}
+use Rattle.sample.specs.Refusal.{minSteps, maxSteps, faceOff, placeOff, sampleRows}
+use Rattle.sample.specs.Answer.{sampleAnswer}
 use Rattle.sample.specs.Private.{controlOf}
 use Rattle.sample.proofs.PatchLaws.{patchOf, patch-coordinate}
 
@@ -26,35 +27,28 @@ place-on n a b e =
     let h₃ = or-false (ltb n a) (ltb n b) (h₂ .1) in
     (ltb-false n minSteps (h₁ .0), ltb-false maxSteps n (h₂ .0), ltb-false n a (h₃ .0), ltb-false n b (h₃ .1))
 
--- ---- the answer, by the first cause met
-face-off : (patches : List ℤ) (f : ℕ) → length patches / 48 ≤ f → faceOff patches f ≡ true
+-- ---- the causes as the code tests them
+pub face-off : (patches : List ℤ) (f : ℕ) → length patches / 48 ≤ f → faceOff patches f ≡ true
 unfolding faceOff
 face-off patches f h = lt-ltb (length patches) (48 * f + 48) (omega arith)
 
-face-on : (patches : List ℤ) (f : ℕ) → f < length patches / 48 → faceOff patches f ≡ false
+pub face-on : (patches : List ℤ) (f : ℕ) → f < length patches / 48 → faceOff patches f ≡ false
 unfolding faceOff
 face-on patches f h = le-ltb (length patches) (48 * f + 48) (omega arith)
 
+-- ---- the answer, by the first cause met
 module _ (patches : List ℤ) (f n a b : ℕ) where
-  pub answer-12 : length patches / 48 ≤ f → refusal 12 ≡ sampleAnswer patches f n a b
+  pub refused : {k : ℕ} → firstMet (sampleRows patches f n a b) ≡ some k → refusal k ≡ sampleAnswer patches f n a b
   unfolding sampleAnswer
-  answer-12 h = rw (face-off patches f h)
-
-  pub answer-13 : f < length patches / 48 → controlOff patches f ≡ true → refusal 13 ≡ sampleAnswer patches f n a b
-  unfolding sampleAnswer
-  answer-13 h e = rw (face-on patches f h, e)
-
-  pub answer-14 : f < length patches / 48 → controlOff patches f ≡ false → placeOff n a b ≡ true → refusal 14 ≡ sampleAnswer patches f n a b
-  unfolding sampleAnswer
-  answer-14 h e i = rw (face-on patches f h, e, i)
+  refused e = rw e
 
   -- coordinate k of the sample, by the part of the list
   abbrev coordinateOf : ℕ → ℤ
   coordinateOf k = rounded n a b (controlOf (patchOf patches f) k)
 
-  pub answer-point : f < length patches / 48 → controlOff patches f ≡ false → placeOff n a b ≡ false
-      → {p : Point} → p ≡ record { x = coordinateOf 0; y = coordinateOf 1; z = coordinateOf 2 } → meaning (At p) ≡ sampleAnswer patches f n a b
+  pub answered : firstMet (sampleRows patches f n a b) ≡ none → f < length patches / 48
+      → {p : Point} → p ≡ record { x = coordinateOf 0; y = coordinateOf 1; z = coordinateOf 2 } → result p ≡ sampleAnswer patches f n a b
   unfolding sampleAnswer
-  answer-point h e i q =
-      rw (q, face-on patches f h, e, i)
+  answered e h q =
+      rw (q, e)
       (rw (patch-coordinate patches f h n a b 0 (omega arith), patch-coordinate patches f h n a b 1 (omega arith), patch-coordinate patches f h n a b 2 (omega arith)))

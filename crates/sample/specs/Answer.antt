@@ -1,44 +1,35 @@
 -- What the sample call and the reading answer, whatever they are passed.
 --
---   Answer             what document 01 lets the sample call return: three numbers, or the number of a refusal
---   sampleAnswer ..    that answer, for a patch list, a face, N and a place
---   unless met answer  the answer, unless a refusal was met
---   meaning r          the answer that each case of the code's enum `Sampled` is
+--   pointAt ..         the sample of a patch list, for a face, N and a place: three numbers
+--   sampled r          the answer, for each case of the code's enum `Sampled`: three numbers, or the number of a refusal
+--   sampleAnswer ..    the answer of the sample call
 --   negative n         the sign of n: whether it is below 0
 --   Over256 r n        the double r is finite, and its exact value is the sample n over 256: "each exactly the sample over 256"
 --   Reads r answer     the reading r holds the answer: three doubles, each exactly the sample over 256, or the refusal's number
 use mathlib.Core.Path.{_≡_}
 use mathlib.Core.Bool.{Bool, true, false}
 use mathlib.Core.List.{List}
-use mathlib.Core.Option.{Option, none, some}
 use Prim.Native.Nat.{ℕ, _*_}
 use lib.IntN.{ℤ, pos, negsuc, natAbs}
 use lib.Ieee.{Float, nan, inf, fin, up, down}
-use Rattle.finite.specs.Table.{firstMet}
+use Rattle.finite.specs.Table.{firstMet, Answer, result, refusal, answerBy}
 use Rattle.sample.specs.Bernstein.{coordinateAt}
 use Rattle.sample.specs.Refusal.{sampleRows}
+use Rattle.sample.specs.declared.model.Point.{Point}
 use Rattle.sample.specs.declared.model.Sampled.{Sampled}
 use Rattle.sample.specs.declared.model.Sampled.the-variants.{At, Refused}
 use Rattle.sample.specs.declared.model.Reading.{Reading}
 use Rattle.sample.specs.declared.model.Reading.the-variants.{At as ReadAt, Refused as ReadRefused}
 
-pub data Answer : Type 0 where
-  -- x, y, z
-  point : ℤ → ℤ → ℤ → Answer
-  refusal : ℕ → Answer
+abbrev pub pointAt : List ℤ → ℕ → ℕ → ℕ → ℕ → Point
+pointAt patches f n a b = record { x = coordinateAt patches f n a b 0; y = coordinateAt patches f n a b 1; z = coordinateAt patches f n a b 2 }
 
-abbrev pub meaning : Sampled → Answer
-meaning (At p) = point (p .x) (p .y) (p .z)
-meaning (Refused k) = refusal k
+abbrev pub sampled : Sampled → Answer Point
+sampled (At p) = result p
+sampled (Refused k) = refusal k
 
-abbrev pub unless : Option ℕ → Answer → Answer
-unless none answer = answer
-unless (some k) answer = refusal k
-
-unfoldable pub sampleAnswer : List ℤ → ℕ → ℕ → ℕ → ℕ → Answer
-sampleAnswer patches f n a b =
-    unless (firstMet (sampleRows patches f n a b))
-    (point (coordinateAt patches f n a b 0) (coordinateAt patches f n a b 1) (coordinateAt patches f n a b 2))
+unfoldable pub sampleAnswer : List ℤ → ℕ → ℕ → ℕ → ℕ → Answer Point
+sampleAnswer patches f n a b = answerBy (firstMet (sampleRows patches f n a b)) (pointAt patches f n a b)
 
 abbrev pub negative : ℤ → Bool
 negative (pos a) = false
@@ -50,8 +41,8 @@ Over256 nan n = ⊥
 Over256 (inf s) n = ⊥
 Over256 (fin s m e) n = (s ≡ negative n) × (m * up e * 256 ≡ natAbs n * down e)
 
-abbrev pub Reads : Reading → Answer → Type 0
-Reads (ReadAt p) (point x y z) = Over256 (p .x) x × Over256 (p .y) y × Over256 (p .z) z
+abbrev pub Reads : Reading → Answer Point → Type 0
+Reads (ReadAt p) (result q) = Over256 (p .x) (q .x) × Over256 (p .y) (q .y) × Over256 (p .z) (q .z)
 Reads (ReadAt p) (refusal k) = ⊥
-Reads (ReadRefused j) (point x y z) = ⊥
+Reads (ReadRefused j) (result q) = ⊥
 Reads (ReadRefused j) (refusal k) = j ≡ k

@@ -11,7 +11,7 @@ use crate::model::Sampled;
 use crate::refusal::any_control_off;
 use crate::refusal::place_off;
 ghost use mathlib.Core.Path.{_≡_};
-ghost use Rattle.sample.specs.Answer.{meaning, sampleAnswer, Reads};
+ghost use Rattle.sample.specs.Answer.{sampled, sampleAnswer, Reads};
 
 // The sample of face f at (a, b), for document 01's N = n.
 // Returns: x, y and z of the sample, each rounded once, or the number of the refusal.
@@ -20,7 +20,7 @@ ghost use Rattle.sample.specs.Answer.{meaning, sampleAnswer, Reads};
 // 14 n off the range from 1 to 32, or a or b above n.
 // Units: patch numbers and sample in 1/256 micrometre.
 pub fn sample(patches: &[i32], f: usize, n: usize, a: usize, b: usize) -> Sampled
-    ensures { λ r. ⌜ meaning r ≡ sampleAnswer (now (patches .entry)) f n a b ⌝ }
+    ensures { λ r. ⌜ sampled r ≡ sampleAnswer (now (patches .entry)) f n a b ⌝ }
 {
     if patches.len() / 48 <= f {
         return Sampled::Refused(12);

@@ -8,11 +8,12 @@ use lib.IntN.{ℤ, pos, natAbs}
 use lib.ListN.{length, getD}
 use borrow.Author.Tests.{le-ltb}
 use Rattle.finite.proofs.AnyAll.{any-none}
+use Rattle.finite.specs.Table.{result}
 use Rattle.mesh.specs.IndexedMesh.{IndexedMesh}
 use Rattle.mesh.specs.WellFormed.{WellFormed}
 use Rattle.sample.specs.Bernstein.{rounded, coordinateAt}
 use Rattle.sample.specs.Refusal.{maxControl, minSteps, maxSteps, faceOff, controlOff, placeOff}
-use Rattle.sample.specs.Answer.{point, sampleAnswer}
+use Rattle.sample.specs.Answer.{pointAt, sampleAnswer}
 use Rattle.sample.proofs.SampleLaws.{rounded-ext}
 use Rattle.sample.proofs.RefusalLaws.{place-on}
 use Rattle.patch.specs.Patch.{control, view, patchesAfter}
@@ -37,8 +38,7 @@ place-none n a b x y on hx hy =
     rw (le-ltb n minSteps (s .0), le-ltb maxSteps n (s .1), le-ltb n x hx, le-ltb n y hy)
 
 pub answered : {M : IndexedMesh} → WellFormed M → (d : List ℤ) (f n a b : ℕ) → 48 * M .faces ≤ length d → f < M .faces → placeOff n a b ≡ false
-    → sampleAnswer (patchesAfter M d) f n a b
-    ≡ point (coordinateAt (patchesAfter M d) f n a b 0) (coordinateAt (patchesAfter M d) f n a b 1) (coordinateAt (patchesAfter M d) f n a b 2)
+    → sampleAnswer (patchesAfter M d) f n a b ≡ result (pointAt (patchesAfter M d) f n a b)
 unfolding sampleAnswer
 answered {M} acc d f n a b long l on = rw (face-none M d f long l, control-none acc d f l, on)
 

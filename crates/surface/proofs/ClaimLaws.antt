@@ -9,6 +9,7 @@ use Prim.Native.Nat.{ℕ, _-_, _*_, _/_, _%_, _^_, _≤_, _<_}
 use native.Mathlib.Omega.{arith}
 use lib.IntN.{ℤ, pos, natAbs, _-ℤ_, _*ℤ_}
 use lib.ListN.{length}
+use Rattle.finite.specs.Table.{Answer, result}
 use Rattle.mesh.specs.Corner.{turn}
 use Rattle.mesh.specs.HalfEdge.{twin, boundary}
 use Rattle.mesh.specs.IndexedMesh.{IndexedMesh, corners, at, tag}
@@ -16,14 +17,15 @@ use Rattle.mesh.specs.WellFormed.{WellFormed}
 use Rattle.mesh.proofs.AcceptedLaws.{accepted-corners}
 use Rattle.sample.specs.Bernstein.{rounded, coordinateAt}
 use Rattle.sample.specs.Refusal.{placeOff}
-use Rattle.sample.specs.Answer.{Answer, point, sampleAnswer}
+use Rattle.sample.specs.Answer.{sampleAnswer}
+use Rattle.sample.specs.declared.model.Point.{Point}
 use Rattle.sample.proofs.SampleLaws.{rounded-ext}
 use Rattle.sample.proofs.RefusalLaws.{place-on}
 use Rattle.patch.specs.Patch.{patchPoint, units, view, patchesAfter}
 use Rattle.patch.proofs.PointLaws.{patch-divisor}
 use Rattle.symmetry.proofs.WellFormedMoves.{sound, alike-well-formed}
 use Rattle.surface.specs.Renumbering.{Renumbering, Place, matching, onSide}
-use Rattle.surface.specs.Claim.{OnMesh, exact, Multiples, exactSum}
+use Rattle.surface.specs.Claim.{OnMesh, exact, Multiples, exactSum, pointOf}
 use Rattle.surface.specs.declared.model.SamplePlace.{SamplePlace}
 use Rattle.surface.proofs.PointMoves.{patch-moves}
 use Rattle.surface.proofs.FromRenumbering.{alike, carried, face-begins}
@@ -32,11 +34,11 @@ use Rattle.surface.proofs.Seam.{twin-inside, seam}
 use Rattle.surface.proofs.Distance.{distance}
 use Rattle.surface.proofs.AnsweredLaws.{coordinate-written, place-none, answered}
 
-abbrev pub sampleOn : IndexedMesh → List ℤ → ℕ → ℕ → Place → Answer
+abbrev pub sampleOn : IndexedMesh → List ℤ → ℕ → ℕ → Place → Answer Point
 sampleOn M d n f p = sampleAnswer (patchesAfter M d) f n (p .a) (p .b)
 
-answerFrom : IndexedMesh → ℕ → ℕ → Place → Answer
-answerFrom M n f p = point (sampleFrom (view M 0) n (4 * f) p) (sampleFrom (view M 1) n (4 * f) p) (sampleFrom (view M 2) n (4 * f) p)
+answerFrom : IndexedMesh → ℕ → ℕ → Place → Answer Point
+answerFrom M n f p = result (pointOf (λ k. sampleFrom (view M k) n (4 * f) p))
 
 -- answers whose coordinates are equal
 same-answer : (M M′ : IndexedMesh) (n f f′ : ℕ) (p p′ : Place)

@@ -1,29 +1,28 @@
 -- The third demand: distance, seam and renumbering, one claim about the numbers that the patch call and the sample call handed back.
 -- What it asks for is what the calls themselves ask for: no cause of refusal is met.
 --
---   Accepted M            "A mesh is accepted when no cause in the table below that concerns the mesh itself is met"
 --   OnMesh M n q          "for every face below F and all a, b from 0 to N": the face is one of M, and cause 14 is not met
 --   exact M k f m         coordinate k of control point m of face f before rounding
 --   Multiples M k f L x   L is a common multiple of the sixteen divisors: x m times each
 --   exactSum M k n q x    coordinate k of the exact surface at place q, times N^6 and the L of these multiples
 --   coordinateOf answer k, number s k   coordinate k of a sample; 0 for a refusal
+--   pointOf g             the point with the coordinates g 0, g 1 and g 2
 --   placeOn n c t         place t of half-edge c, as the sample call is given it
 --   placeMatching r n q   the place of the renumbered mesh that matches q
 --   Claim ..              what the answers w for the places q and o of M, and q' of M', show of each other
 use mathlib.Core.Path.{_≡_}
 use mathlib.Core.Bool.{false}
 use mathlib.Core.List.{List}
-use mathlib.Core.Option.{none}
 use Prim.Native.Nat.{ℕ, zero, suc, _-_, _*_, _/_, _%_, _^_, _≤_, _<_}
 use lib.IntN.{ℤ, pos, natAbs, _-ℤ_, _*ℤ_}
-use Rattle.finite.specs.Table.{firstMet}
-use Rattle.mesh.specs.HalfEdge.{twin, boundary, edges, boundaries}
+use Rattle.finite.specs.Table.{Answer, result, refusal}
+use Rattle.mesh.specs.HalfEdge.{twin, boundary}
 use Rattle.mesh.specs.IndexedMesh.{IndexedMesh, corners, at}
-use Rattle.mesh.specs.Refusal.{earlyRows, lateRows}
-use Rattle.mesh.specs.Answer.{meaning as checked, counts}
+use Rattle.mesh.specs.Answer.{checked, countsOf}
 use Rattle.sample.specs.Bernstein.{numerator}
 use Rattle.sample.specs.Refusal.{placeOff}
-use Rattle.sample.specs.Answer.{Answer, point, refusal, meaning as sampled}
+use Rattle.sample.specs.Answer.{sampled}
+use Rattle.sample.specs.declared.model.Point.{Point}
 use Rattle.sample.specs.declared.model.Sampled.{Sampled}
 use Rattle.patch.specs.Mask.{Fraction}
 use Rattle.patch.specs.Patch.{patchPoint, view}
@@ -31,9 +30,6 @@ use Rattle.patch.specs.Answer.{listsShort}
 use Rattle.surface.specs.Renumbering.{Renumbering, Place, place, matching, onSide}
 use Rattle.surface.specs.declared.model.SamplePlace.{SamplePlace}
 use Rattle.surface.specs.declared.model.Witness.{Witness}
-
-abbrev pub Accepted : IndexedMesh → Type 0
-Accepted M = (firstMet (earlyRows M false) ≡ none) × (firstMet (lateRows M) ≡ none)
 
 abbrev pub OnMesh : IndexedMesh → ℕ → SamplePlace → Type 0
 OnMesh M n q = (q .face < M .faces) × (placeOff n (q .a) (q .b) ≡ false)
@@ -47,14 +43,17 @@ Multiples M k f L x = (m : ℕ) → m < 16 → L ≡ exact M k f m .den * x m
 abbrev pub exactSum : IndexedMesh → ℕ → ℕ → SamplePlace → (ℕ → ℕ) → ℤ
 exactSum M k n q x = numerator n (q .a) (q .b) (λ m. pos 256 *ℤ exact M k (q .face) m .num *ℤ pos (x m))
 
-abbrev pub coordinateOf : Answer → ℕ → ℤ
-coordinateOf (point x y z) zero = x
-coordinateOf (point x y z) (suc zero) = y
-coordinateOf (point x y z) (suc (suc k)) = z
+abbrev pub coordinateOf : Answer Point → ℕ → ℤ
+coordinateOf (result p) zero = p .x
+coordinateOf (result p) (suc zero) = p .y
+coordinateOf (result p) (suc (suc k)) = p .z
 coordinateOf (refusal k) j = pos 0
 
 abbrev pub number : Sampled → ℕ → ℤ
 number s k = coordinateOf (sampled s) k
+
+abbrev pub pointOf : (ℕ → ℤ) → Point
+pointOf g = record { x = g 0; y = g 1; z = g 2 }
 
 -- a place (a, b) of face f, as the sample call is given it
 abbrev pub placeOf : ℕ → Place → SamplePlace
@@ -68,9 +67,9 @@ placeMatching r n q = placeOf (r .faces .to (q .face)) (matching n (r .start (q 
 
 pub record Claim (M M' : IndexedMesh) (d' : List ℕ) (e' : List ℤ) (n : ℕ) (q o q' : SamplePlace) (w : Witness) : Type 0 where
   -- "On lent lists that are long enough the patch call takes every accepted mesh,
-  pub taken : checked (w .first .mesh) ≡ counts (M .vertices) (M .faces) (edges (at M) (corners M) (M .vertices)) (boundaries (at M) (corners M))
+  pub taken : checked (w .first .mesh) ≡ result (countsOf M)
   -- and none of these sample calls refuses."
-  pub answered : OnMesh M n q → sampled (w .first .sample) ≡ point (number (w .first .sample) 0) (number (w .first .sample) 1) (number (w .first .sample) 2)
+  pub answered : OnMesh M n q → sampled (w .first .sample) ≡ result (pointOf (number (w .first .sample)))
   -- each sample within one unit of the exact surface, in each coordinate: |sample - exact| ≤ 1, both sides times N^6 and L
   pub distance : (k L : ℕ) (x : ℕ → ℕ) → OnMesh M n q → k < 3 → Multiples M k (q .face) L x
       → natAbs (number (w .first .sample) k *ℤ pos (n ^ 6 * L) -ℤ exactSum M k n q x) ≤ n ^ 6 * L

@@ -10,23 +10,23 @@ use mathlib.Core.Bool.{false}
 use mathlib.Core.List.{List}
 use Prim.Native.Nat.{ℕ}
 use lib.IntN.{ℤ}
+use Rattle.finite.specs.Table.{Answer}
 use Rattle.mesh.specs.IndexedMesh.{IndexedMesh}
-use Rattle.mesh.specs.Answer.{meaning as checked}
-use Rattle.sample.specs.Answer.{Answer, meaning as sampled, sampleAnswer}
-use Rattle.patch.specs.Answer.{listsShort, patchAnswer, patchTwins, patchList}
-use Rattle.surface.specs.Claim.{Accepted, Claim}
+use Rattle.mesh.specs.Refusal.{Accepted}
+use Rattle.sample.specs.Answer.{sampled, sampleAnswer}
+use Rattle.sample.specs.declared.model.Point.{Point}
+use Rattle.patch.specs.Answer.{listsShort, patchList, Patched}
+use Rattle.surface.specs.Claim.{Claim}
 use Rattle.surface.specs.declared.model.SamplePlace.{SamplePlace}
 use Rattle.surface.specs.declared.model.Evaluation.{Evaluation}
 use Rattle.surface.specs.declared.model.Witness.{Witness}
 
-abbrev pub sampleAt : List ℤ → ℕ → SamplePlace → Answer
+abbrev pub sampleAt : List ℤ → ℕ → SamplePlace → Answer Point
 sampleAt patches n q = sampleAnswer patches (q .face) n (q .a) (q .b)
 
 pub record Evaluated (M : IndexedMesh) (d : List ℕ) (e : List ℤ) (n : ℕ) (q : SamplePlace) (r : Evaluation) (b : List ℕ) (p : List ℤ) : Type 0 where
-  pub mesh-is : checked (r .mesh) ≡ patchAnswer M d e
+  pub patched : Patched M d e (r .mesh) b p
   pub sample-is : sampled (r .sample) ≡ sampleAt (patchList M d e) n q
-  pub twins-are : b ≡ patchTwins M d e
-  pub patches-are : p ≡ patchList M d e
 
 pub record Witnessed (M : IndexedMesh) (d : List ℕ) (e : List ℤ) (M' : IndexedMesh) (d' : List ℕ) (e' : List ℤ) (n : ℕ) (q o q' : SamplePlace)
     (w : Witness) (b : List ℕ) (p : List ℤ) (b' : List ℕ) (p' : List ℤ) : Type 0 where

@@ -1,70 +1,62 @@
--- `patches` meets its contract: a short list is refused by a check that can touch nothing, and else the answer is that of the check, whose
--- counts say that the mesh is accepted and its twins are listed.
+-- `patches` meets its contract: the check is told of a patch list that is too short, so its refusals are those of the call; where it gives
+-- counts, the mesh is well-formed, its twins are listed, and the patches are written.
 use mathlib.Core.Path.{_≡_, sym, ap, _∙_}
-use mathlib.Core.Bool.{Bool, true}
-use mathlib.Core.List.{List, [], _++_}
-use Prim.Native.Nat.{ℕ, _+_, _-_}
+use mathlib.Core.List.{List}
+use Prim.Native.Nat.{ℕ}
 use native.Mathlib.Omega.{arith}
+use lib.IntN.{ℤ}
 use borrow.Author.Needs.{needs}
 use Rattle.mesh.specs.IndexedMesh.{IndexedMesh, indexed}
-use Rattle.mesh.specs.Answer.{Answer, meaning, meshAnswer, twinsAfter, twinsShort}
-use Rattle.patch.specs.Answer.{listsShort, written}
-use Rattle.patch.proofs.AnswerLaws.{short-written, short-twins, patches-short, none-short, patches-long, counts-accepted, twins-listed, twins-held}
+use Rattle.mesh.specs.Answer.{countsOf, checked, meshRefusal}
+use Rattle.patch.specs.Patch.{patchesAfter}
+use Rattle.patch.specs.Answer.{patchRows, patchAnswer, patchTwins}
+use Rattle.patch.proofs.AnswerLaws.{same-answer, same-twins, refused-list, patches-long, result-well-formed, result-list, twins-listed, twins-held}
 use Rattle.patch.proofs.patches.Statement.{statement}
 use Rattle.patch.proofs.patches.Tie as tie
 
--- the mesh, from the start
-abbrev mesh : tie.Start → IndexedMesh
-mesh s = indexed (s .args .v) (s .args .f) (s .args .positions .now) (s .args .tags .now) (s .args .faces .now)
+-- ---- at the entry: the mesh that was passed, and the two lists that were lent
+module _ (s : tie.Start) where
+  abbrev mesh : IndexedMesh
+  mesh = indexed (s .args .v) (s .args .f) (s .args .positions .now) (s .args .tags .now) (s .args .faces .now)
 
--- ---- the patch list is too short
+  abbrev twins : List ℕ
+  twins = s .args .twins .now
+
+  abbrev lent : List ℤ
+  lent = s .args .patches .now
+
+-- ---- the check has answered
 module _ (c : tie.After-slice-known2) where
+  abbrev asked : tie.After-check-after
+  asked = c .before .before
+
+  abbrev owned : tie.After-own-refusal
+  owned = asked .before .before
+
   abbrev start : tie.Start
-  start = c .before .before .before .before .before .before .before .before
+  start = let k : tie.After-slice-known = owned .before in k .before .before .before
 
-  short : listsShort (mesh start) (start .args .twins .now) (start .args .patches .now) ≡ true
-  short = patches-short (mesh start) (start .args .twins .now) (start .args .patches .now) (c .before .before .before .before .if1 .taken)
+  answered : checked (asked .check-after .result) ≡ patchAnswer (mesh start) (twins start) (lent start)
+  answered = asked .check-after .ensures .answer-is ∙ same-answer (mesh start) (twins start) (lent start) _ (owned .own-refusal .ensures)
 
-  none : twinsShort (mesh start) [] ≡ true
-  none = none-short (mesh start) (omega arith)
+  left : asked .check-after .last .1 .1 .1 .1 .1 .1 .0 ≡ patchTwins (mesh start) (twins start) (lent start)
+  left = asked .check-after .ensures .twins-are ∙ same-twins (mesh start) (twins start) (lent start) _ (owned .own-refusal .ensures)
 
--- ---- the patch list is long enough
-module _ (c : tie.After-slice-known3) where
-  abbrev begin : tie.Start
-  begin = c .before .before .before .before .before .before .before .before
+abbrev refused : tie.After-enum-told → tie.After-slice-known2
+refused c = c .before .before
 
-  long : listsShort (mesh begin) (begin .args .twins .now) (begin .args .patches .now) ≡ twinsShort (mesh begin) (begin .args .twins .now)
-  long = patches-long (mesh begin) (begin .args .twins .now) (begin .args .patches .now) (c .before .before .before .before .if1 .left)
+abbrev accepted : tie.After-known-told → tie.After-slice-known2
+accepted c = c .before .before .before
 
-sub-check : tie.Need-sub-check
-sub-check c = search needs
+abbrev filled : tie.After-patches → tie.After-fill-patches
+filled c = c .before
 
-part-check-start : tie.Need-part-check-start
-part-check-start c = search needs
+-- ---- the answers, in the order of the code
+own-refusal-requires : tie.Need-own-refusal-requires
+own-refusal-requires c κs = tt
 
-part-check-end : tie.Need-part-check-end
-part-check-end c = search needs
-
-check-requires : tie.Need-check-requires
-check-requires c κs = search needs
-
-same-length : tie.Need-same-length
-same-length c = search needs
-
-returns : tie.Need-returns
-returns c =
-    let s = start c in
-    let m = mesh s in
-    let empty : c .before .before .check .last .1 .1 .1 .1 .1 .0 ≡ [] = c .before .before .check .ensures .1 ∙ rw (none c) (short-twins m []) in (
-      c .before .before .check .ensures .0 ∙ ap (meshAnswer m) (none c ∙ sym (short c)),
-      (
-        ap (λ (t : List ℕ). t ++ s .args .twins .now) empty ∙ sym (rw (short c) (short-twins m (s .args .twins .now))),
-        sym (rw (short c) (short-written m (s .args .patches .now))),
-      ),
-    )
-
-check-requires-2 : tie.Need-check-requires-2
-check-requires-2 c κs = search needs
+check-after-requires : tie.Need-check-after-requires
+check-after-requires c κs = tt
 
 enum-known-answer : tie.Need-enum-known-answer
 enum-known-answer c = search needs
@@ -72,70 +64,58 @@ enum-known-answer c = search needs
 enum-told : tie.Need-enum-told
 enum-told c = search needs
 
-same-length-2 : tie.Need-same-length-2
-same-length-2 c = search needs
+same-length : tie.Need-same-length
+same-length c = search needs
 
-returns-2 : tie.Need-returns-2
-returns-2 c =
-    let k = c .before .before in
-    let s = begin k in
-    let m = mesh s in
-    let answer = k .before .before .check2 in (
-      answer .ensures .0 ∙ ap (meshAnswer m) (sym (long k)),
-      (
-        answer .ensures .1 ∙ ap (λ (t : Bool). twinsAfter m t (s .args .twins .now)) (sym (long k)),
-        ap (λ (t : Answer). written t m (s .args .patches .now)) (sym (ap meaning (c .enum-told .given .1)) ∙ answer .ensures .0 ∙ ap (meshAnswer m) (sym (long k))),
-      ),
-    )
+returns : tie.Need-returns
+returns c =
+    let k = refused c in
+    let s = start k in
+    record {
+      answer-is = answered k;
+      twins-are = left k;
+      patches-are = sym (refused-list (countsOf (mesh s)) (meshRefusal (mesh s) (patchRows (mesh s) (twins s) (lent s)) _) (lent s) (patchesAfter (mesh s) (lent s)) (sym (ap checked (c .enum-told .given .1)) ∙ answered k));
+    }
 
 fill-patches-requires : tie.Need-fill-patches-requires
 fill-patches-requires c κs =
-    let k = c .before .before .before .before .before in
-    let s = begin k in
-    let m = mesh s in
-    let answer = k .before .before .check2 in
-    let counted = sym (ap meaning (c .before .before .before .answer .given .1)) ∙ answer .ensures .0 in (
-      (counts-accepted m _ counted, omega (arith, k .before .before .before .before .if1 .left)),
-      (twins-listed m (s .args .twins .now) _ counted (answer .ensures .1), twins-held m (s .args .twins .now) _ counted (answer .ensures .1)),
+    let t : tie.After-known-told = c .before .before in
+    let k = accepted t in
+    let s = start k in
+    let counted = sym (ap checked (t .before .answer .given .1)) ∙ answered k in (
+      (result-well-formed (mesh s) (twins s) (lent s) counted, patches-long (mesh s) (twins s) (lent s) counted),
+      (twins-listed (mesh s) (twins s) (lent s) counted _ (left k), twins-held (mesh s) (twins s) (lent s) counted _ (left k)),
     )
+
+same-length-2 : tie.Need-same-length-2
+same-length-2 c = search needs
 
 same-length-3 : tie.Need-same-length-3
-same-length-3 c = search needs
+same-length-3 c = filled c .fill-patches .kept .1 .1 .1 .1 .1 .1 .0
 
-same-length-4 : tie.Need-same-length-4
-same-length-4 c = c .before .fill-patches .kept .1 .1 .1 .1 .1 .1 .0
-
-returns-3 : tie.Need-returns-3
-returns-3 c =
-    let a = c .before .before .before .before in
-    let k = a .before .before .before in
-    let s = begin k in
-    let m = mesh s in
-    let answer = k .before .before .check2 in
-    let counted = sym (ap meaning (a .before .answer .given .1)) ∙ answer .ensures .0 ∙ ap (meshAnswer m) (sym (long k)) in (
-      counted,
-      (
-        answer .ensures .1 ∙ ap (λ (t : Bool). twinsAfter m t (s .args .twins .now)) (sym (long k)),
-        c .before .fill-patches .ensures ∙ ap (λ (t : Answer). written t m (s .args .patches .now)) counted,
-      ),
-    )
+returns-2 : tie.Need-returns-2
+returns-2 c =
+    let t : tie.After-known-told = filled c .before .before .before in
+    let k = accepted t in
+    let s = start k in
+    let counted = sym (ap checked (t .before .answer .given .1)) ∙ answered k in
+    record {
+      answer-is = counted;
+      twins-are = left k;
+      patches-are = filled c .fill-patches .ensures ∙ sym (result-list (mesh s) (twins s) (lent s) counted);
+    }
 
 pub patches-spec : {M : Type 1} → statement M
 patches-spec =
     tie.close
     (tie.spec
-    sub-check
-    part-check-start
-    part-check-end
-    check-requires
-    same-length
-    returns
-    check-requires-2
+    own-refusal-requires
+    check-after-requires
     enum-known-answer
     enum-told
-    same-length-2
-    returns-2
+    same-length
+    returns
     fill-patches-requires
+    same-length-2
     same-length-3
-    same-length-4
-    returns-3)
+    returns-2)

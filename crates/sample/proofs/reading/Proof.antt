@@ -2,7 +2,7 @@
 use mathlib.Core.Path.{refl, sym, ap, _∙_, subst}
 use borrow.Author.Needs.{needs}
 use Rattle.sample.specs.declared.model.Reading.the-variants.{At, Refused}
-use Rattle.sample.specs.Answer.{meaning, Reads}
+use Rattle.sample.specs.Answer.{sampled, Reads}
 use Rattle.sample.proofs.reading.Statement.{statement}
 use Rattle.sample.proofs.reading.Tie as tie
 
@@ -19,10 +19,10 @@ enum-known-k : tie.Need-enum-known-k
 enum-known-k c = search needs
 
 returns : tie.Need-returns
-returns c = subst (Reads (At (c .in-micrometres .result))) (sym (ap meaning (c .before .before .p .given .1)) ∙ c .before .before .before .before .sample .ensures) (c .in-micrometres .ensures)
+returns c = subst (Reads (At (c .in-micrometres .result))) (sym (ap sampled (c .before .before .p .given .1)) ∙ c .before .before .before .before .sample .ensures) (c .in-micrometres .ensures)
 
 returns-2 : tie.Need-returns-2
-returns-2 c = subst (Reads (Refused (c .before .k .given .0 .0))) (sym (ap meaning (c .before .k .given .1)) ∙ c .before .before .before .sample .ensures) refl
+returns-2 c = subst (Reads (Refused (c .before .k .given .0 .0))) (sym (ap sampled (c .before .k .given .1)) ∙ c .before .before .before .sample .ensures) refl
 
 pub reading-spec : {M : Type 1} → statement M
 reading-spec =

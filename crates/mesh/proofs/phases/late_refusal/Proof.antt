@@ -1,113 +1,81 @@
--- `late_refusal` meets its contract: the phases run in the order of the table, and each says its cause of the tables by vertex.
-use mathlib.Core.List.{[]}
-use mathlib.Core.Path.{_≡_, sym, _∙_}
+-- `late_refusal` meets its contract: the rows of the fans come first, and where none of them is met the vertices of the boundary are known,
+-- which is what the row of the tags looks at.
+use mathlib.Core.Path.{_≡_, sym, ap, _∙_}
 use mathlib.Core.Bool.{false}
+use mathlib.Core.List.{List}
+use mathlib.Core.Option.{none}
+use Prim.Native.Nat.{ℕ, _*_}
 use native.Mathlib.Omega.{arith}
+use lib.IntN.{ℤ}
 use lib.ListN.{getD-replicate}
 use borrow.Author.Needs.{needs}
-use Rattle.mesh.specs.Refusal.{vertexUnused, fanBroken, valenceOff, innerTagged}
-use Rattle.mesh.specs.IndexedMesh.{IndexedMesh, indexed}
+use Rattle.finite.specs.Table.{firstMet}
+use Rattle.finite.proofs.TableLaws.{met-here, skipped, some-append, none-append}
 use Rattle.mesh.specs.Limits.{maxVertices}
-use Rattle.mesh.proofs.PhaseLaws.{late-8, late-9, late-10, late-11, late-none, unused-table, valence-table, tagged-table}
-use Rattle.mesh.proofs.AcceptedLaws.{unused-false}
+use Rattle.mesh.specs.IndexedMesh.{IndexedMesh, indexed}
+use Rattle.mesh.specs.Refusal.{innerTagged, fanRows, vertexRows}
+use Rattle.mesh.specs.Private.{refusalOf, vertexOf}
+use Rattle.mesh.proofs.PhaseLaws.{refusal-some, tagged-table}
 use Rattle.mesh.proofs.phases.late_refusal.Statement.{statement}
 use Rattle.mesh.proofs.phases.late_refusal.Tie as tie
 
--- the function's entry, and the mesh that was passed, without its positions
-abbrev start : tie.After-valences → tie.Start
-start c = c .before .before .before .before .before
+-- ---- at the entry: the mesh that was passed, with any positions, and its corners
+module _ (s : tie.Start) where
+  abbrev mesh : List ℤ → IndexedMesh
+  mesh positions = indexed (s .args .v) (s .args .f) positions (s .args .tags .now) (s .args .faces .now)
 
-abbrev mesh : tie.Start → IndexedMesh
-mesh s = indexed (s .args .v) (s .args .f) [] (s .args .tags .now) (s .args .faces .now)
+  abbrev vertex : ℕ → ℕ
+  vertex = vertexOf (s .args .faces .now)
 
-used : (c : tie.Else1) → vertexUnused (mesh (start (c .before .before .before .before .before))) ≡ false
-unfolding vertexUnused
-used c =
-    let k = c .before .before .before .before in
-    sym (c .before .any-unused .ensures ∙ unused-table _ (start (k .before) .pre .0 .2) (k .count-corners .last .1 .1 .0) _ (k .count-corners .ensures)) ∙ c .if1 .left
+  abbrev n : ℕ
+  n = 4 * s .args .f
 
-fans : (c : tie.Else2) → fanBroken (mesh (start (c .before .before .before .before .before .before .before .before))) ≡ false
-unfolding fanBroken
-fans c = sym (c .before .any-fan-broken .ensures) ∙ c .if2 .left
+abbrev entry : tie.After-on-boundary → tie.Start
+entry c = let k : tie.After-shared-slice-known4 = c .before in k .before .before .before .before
 
--- what the two tables by vertex say of cause 10, and the second one of cause 11
-valence-off : (c : tie.After-any-valence-off) → c .any-valence-off .result ≡ valenceOff (mesh (start (c .before .before .before .before .before .before .before .before .before .before .before .before .before .before)))
-unfolding valenceOff
-valence-off c =
-    let m = c .before .before .before .before in
-    let k = m .before .before .before .before .before .before .before .before .before in
-    c .any-valence-off .ensures ∙ valence-table _ (start (k .before) .pre .0 .2) (k .count-corners .last .1 .1 .0) _ (k .count-corners .ensures) (m .mark-boundary .last .1 .1 .1 .0) _ (m .mark-boundary .ensures)
+-- ---- the rows of the fans
+abbrev fans : tie.After-on-boundary2 → tie.After-fan-refusal
+fans c = c .before
 
-valences : (c : tie.Else3) → valenceOff (mesh (start (c .before .before .before .before .before .before .before .before .before .before .before .before .before .before .before))) ≡ false
-valences c = sym (valence-off (c .before)) ∙ c .if3 .left
+abbrev start : tie.After-fan-refusal → tie.Start
+start c = entry (c .before)
 
-tagged : (c : tie.After-any-inner-tagged) → c .any-inner-tagged .result ≡ innerTagged (mesh (start (c .before .before .before .before .before .before .before .before .before .before .before .before .before .before .before .before .before)))
-unfolding innerTagged
-tagged c =
-    let m = c .before .before .before .before .before .before .before in
-    let s = start (m .before .before .before .before .before .before .before .before .before .before) in
-    c .any-inner-tagged .ensures ∙ tagged-table _ (s .pre .0 .2) (s .args .tags .now) (m .mark-boundary .last .1 .1 .1 .0) _ (m .mark-boundary .ensures)
+-- ---- past 10: what the table of the boundary says of 11
+module _ (c : tie.After-any-inner-tagged) where
+  abbrev passed : tie.Else1
+  passed = c .before .before
 
-mul-n : tie.Need-mul-n
-mul-n c = let i = c .before .before .before .before .pre .0 .0 in omega arith
+  abbrev told : tie.After-fan-refusal
+  told = fans (passed .before)
 
-slice-aggregate-count-corners : tie.Need-slice-aggregate-count-corners
-slice-aggregate-count-corners c = search needs
+  abbrev start₁₀ : tie.Start
+  start₁₀ = start told
 
-count-corners-requires : tie.Need-count-corners-requires
-count-corners-requires c κs = let s = start c in ((s .pre .0 .0, omega arith), λ p l. getD-replicate maxVertices p 0 0 l)
+  none-met : firstMet (fanRows (vertex start₁₀) (n start₁₀) (start₁₀ .args .v)) ≡ none
+  none-met = told .fan-refusal .ensures .first ∙ ap refusalOf (passed .if1 .left)
 
-slice-aggregate-any-unused : tie.Need-slice-aggregate-any-unused
-slice-aggregate-any-unused c = search needs
+  tagged : (positions : List ℤ) → c .any-inner-tagged .result ≡ innerTagged (mesh start₁₀ positions)
+  unfolding innerTagged
+  tagged positions =
+      c .any-inner-tagged .ensures
+      ∙ tagged-table _ (start₁₀ .pre .0 .2) (start₁₀ .args .tags .now) (told .fan-refusal .last .1 .1 .1 .1 .1 .0) _ (told .fan-refusal .ensures .marked (passed .if1 .left))
 
-any-unused-requires : tie.Need-any-unused-requires
-any-unused-requires c κs = let s = start (c .before .before .before) in omega arith
+-- ---- the answers, in the order of the code
+slice-aggregate-fan-refusal : tie.Need-slice-aggregate-fan-refusal
+slice-aggregate-fan-refusal c = search needs
+
+fan-refusal-requires : tie.Need-fan-refusal-requires
+fan-refusal-requires c κs =
+    let p = entry c .pre in
+    ((p .0 .0, p .0 .1, p .0 .2), ((p .1 .0 .0, p .1 .0 .1, omega arith), (p .1 .1 .0, (p .1 .1 .1, λ q l. getD-replicate maxVertices q false false l))))
 
 returns : tie.Need-returns
-unfolding vertexUnused
-returns c =
-    let k = c .before .before .before .before in
-    late-8 (mesh (start (k .before))) (sym (c .before .any-unused .ensures ∙ unused-table _ (start (k .before) .pre .0 .2) (k .count-corners .last .1 .1 .0) _ (k .count-corners .ensures)) ∙ c .if1 .taken)
-
-slice-aggregate-any-fan-broken : tie.Need-slice-aggregate-any-fan-broken
-slice-aggregate-any-fan-broken c = search needs
-
-any-fan-broken-requires : tie.Need-any-fan-broken-requires
-any-fan-broken-requires c κs =
-    let e₁ = c .before in
-    let k = e₁ .before .before .before .before in
-    let s = start (k .before) in
-    let p = s .pre in
-    ((p .0 .0, p .0 .1, p .0 .2), ((p .1 .0 .0, omega arith, p .1 .0 .1), (p .1 .1 .0, (k .count-corners .ensures, (p .1 .1 .1, unused-false (mesh s) (used e₁))))))
-
-returns-2 : tie.Need-returns-2
-unfolding fanBroken
-returns-2 c =
-    let e₁ = c .before .before .before in
-    late-9 (mesh (start (e₁ .before .before .before .before .before))) (used e₁) (sym (c .before .any-fan-broken .ensures) ∙ c .if2 .taken)
-
-slice-aggregate-mark-boundary : tie.Need-slice-aggregate-mark-boundary
-slice-aggregate-mark-boundary c = search needs
-
-mark-boundary-requires : tie.Need-mark-boundary-requires
-mark-boundary-requires c κs =
-    let s = start (c .before .before .before .before .before .before .before .before .before) in
-    ((s .pre .0 .0, s .pre .1 .0 .0, omega arith), (s .pre .1 .1 .0, λ p l. getD-replicate maxVertices p false false l))
-
-slice-aggregate-any-valence-off : tie.Need-slice-aggregate-any-valence-off
-slice-aggregate-any-valence-off c = search needs
-
-slice-aggregate-any-valence-off-2 : tie.Need-slice-aggregate-any-valence-off-2
-slice-aggregate-any-valence-off-2 c = search needs
-
-any-valence-off-requires : tie.Need-any-valence-off-requires
-any-valence-off-requires c κs = search needs
-
-returns-3 : tie.Need-returns-3
-returns-3 c =
-    let e₂ = c .before .before .before .before .before .before .before in
-    let e₁ = e₂ .before .before .before in
-    late-10 (mesh (start (e₁ .before .before .before .before .before))) (used e₁) (fans e₂) (sym (valence-off (c .before)) ∙ c .if3 .taken)
+returns c positions =
+    let f = fans (c .before) in
+    let s = start f in
+    let r = f .fan-refusal .result in
+    let met = c .if1 .taken in
+    some-append (fanRows (vertex s) (n s) (s .args .v)) (vertexRows (mesh s positions)) (f .fan-refusal .ensures .first ∙ refusal-some r met) ∙ sym (refusal-some r met)
 
 slice-aggregate-any-inner-tagged : tie.Need-slice-aggregate-any-inner-tagged
 slice-aggregate-any-inner-tagged c = search needs
@@ -115,40 +83,26 @@ slice-aggregate-any-inner-tagged c = search needs
 any-inner-tagged-requires : tie.Need-any-inner-tagged-requires
 any-inner-tagged-requires c κs = search needs
 
-returns-4 : tie.Need-returns-4
-returns-4 c =
-    let e₃ = c .before .before .before in
-    let e₂ = e₃ .before .before .before .before .before .before .before in
-    let e₁ = e₂ .before .before .before in
-    late-11 (mesh (start (e₁ .before .before .before .before .before))) (used e₁) (fans e₂) (valences e₃) (sym (tagged (c .before)) ∙ c .if4 .taken)
+returns-2 : tie.Need-returns-2
+returns-2 c positions =
+    let k = c .before in
+    let s = start₁₀ k in
+    none-append (fanRows (vertex s) (n s) (s .args .v)) (vertexRows (mesh s positions)) (none-met k) ∙ met-here 11 _ (sym (tagged k positions) ∙ c .if2 .taken)
 
-returns-5 : tie.Need-returns-5
-returns-5 c =
-    let e₃ = c .before .before .before in
-    let e₂ = e₃ .before .before .before .before .before .before .before in
-    let e₁ = e₂ .before .before .before in
-    late-none (mesh (start (e₁ .before .before .before .before .before))) (used e₁) (fans e₂) (valences e₃) (sym (tagged (c .before)) ∙ c .if4 .left)
+returns-3 : tie.Need-returns-3
+returns-3 c positions =
+    let k = c .before in
+    let s = start₁₀ k in
+    none-append (fanRows (vertex s) (n s) (s .args .v)) (vertexRows (mesh s positions)) (none-met k) ∙ skipped 11 _ (sym (tagged k positions) ∙ c .if2 .left)
 
 pub late-refusal-spec : {M : Type 1} → statement M
 late-refusal-spec =
     tie.close
     (tie.spec
-    mul-n
-    slice-aggregate-count-corners
-    count-corners-requires
-    slice-aggregate-any-unused
-    any-unused-requires
+    slice-aggregate-fan-refusal
+    fan-refusal-requires
     returns
-    slice-aggregate-any-fan-broken
-    any-fan-broken-requires
-    returns-2
-    slice-aggregate-mark-boundary
-    mark-boundary-requires
-    slice-aggregate-any-valence-off
-    slice-aggregate-any-valence-off-2
-    any-valence-off-requires
-    returns-3
     slice-aggregate-any-inner-tagged
     any-inner-tagged-requires
-    returns-4
-    returns-5)
+    returns-2
+    returns-3)

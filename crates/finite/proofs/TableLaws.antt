@@ -1,0 +1,74 @@
+-- A table of causes, whatever its rows are: a row is met and gives its number, or it is skipped and the rows after it tell; a table in two
+-- parts goes on to the second where nothing of the first is met.
+--
+--   From rows rest   what is first met of rows is what is first met of rest, the rows that are not checked yet
+--   orElse m m'    the first of two numbers, where it is there, else the second
+--   `firstMet (row b k ∷ rows)` is `cond b (some k) (firstMet rows)`; the laws speak of that form, with m what the rows after it give.
+use mathlib.Core.Path.{_≡_, refl, sym, ap, _∙_}
+use mathlib.Core.Bool.{Bool, true, false, cond}
+use mathlib.Core.List.{List, [], _∷_, _++_}
+use mathlib.Core.Option.{Option, none, some}
+use Prim.Native.Nat.{ℕ}
+use native.Mathlib.Omega.{arith}
+use Rattle.finite.specs.Table.{Row, row, firstMet, Answer, result, refusal, answerBy}
+
+-- ---- one row
+module _ (k : ℕ) (m : Option ℕ) {b : Bool} where
+  pub met-here : b ≡ true → cond b (some k) m ≡ some k
+  met-here e = rw e
+
+  pub skipped : b ≡ false → cond b (some k) m ≡ m
+  skipped e = rw e
+
+-- nothing is met: not this cause, and nothing after it
+pub none-met : (b : Bool) (k : ℕ) (m : Option ℕ) → cond b (some k) m ≡ none → (b ≡ false) × (m ≡ none)
+none-met true k m e = let z : _≡_ {A = ℕ} 0 1 = cc in absurd (omega arith)
+none-met false k m e = (refl, e)
+
+-- ---- two parts
+abbrev pub orElse : Option ℕ → Option ℕ → Option ℕ
+orElse none y = y
+orElse (some k) y = some k
+
+pub first-append : (xs ys : List Row) → firstMet (xs ++ ys) ≡ orElse (firstMet xs) (firstMet ys)
+first-append [] ys = refl
+first-append (r ∷ xs) ys = go (r .cause) (first-append xs ys)
+  where
+    go : (b : Bool) → firstMet (xs ++ ys) ≡ orElse (firstMet xs) (firstMet ys)
+        → cond b (some (r .number)) (firstMet (xs ++ ys)) ≡ orElse (cond b (some (r .number)) (firstMet xs)) (firstMet ys)
+    go true h = refl
+    go false h = h
+
+-- nothing of either is met
+pub none-append : (xs ys : List Row) → firstMet xs ≡ none → firstMet (xs ++ ys) ≡ firstMet ys
+none-append xs ys e = first-append xs ys ∙ rw e
+
+pub some-append : (xs ys : List Row) {k : ℕ} → firstMet xs ≡ some k → firstMet (xs ++ ys) ≡ some k
+some-append xs ys e = first-append xs ys ∙ rw e
+
+pub append-none : (xs ys : List Row) → firstMet (xs ++ ys) ≡ none → (firstMet xs ≡ none) × (firstMet ys ≡ none)
+append-none xs ys e = go (firstMet xs) (firstMet ys) (sym (first-append xs ys) ∙ e)
+  where
+    go : (x y : Option ℕ) → orElse x y ≡ none → (x ≡ none) × (y ≡ none)
+    go none y h = (refl, h)
+    go (some k) y h = let z : _≡_ {A = ℕ} 0 1 = cc in absurd (omega arith)
+
+-- ---- the answer
+-- a result says that nothing was met
+pub result-none : {A : Type 0} {a x : A} (met : Option ℕ) → result a ≡ answerBy met x → (met ≡ none) × (a ≡ x)
+result-none none e = (refl, (cc))
+result-none (some k) e = let z : _≡_ {A = ℕ} 0 1 = cc in absurd (omega arith)
+
+-- ---- checking row by row
+pub record From (rows rest : List Row) : Type 0 where
+  pub same : firstMet rows ≡ firstMet rest
+
+pub all-rows : (rows : List Row) → From rows rows
+all-rows rows = record { same = refl }
+
+module _ {rows rest : List Row} {b : Bool} {k : ℕ} (l : From rows (row b k ∷ rest)) where
+  pub row-met : b ≡ true → firstMet rows ≡ some k
+  row-met e = l .same ∙ rw e
+
+  pub row-passed : b ≡ false → From rows rest
+  row-passed e = record { same = l .same ∙ rw e }

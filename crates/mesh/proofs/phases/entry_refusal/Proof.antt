@@ -1,0 +1,174 @@
+-- `entry_refusal` meets its contract: the phases run in the order of the rows, and each says its cause; what is left to check after each
+-- of them is said by `after-..`.
+use mathlib.Core.Path.{_≡_, sym, _∙_}
+use mathlib.Core.List.{[], _∷_}
+use Prim.Native.Nat.{_*_}
+use native.Mathlib.Nat.{suc-ne-zero}
+use native.Mathlib.Omega.{arith}
+use lib.ListN.{length}
+use Rattle.finite.specs.Table.{row, firstMet}
+use Rattle.finite.proofs.TableLaws.{From, all-rows, row-met, row-passed}
+use Rattle.mesh.specs.IndexedMesh.{IndexedMesh, indexed}
+use Rattle.mesh.specs.Refusal.{coordinateOff, tagOff, vertexOff, vertexTwice, halfEdgeTwice, entryRows}
+use Rattle.mesh.specs.WellFormed.{Sized}
+use Rattle.mesh.specs.Private.{Indices}
+use Rattle.mesh.proofs.PhaseLaws.{sized-indices}
+use Rattle.mesh.proofs.AcceptedLaws.{vertex-false}
+use Rattle.mesh.proofs.phases.entry_refusal.Statement.{statement}
+use Rattle.mesh.proofs.phases.entry_refusal.Tie as tie
+
+-- ---- at the entry: the mesh that was passed
+abbrev mesh : tie.Start → IndexedMesh
+mesh s = indexed (s .args .v) (s .args .f) (s .args .positions .now) (s .args .tags .now) (s .args .faces .now)
+
+abbrev entry : tie.After-slice-known2 → tie.Start
+entry c = c .before .before .before .before
+
+-- ---- past 3: the coordinates are within their range
+module _ (c : tie.Else1) where
+  abbrev start₃ : tie.Start
+  start₃ = entry (c .before .before)
+
+  after-3 : From (entryRows (mesh start₃)) (row (tagOff (mesh start₃)) 4 ∷ (row (vertexOff (mesh start₃)) 5 ∷ (row (vertexTwice (mesh start₃)) 6 ∷ (row (halfEdgeTwice (mesh start₃)) 7 ∷ []))))
+  unfolding coordinateOff
+  after-3 = row-passed (all-rows (entryRows (mesh start₃))) (sym (c .before .any-coordinate-off .ensures) ∙ c .if1 .left)
+
+-- ---- past 4: the tags are known
+module _ (c : tie.Else2) where
+  abbrev start₄ : tie.Start
+  start₄ = start₃ (c .before .before)
+
+  after-4 : From (entryRows (mesh start₄)) (row (vertexOff (mesh start₄)) 5 ∷ (row (vertexTwice (mesh start₄)) 6 ∷ (row (halfEdgeTwice (mesh start₄)) 7 ∷ [])))
+  unfolding tagOff
+  after-4 = row-passed (after-3 (c .before .before)) (sym (c .before .any-tag-off .ensures) ∙ c .if2 .left)
+
+-- ---- past 5: the faces name known vertices, so the face list is one of whole faces
+module _ (c : tie.Else3) where
+  abbrev start₅ : tie.Start
+  start₅ = start₄ (c .before .before)
+
+  after-5 : From (entryRows (mesh start₅)) (row (vertexTwice (mesh start₅)) 6 ∷ (row (halfEdgeTwice (mesh start₅)) 7 ∷ []))
+  unfolding vertexOff
+  after-5 = row-passed (after-4 (c .before .before)) (sym (c .before .any-vertex-off .ensures) ∙ c .if3 .left)
+
+  indices : Indices (start₅ .args .faces .now) (4 * start₅ .args .f)
+  unfolding vertexOff
+  indices = sized-indices (mesh start₅) (start₅ .pre .0) (vertex-false (mesh start₅) (sym (c .before .any-vertex-off .ensures) ∙ c .if3 .left))
+
+-- ---- past 6: no face names a vertex twice
+module _ (c : tie.Else4) where
+  abbrev start₆ : tie.Start
+  start₆ = start₅ (c .before .before)
+
+  after-6 : From (entryRows (mesh start₆)) (row (halfEdgeTwice (mesh start₆)) 7 ∷ [])
+  unfolding vertexTwice
+  after-6 = row-passed (after-5 (c .before .before)) (sym (c .before .any-vertex-twice .ensures) ∙ c .if4 .left)
+
+-- ---- the corners are chained: what that says of 7, and the tables afterwards
+abbrev passed-6 : tie.After-link-corners → tie.Else4
+passed-6 c = c .before .before .before
+
+abbrev linked : tie.After-slice-known4 → tie.After-link-corners
+linked c = c .before .before .before .before
+
+-- ---- the answers, in the order of the code
+mul-n : tie.Need-mul-n
+mul-n c = let z = entry c .pre .0 in omega arith
+
+mul-any-coordinate-off : tie.Need-mul-any-coordinate-off
+mul-any-coordinate-off c = let z = entry c .pre .0 in omega arith
+
+any-coordinate-off-requires : tie.Need-any-coordinate-off-requires
+any-coordinate-off-requires c κs = let z = entry c .pre .0 in omega arith
+
+returns : tie.Need-returns
+unfolding coordinateOff
+returns c = record {
+  first = row-met (all-rows (entryRows (mesh (entry (c .before .before))))) (sym (c .before .any-coordinate-off .ensures) ∙ c .if1 .taken);
+  chained = λ e. absurd (suc-ne-zero _ e);
+}
+
+any-tag-off-requires : tie.Need-any-tag-off-requires
+any-tag-off-requires c κs = let z = start₃ c .pre .0 in omega arith
+
+returns-2 : tie.Need-returns-2
+unfolding tagOff
+returns-2 c = record {
+  first = row-met (after-3 (c .before .before)) (sym (c .before .any-tag-off .ensures) ∙ c .if2 .taken);
+  chained = λ e. absurd (suc-ne-zero _ e);
+}
+
+any-vertex-off-requires : tie.Need-any-vertex-off-requires
+any-vertex-off-requires c κs = let z = start₄ c .pre .0 in omega arith
+
+returns-3 : tie.Need-returns-3
+unfolding vertexOff
+returns-3 c = record {
+  first = row-met (after-4 (c .before .before)) (sym (c .before .any-vertex-off .ensures) ∙ c .if3 .taken);
+  chained = λ e. absurd (suc-ne-zero _ e);
+}
+
+any-vertex-twice-requires : tie.Need-any-vertex-twice-requires
+any-vertex-twice-requires c κs = indices c
+
+returns-4 : tie.Need-returns-4
+unfolding vertexTwice
+returns-4 c = record {
+  first = row-met (after-5 (c .before .before)) (sym (c .before .any-vertex-twice .ensures) ∙ c .if4 .taken);
+  chained = λ e. absurd (suc-ne-zero _ e);
+}
+
+link-corners-requires : tie.Need-link-corners-requires
+link-corners-requires c κs =
+    let e = c .before .before .before .before in
+    let s = start₅ e in
+    let z = s .pre .0 in
+    ((indices e, s .pre .1 .0, omega (arith, s .pre .1 .1)), s .pre .1 .2)
+
+same-length : tie.Need-same-length
+same-length c = linked (c .before) .link-corners .kept .1 .1 .0
+
+same-length-2 : tie.Need-same-length-2
+same-length-2 c = linked (c .before) .link-corners .kept .1 .1 .1 .0
+
+returns-5 : tie.Need-returns-5
+unfolding halfEdgeTwice
+returns-5 c = let l = linked (c .before) in record {
+  first = row-met (after-6 (passed-6 l)) (sym (l .link-corners .ensures .0) ∙ c .if5 .taken);
+  chained = λ e. absurd (suc-ne-zero _ e);
+}
+
+same-length-3 : tie.Need-same-length-3
+same-length-3 c = linked (c .before) .link-corners .kept .1 .1 .0
+
+same-length-4 : tie.Need-same-length-4
+same-length-4 c = linked (c .before) .link-corners .kept .1 .1 .1 .0
+
+returns-6 : tie.Need-returns-6
+unfolding halfEdgeTwice
+returns-6 c = let l = linked (c .before) in record {
+  first = row-passed (after-6 (passed-6 l)) (sym (l .link-corners .ensures .0) ∙ c .if5 .left) .same;
+  chained = λ e. l .link-corners .ensures .1 (c .if5 .left);
+}
+
+pub entry-refusal-spec : {M : Type 1} → statement M
+entry-refusal-spec =
+    tie.close
+    (tie.spec
+    mul-n
+    mul-any-coordinate-off
+    any-coordinate-off-requires
+    returns
+    any-tag-off-requires
+    returns-2
+    any-vertex-off-requires
+    returns-3
+    any-vertex-twice-requires
+    returns-4
+    link-corners-requires
+    same-length
+    same-length-2
+    returns-5
+    same-length-3
+    same-length-4
+    returns-6)

@@ -1,0 +1,173 @@
+-- `fan_refusal` meets its contract: the phases run in the order of the rows, and each says its cause of the tables by vertex.
+use mathlib.Core.Path.{_≡_, sym, _∙_}
+use mathlib.Core.Bool.{false}
+use mathlib.Core.List.{List, [], _∷_}
+use Prim.Native.Nat.{ℕ, _*_}
+use native.Mathlib.Nat.{suc-ne-zero}
+use native.Mathlib.Omega.{arith}
+use lib.ListN.{getD-replicate}
+use borrow.Author.Needs.{needs}
+use Rattle.finite.specs.Table.{row}
+use Rattle.finite.proofs.TableLaws.{From, all-rows, row-met, row-passed}
+use Rattle.mesh.specs.Limits.{maxVertices}
+use Rattle.mesh.specs.Refusal.{vertexUnused, fanBroken, valenceOff, fanRows}
+use Rattle.mesh.specs.Private.{vertexOf}
+use Rattle.mesh.proofs.PhaseLaws.{unused-table, valence-table}
+use Rattle.mesh.proofs.AcceptedLaws.{unused-false}
+use Rattle.mesh.proofs.phases.fan_refusal.Statement.{statement}
+use Rattle.mesh.proofs.phases.fan_refusal.Tie as tie
+
+-- ---- at the entry: the vertices of the corners, and how many there are
+module _ (s : tie.Start) where
+  abbrev vertex : ℕ → ℕ
+  vertex = vertexOf (s .args .faces .now)
+
+  abbrev n : ℕ
+  n = 4 * s .args .f
+
+abbrev entry : tie.After-slice-known → tie.Start
+entry c = c .before .before .before .before
+
+-- ---- the corners at each vertex are counted
+module _ (c : tie.After-count-corners) where
+  abbrev start : tie.Start
+  start = entry (c .before .before)
+
+  abbrev valences : List ℕ
+  valences = c .count-corners .last .1 .1 .0
+
+abbrev counted : tie.After-any-unused → tie.After-count-corners
+counted c = c .before .before .before
+
+unused : (c : tie.After-any-unused) → (let s = start (counted c) in c .any-unused .result ≡ vertexUnused (vertex s) (n s) (s .args .v))
+unfolding vertexUnused
+unused c =
+    let k = counted c in
+    c .any-unused .ensures ∙ unused-table _ (start k .pre .0 .2) (valences k) _ (k .count-corners .ensures)
+
+-- ---- past 8: every vertex has corners
+module _ (c : tie.Else1) where
+  abbrev start₈ : tie.Start
+  start₈ = start (counted (c .before))
+
+  used : vertexUnused (vertex start₈) (n start₈) (start₈ .args .v) ≡ false
+  used = sym (unused (c .before)) ∙ c .if1 .left
+
+  after-8 : From (fanRows (vertex start₈) (n start₈) (start₈ .args .v)) (row (fanBroken (vertex start₈) (n start₈) (start₈ .args .v)) 9 ∷ (row (valenceOff (vertex start₈) (n start₈) (start₈ .args .v)) 10 ∷ []))
+  after-8 = row-passed (all-rows (fanRows (vertex start₈) (n start₈) (start₈ .args .v))) used
+
+-- ---- past 9: the corners at each vertex form one turn or one chain
+module _ (c : tie.Else2) where
+  abbrev passed-8 : tie.Else1
+  passed-8 = c .before .before .before
+
+  abbrev start₉ : tie.Start
+  start₉ = start₈ passed-8
+
+  after-9 : From (fanRows (vertex start₉) (n start₉) (start₉ .args .v)) (row (valenceOff (vertex start₉) (n start₉) (start₉ .args .v)) 10 ∷ [])
+  unfolding fanBroken
+  after-9 = row-passed (after-8 passed-8) (sym (c .before .any-fan-broken .ensures) ∙ c .if2 .left)
+
+-- ---- the vertices of the boundary are marked: what the two tables say of 10
+abbrev passed-9 : tie.After-mark-boundary → tie.Else2
+passed-9 c = c .before .before
+
+module _ (c : tie.After-any-valence-off) where
+  abbrev marks : tie.After-mark-boundary
+  marks = let k : tie.After-valences5 = c .before .before in k .before .before .before
+
+  abbrev start₁₀ : tie.Start
+  start₁₀ = start₉ (passed-9 marks)
+
+  valence : c .any-valence-off .result ≡ valenceOff (vertex start₁₀) (n start₁₀) (start₁₀ .args .v)
+  unfolding valenceOff
+  valence =
+      let k = counted (passed-8 (passed-9 marks) .before) in
+      c .any-valence-off .ensures
+      ∙ valence-table _ (start₁₀ .pre .0 .2) (valences k) _ (k .count-corners .ensures) (marks .mark-boundary .last .1 .1 .1 .0) _ (marks .mark-boundary .ensures)
+
+-- ---- the answers, in the order of the code
+mul-n : tie.Need-mul-n
+mul-n c = let i = entry c .pre .0 .0 in omega arith
+
+slice-aggregate-count-corners : tie.Need-slice-aggregate-count-corners
+slice-aggregate-count-corners c = search needs
+
+count-corners-requires : tie.Need-count-corners-requires
+count-corners-requires c κs = ((entry (c .before) .pre .0 .0, omega arith), λ p l. getD-replicate maxVertices p 0 0 l)
+
+slice-aggregate-any-unused : tie.Need-slice-aggregate-any-unused
+slice-aggregate-any-unused c = search needs
+
+any-unused-requires : tie.Need-any-unused-requires
+any-unused-requires c κs = let s = start (c .before .before) in omega arith
+
+returns : tie.Need-returns
+returns c =
+    let s = start (counted (c .before)) in
+    record { first = row-met (all-rows (fanRows (vertex s) (n s) (s .args .v))) (sym (unused (c .before)) ∙ c .if1 .taken); marked = λ e. absurd (suc-ne-zero _ e) }
+
+slice-aggregate-any-fan-broken : tie.Need-slice-aggregate-any-fan-broken
+slice-aggregate-any-fan-broken c = search needs
+
+any-fan-broken-requires : tie.Need-any-fan-broken-requires
+any-fan-broken-requires c κs =
+    let e₁ = c .before in
+    let s = start₈ e₁ in
+    let p = s .pre in
+    (p .0, ((p .1 .0 .0, omega arith, p .1 .0 .1), (p .1 .1 .0, (counted (e₁ .before) .count-corners .ensures, (p .1 .1 .1 .0, unused-false (vertex s) (n s) (s .args .v) (used e₁))))))
+
+returns-2 : tie.Need-returns-2
+unfolding fanBroken
+returns-2 c = record {
+  first = row-met (after-8 (c .before .before .before)) (sym (c .before .any-fan-broken .ensures) ∙ c .if2 .taken);
+  marked = λ e. absurd (suc-ne-zero _ e);
+}
+
+mark-boundary-requires : tie.Need-mark-boundary-requires
+mark-boundary-requires c κs = let p = start₉ (c .before) .pre in ((p .0 .0, p .1 .0 .0, p .1 .0 .2), (p .1 .1 .0, p .1 .1 .1 .1))
+
+slice-aggregate-any-valence-off : tie.Need-slice-aggregate-any-valence-off
+slice-aggregate-any-valence-off c = search needs
+
+any-valence-off-requires : tie.Need-any-valence-off-requires
+any-valence-off-requires c κs = search needs
+
+same-length : tie.Need-same-length
+same-length c = search needs
+
+returns-3 : tie.Need-returns-3
+returns-3 c = record {
+  first = row-met (after-9 (passed-9 (marks (c .before)))) (sym (valence (c .before)) ∙ c .if3 .taken);
+  marked = λ e. absurd (suc-ne-zero _ e);
+}
+
+same-length-2 : tie.Need-same-length-2
+same-length-2 c = search needs
+
+returns-4 : tie.Need-returns-4
+returns-4 c = record {
+  first = row-passed (after-9 (passed-9 (marks (c .before)))) (sym (valence (c .before)) ∙ c .if3 .left) .same;
+  marked = λ e. marks (c .before) .mark-boundary .ensures;
+}
+
+pub fan-refusal-spec : {M : Type 1} → statement M
+fan-refusal-spec =
+    tie.close
+    (tie.spec
+    mul-n
+    slice-aggregate-count-corners
+    count-corners-requires
+    slice-aggregate-any-unused
+    any-unused-requires
+    returns
+    slice-aggregate-any-fan-broken
+    any-fan-broken-requires
+    returns-2
+    mark-boundary-requires
+    slice-aggregate-any-valence-off
+    any-valence-off-requires
+    same-length
+    returns-3
+    same-length-2
+    returns-4)
