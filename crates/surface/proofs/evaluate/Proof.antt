@@ -17,7 +17,9 @@ same-length-2 : tie.Need-same-length-2
 same-length-2 c = search needs
 
 returns : tie.Need-returns
-returns c = search (evaluated, needs)
+returns c =
+    let lent = c .before .before .before in
+    evaluated (lent .before .before .patches .ensures) (c .sample .ensures)
 
 pub evaluate-spec : {M : Type 1} → statement M
 evaluate-spec =

@@ -26,7 +26,12 @@ same-length-4 : tie.Need-same-length-4
 same-length-4 c = search needs
 
 returns : tie.Need-returns
-returns c = search (witnessed, needs)
+returns c =
+    let second = c .before .before .before in
+    let other = second .before .before .before in
+    let lent = other .before .before in
+    let first = lent .before .before .before in
+    witnessed (first .evaluate .ensures) (other .sample .ensures) (second .evaluate2 .ensures)
 
 pub witness-spec : {M : Type 1} → statement M
 witness-spec =
