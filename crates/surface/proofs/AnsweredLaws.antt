@@ -8,12 +8,14 @@ use lib.IntN.{ℤ, pos, natAbs}
 use lib.ListN.{length, getD}
 use borrow.Author.Tests.{le-ltb}
 use Rattle.finite.proofs.AnyAll.{any-none}
+use Rattle.finite.specs.Table.{result}
 use Rattle.mesh.specs.IndexedMesh.{IndexedMesh}
 use Rattle.mesh.specs.WellFormed.{WellFormed}
 use Rattle.sample.specs.Bernstein.{rounded, coordinateAt}
 use Rattle.sample.specs.Refusal.{maxControl, minSteps, maxSteps, faceOff, controlOff, placeOff}
-use Rattle.sample.specs.Answer.{point, sampleAnswer}
+use Rattle.sample.specs.Answer.{pointAt, sampleAnswer}
 use Rattle.sample.proofs.SampleLaws.{rounded-ext}
+use Rattle.sample.proofs.RefusalLaws.{place-on}
 use Rattle.patch.specs.Patch.{control, view, patchesAfter}
 use Rattle.patch.proofs.WrittenLaws.{written-length, written-at, written-bound}
 
@@ -28,17 +30,17 @@ unfolding controlOff
 control-none {M} a d f l =
     any-none _ 48 (λ i b. le-ltb maxControl (natAbs (getD (patchesAfter M d) (48 * f + i) (pos 0))) (written-bound a d (48 * f + i) (omega arith)))
 
--- 14
-place-none : (n a b : ℕ) → minSteps ≤ n → n ≤ maxSteps → a ≤ n → b ≤ n → placeOff n a b ≡ false
+-- 14, at any other place for the same N
+pub place-none : (n a b x y : ℕ) → placeOff n a b ≡ false → x ≤ n → y ≤ n → placeOff n x y ≡ false
 unfolding placeOff
-place-none n a b least most ha hb = rw (le-ltb n minSteps least, le-ltb maxSteps n most, le-ltb n a ha, le-ltb n b hb)
+place-none n a b x y on hx hy =
+    let s = place-on n a b on in
+    rw (le-ltb n minSteps (s .0), le-ltb maxSteps n (s .1), le-ltb n x hx, le-ltb n y hy)
 
-pub answered : {M : IndexedMesh} → WellFormed M → (d : List ℤ) (f n a b : ℕ) → 48 * M .faces ≤ length d → f < M .faces
-    → minSteps ≤ n → n ≤ maxSteps → a ≤ n → b ≤ n
-    → sampleAnswer (patchesAfter M d) f n a b
-    ≡ point (coordinateAt (patchesAfter M d) f n a b 0) (coordinateAt (patchesAfter M d) f n a b 1) (coordinateAt (patchesAfter M d) f n a b 2)
+pub answered : {M : IndexedMesh} → WellFormed M → (d : List ℤ) (f n a b : ℕ) → 48 * M .faces ≤ length d → f < M .faces → placeOff n a b ≡ false
+    → sampleAnswer (patchesAfter M d) f n a b ≡ result (pointAt (patchesAfter M d) f n a b)
 unfolding sampleAnswer
-answered {M} acc d f n a b long l least most ha hb = rw (face-none M d f long l, control-none acc d f l, place-none n a b least most ha hb)
+answered {M} acc d f n a b long l on = rw (face-none M d f long l, control-none acc d f l, on)
 
 pub coordinate-written : (M : IndexedMesh) (d : List ℤ) (f n a b k : ℕ) → f < M .faces → k < 3
     → coordinateAt (patchesAfter M d) f n a b k ≡ rounded n a b (control (view M k) (4 * f))

@@ -1,32 +1,44 @@
--- The claim, of every accepted mesh and every renumbering of it.
+-- The parts of the claim, of the definitions: what the sample call answers on the patch list of an accepted mesh.
+--
+--   sampleOn M d n f p   what the sample call answers for face f at place p, on the patch list of M written over d
+--   answerFrom M n f p   the same, by the control points
 use mathlib.Core.Path.{_≡_, sym, ap, ap₂, _∙_}
+use mathlib.Core.Bool.{false}
 use mathlib.Core.List.{List}
-use Prim.Native.Nat.{ℕ, _-_, _*_, _/_, _%_, _≤_, _<_}
+use Prim.Native.Nat.{ℕ, _-_, _*_, _/_, _%_, _^_, _≤_, _<_}
 use native.Mathlib.Omega.{arith}
-use lib.IntN.{ℤ}
+use lib.IntN.{ℤ, pos, natAbs, _-ℤ_, _*ℤ_}
 use lib.ListN.{length}
+use Rattle.finite.specs.Table.{Answer, result}
 use Rattle.mesh.specs.Corner.{turn}
-use Rattle.mesh.specs.HalfEdge.{twin}
+use Rattle.mesh.specs.HalfEdge.{twin, boundary}
 use Rattle.mesh.specs.IndexedMesh.{IndexedMesh, corners, at, tag}
 use Rattle.mesh.specs.WellFormed.{WellFormed}
 use Rattle.mesh.proofs.AcceptedLaws.{accepted-corners}
-use Rattle.sample.specs.Answer.{Answer, point}
+use Rattle.sample.specs.Bernstein.{rounded, coordinateAt}
+use Rattle.sample.specs.Refusal.{placeOff}
+use Rattle.sample.specs.Answer.{sampleAnswer}
+use Rattle.sample.specs.declared.model.Point.{Point}
 use Rattle.sample.proofs.SampleLaws.{rounded-ext}
-use Rattle.patch.specs.Patch.{patchPoint, units, view}
+use Rattle.sample.proofs.RefusalLaws.{place-on}
+use Rattle.patch.specs.Patch.{patchPoint, units, view, patchesAfter}
 use Rattle.patch.proofs.PointLaws.{patch-divisor}
 use Rattle.symmetry.proofs.WellFormedMoves.{sound, alike-well-formed}
-use Rattle.surface.specs.Renumbering.{Renumbering, Place, place, matching, onSide}
-use Rattle.surface.specs.Claim.{Claim, sampleOn, exact}
+use Rattle.surface.specs.Renumbering.{Renumbering, Place, matching, onSide}
+use Rattle.surface.specs.Claim.{OnMesh, exact, Multiples, exactSum, pointOf}
+use Rattle.surface.specs.declared.model.SamplePlace.{SamplePlace}
 use Rattle.surface.proofs.PointMoves.{patch-moves}
 use Rattle.surface.proofs.FromRenumbering.{alike, carried, face-begins}
 use Rattle.surface.proofs.FaceSamples.{sampleFrom, Within, matching-within, side-within, sample-matching}
 use Rattle.surface.proofs.Seam.{twin-inside, seam}
 use Rattle.surface.proofs.Distance.{distance}
-use Rattle.surface.proofs.AnsweredLaws.{coordinate-written, answered}
+use Rattle.surface.proofs.AnsweredLaws.{coordinate-written, place-none, answered}
 
--- the three coordinates of an answer
-answerFrom : IndexedMesh → ℕ → ℕ → Place → Answer
-answerFrom M n f p = point (sampleFrom (view M 0) n (4 * f) p) (sampleFrom (view M 1) n (4 * f) p) (sampleFrom (view M 2) n (4 * f) p)
+abbrev pub sampleOn : IndexedMesh → List ℤ → ℕ → ℕ → Place → Answer Point
+sampleOn M d n f p = sampleAnswer (patchesAfter M d) f n (p .a) (p .b)
+
+answerFrom : IndexedMesh → ℕ → ℕ → Place → Answer Point
+answerFrom M n f p = result (pointOf (λ k. sampleFrom (view M k) n (4 * f) p))
 
 -- answers whose coordinates are equal
 same-answer : (M M′ : IndexedMesh) (n f f′ : ℕ) (p p′ : Place)
@@ -35,16 +47,16 @@ unfolding answerFrom
 same-answer M M′ n f f′ p p′ h = rw (h 0 (omega arith), h 1 (omega arith), h 2 (omega arith))
 
 -- what the sample call gives, by the control points
-module _ {M : IndexedMesh} (a : WellFormed M) (n : ℕ) (least : 1 ≤ n) (most : n ≤ 32) (d : List ℤ) (long : 48 * M .faces ≤ length d) where
-  sampled : (f : ℕ) (p : Place) → f < M .faces → Within n p → sampleOn M d n f p ≡ answerFrom M n f p
-  unfolding answerFrom
-  sampled f p l w =
-      answered a d f n (p .a) (p .b) long l least most (w .0) (w .1)
-      ∙ rw (
-        coordinate-written M d f n (p .a) (p .b) 0 l (omega arith),
-        coordinate-written M d f n (p .a) (p .b) 1 l (omega arith),
-        coordinate-written M d f n (p .a) (p .b) 2 l (omega arith),
-      )
+sampled : {M : IndexedMesh} → WellFormed M → (d : List ℤ) → 48 * M .faces ≤ length d → (n f : ℕ) (p : Place)
+    → f < M .faces → placeOff n (p .a) (p .b) ≡ false → sampleOn M d n f p ≡ answerFrom M n f p
+unfolding answerFrom
+sampled {M} a d long n f p l on =
+    answered a d f n (p .a) (p .b) long l on
+    ∙ rw (
+      coordinate-written M d f n (p .a) (p .b) 0 l (omega arith),
+      coordinate-written M d f n (p .a) (p .b) 1 l (omega arith),
+      coordinate-written M d f n (p .a) (p .b) 2 l (omega arith),
+    )
 
 -- a face of M′ has the control points of the face of M, seen from the corner at which it begins
 module _ {M M′ : IndexedMesh} (r : Renumbering M M′) (a : WellFormed M) (k : ℕ) (axis : k < 3) (f : ℕ) (face : f < M .faces) where
@@ -59,24 +71,40 @@ module _ {M M′ : IndexedMesh} (r : Renumbering M M′) (a : WellFormed M) (k :
   sample-renumbered n p w =
       rounded-ext n _ _ (λ m _. ap units (patch-renumbered m)) ∙ sample-matching (view M k) n (r .start f) (4 * f) p w
 
-pub claim : (M M′ : IndexedMesh) (r : Renumbering M M′) → WellFormed M → (n : ℕ) → 1 ≤ n → n ≤ 32
-    → (d d′ : List ℤ) → 48 * M .faces ≤ length d → 48 * M .faces ≤ length d′ → Claim M M′ r n d d′
-claim M M′ r a n least most d d′ long long′ = record {
-  distance = λ f x y k L q l hx hy h common.
-      rw (coordinate-written M d f n x y k l h)
-      (distance n x y least hx hy (exact M k f) L q (λ m _. patch-divisor a f m k l h) common);
-  seam = λ c t l h e.
+-- a sample is that of the exact surface's control points, rounded
+exact-rounded : (M : IndexedMesh) (d : List ℤ) (f n x y k : ℕ) → f < M .faces → k < 3
+    → coordinateAt (patchesAfter M d) f n x y k ≡ rounded n x y (λ m. units (exact M k f m))
+exact-rounded M d f n x y k l h = coordinate-written M d f n x y k l h
+
+module _ {M : IndexedMesh} (a : WellFormed M) (d : List ℤ) (long : 48 * M .faces ≤ length d) (n : ℕ) where
+  pub distance-on : (q : SamplePlace) (k L : ℕ) (x : ℕ → ℕ) → OnMesh M n q → k < 3 → Multiples M k (q .face) L x
+      → natAbs (coordinateAt (patchesAfter M d) (q .face) n (q .a) (q .b) k *ℤ pos (n ^ 6 * L) -ℤ exactSum M k n q x) ≤ n ^ 6 * L
+  distance-on q k L x on h common =
+      let s = place-on n (q .a) (q .b) (on .1) in
+      rw (exact-rounded M d (q .face) n (q .a) (q .b) k (on .0) h)
+      (distance n (q .a) (q .b) (s .0) (s .2) (s .3) (exact M k (q .face)) L x (λ m _. patch-divisor a (q .face) m k (on .0) h) common)
+
+  -- place t of half-edge c
+  on-side : (c t : ℕ) → c < corners M → placeOff n t 0 ≡ false → sampleOn M d n (c / 4) (onSide n (c % 4) t) ≡ answerFrom M n (c / 4) (onSide n (c % 4) t)
+  on-side c t l on =
+      let w = side-within n (c % 4) t (place-on n t 0 on .2) in
+      sampled a d long n (c / 4) (onSide n (c % 4) t) (omega arith) (place-none n t 0 _ _ on (w .0) (w .1))
+
+  pub seam-on : (c t : ℕ) → c < corners M → boundary (at M) (corners M) c ≡ false → placeOff n t 0 ≡ false
+      → sampleOn M d n (c / 4) (onSide n (c % 4) t) ≡ sampleOn M d n (twin (at M) (corners M) c / 4) (onSide n (twin (at M) (corners M) c % 4) (n - t))
+  seam-on c t l e on =
       let whole = accepted-corners a in
-      let twin-face = twin-inside (view M 0) whole (a .simple) c l e in
-      sampled a n least most d long (c / 4) (onSide n (c % 4) t) (omega arith) (side-within n (c % 4) t h)
-      ∙ same-answer M M n _ _ _ _ (λ k _. seam (view M k) whole (a .simple) c l e n t h)
-      ∙ sym (sampled a n least most d long (twin (at M) (corners M) c / 4) (onSide n (twin (at M) (corners M) c % 4) (n - t)) (omega arith)
-      (side-within n (twin (at M) (corners M) c % 4) (n - t) (omega arith)));
-  renumbered = λ f x y l hx hy.
-      let p : Place = place x y in
-      sampled (alike-well-formed a (alike r)) n least most d′ (rw (r .same-faces) long′) (r .faces .to f) (matching n (r .start f) p)
-      (rw (r .same-faces) (r .faces .to-below f l)) (matching-within n (r .start f) p (hx, hy))
-      ∙ same-answer M′ M n _ _ _ _ (λ k h. sample-renumbered r a k h f l n p (hx, hy))
-      ∙ sym (sampled a n least most d long f p l (hx, hy));
-  answered = λ f x y l hx hy. answered a d f n x y long l least most hx hy;
-}
+      on-side c t l on
+      ∙ same-answer M M n _ _ _ _ (λ k _. seam (view M k) whole (a .simple) c l e n t (place-on n t 0 on .2))
+      ∙ sym (on-side _ (n - t) (twin-inside (view M 0) whole (a .simple) c l e) (place-none n t 0 _ _ on (omega arith) (omega arith)))
+
+  pub renumbered-on : {M′ : IndexedMesh} (r : Renumbering M M′) (d′ : List ℤ) → 48 * M′ .faces ≤ length d′
+      → (f : ℕ) (p : Place) → f < M .faces → placeOff n (p .a) (p .b) ≡ false
+      → sampleOn M d n f p ≡ sampleOn M′ d′ n (r .faces .to f) (matching n (r .start f) p)
+  renumbered-on {M′} r d′ long′ f p l on =
+      let s = place-on n (p .a) (p .b) on in
+      let w = matching-within n (r .start f) p (s .2, s .3) in
+      sampled a d long n f p l on
+      ∙ sym (same-answer M′ M n _ _ _ _ (λ k h. sample-renumbered r a k h f l n p (s .2, s .3)))
+      ∙ sym (sampled (alike-well-formed a (alike r)) d′ long′ n (r .faces .to f) (matching n (r .start f) p)
+      (rw (r .same-faces) (r .faces .to-below f l)) (place-none n (p .a) (p .b) _ _ on (w .0) (w .1)))

@@ -1,6 +1,7 @@
 -- The proof of the claim, from what a renumbering is to the theorem.
 pub mod PointMoves
 pub mod FromRenumbering
+pub mod RenumberedLaws
 pub mod FaceSamples
 pub mod Seam
 pub mod Distance

@@ -1,124 +1,113 @@
--- The claim about two samples that the calls gave, from the claim about the definitions.
-use mathlib.Core.Path.{_≡_, refl, sym, ap, _∙_, subst}
+-- The claim about the answers that the calls gave, from the claim about the definitions.
+use mathlib.Core.Path.{_≡_, refl, sym, ap, _∙_}
 use mathlib.Core.Bool.{false}
-use mathlib.Core.List.{List}
-use Prim.Native.Nat.{ℕ, zero, suc, _+_, _-_, _*_, _/_, _%_, _≤_, _<_}
+use mathlib.Core.List.{List, [], _++_}
+use mathlib.Core.Option.{none}
+use Prim.Native.Nat.{ℕ, zero, suc, _*_, _≤_, _<_}
 use native.Mathlib.Omega.{arith}
+use lib.Dec.{ltb}
 use lib.IntN.{ℤ}
 use lib.ListN.{length}
-use borrow.Author.Tests.{le-ltb}
-use Rattle.finite.specs.Permutation.{Permutation}
-use Rattle.mesh.specs.HalfEdge.{twin, boundary, edges, boundaries}
-use Rattle.mesh.specs.IndexedMesh.{IndexedMesh, corners, at}
+use borrow.Author.Tests.{ltb-false}
+use Rattle.finite.proofs.AnyAll.{or-false}
+use Rattle.finite.specs.Table.{Answer, result}
+use Rattle.finite.proofs.TableLaws.{none-append}
+use Rattle.mesh.specs.IndexedMesh.{IndexedMesh, corners}
+use Rattle.mesh.specs.Refusal.{earlyRows, lateRows}
 use Rattle.mesh.specs.WellFormed.{WellFormed}
-use Rattle.mesh.specs.Answer.{counts}
-use Rattle.mesh.proofs.AcceptedLaws.{accepted-early, accepted-late, accepted-corners}
-use Rattle.mesh.proofs.PhaseLaws.{answer-accepted}
+use Rattle.mesh.specs.Answer.{countsOf, meshRefusal}
+use Rattle.mesh.proofs.AcceptedLaws.{accepted-early, accepted-late, accepted-well-formed}
 use Rattle.sample.specs.Bernstein.{coordinateAt}
-use Rattle.sample.specs.Answer.{Answer, point, sampleAnswer, meaning as sampled}
-use Rattle.patch.specs.Patch.{view, patchesAfter}
-use Rattle.patch.specs.Answer.{patchAnswer, patchList}
+use Rattle.sample.specs.Answer.{sampled}
+use Rattle.sample.specs.declared.model.Point.{Point}
+use Rattle.patch.specs.Patch.{patchesAfter}
+use Rattle.patch.specs.Answer.{listsShort, patchRows, patchAnswer, patchList, Patched}
 use Rattle.symmetry.proofs.WellFormedMoves.{alike-well-formed, alike-counts}
-use Rattle.surface.specs.Renumbering.{Renumbering, Place, place, onSide}
-use Rattle.surface.specs.Claim.{sampleOn, Claim}
-use Rattle.surface.specs.Witness.{Evaluated, Lent, coordinateOf, Shown}
+use Rattle.surface.specs.Claim.{OnMesh, coordinateOf, number, pointOf, Claim}
+use Rattle.surface.specs.Renumbering.{place}
+use Rattle.surface.specs.Witness.{sampleAt, Evaluated, Witnessed}
 use Rattle.surface.specs.declared.model.SamplePlace.{SamplePlace}
 use Rattle.surface.specs.declared.model.Evaluation.{Evaluation}
+use Rattle.surface.specs.declared.model.Witness.{Witness}
 use Rattle.surface.proofs.FromRenumbering.{alike}
-use Rattle.surface.proofs.FaceSamples.{side-within}
-use Rattle.surface.proofs.Seam.{twin-inside}
-use Rattle.surface.proofs.ClaimLaws.{claim}
+use Rattle.surface.proofs.AnsweredLaws.{answered}
+use Rattle.surface.proofs.ClaimLaws.{distance-on, seam-on, renumbered-on}
 
--- a mesh is a renumbering of itself
-unchanged : (M : IndexedMesh) → Renumbering M M
-unchanged M = record {
-  same-vertices = refl;
-  same-faces = refl;
-  same-positions = refl;
-  same-tags = refl;
-  same-indices = refl;
-  vertices = same (M .vertices);
-  faces = same (M .faces);
-  start = λ f. 0;
-  start-below = λ f l. omega arith;
-  positions-move = λ p k l h. refl;
-  tags-move = λ p l. refl;
-  faces-move = λ f s l h. ap (λ (r : ℕ). at M (4 * f + r)) (let e : s ≡ (0 + s) % 4 = omega arith in e);
-}
-  where
-    same : (n : ℕ) → Permutation n
-    same n = record { to = λ k. k; from = λ k. k; to-below = λ k l. l; from-below = λ k l. l; from-to = λ k l. refl; to-from = λ k l. refl }
+-- what the two calls gave, the sample call on the list that the patch call left
+pub evaluated : {M : IndexedMesh} {d b : List ℕ} {e p : List ℤ} {n : ℕ} {q : SamplePlace} {r : Evaluation}
+    → Patched M d e (r .mesh) b p → sampled (r .sample) ≡ sampleAt p n q → Evaluated M d e n q r b p
+evaluated {n = n} {q = q} patched sample =
+    record { patched = patched; sample-is = sample ∙ ap (λ (t : List ℤ). sampleAt t n q) (patched .patches-are) }
 
 -- a coordinate of three numbers given by their places
-coordinate-of : (g : ℕ → ℤ) (k : ℕ) → k < 3 → coordinateOf (point (g 0) (g 1) (g 2)) k ≡ g k
+coordinate-of : (g : ℕ → ℤ) (k : ℕ) → k < 3 → coordinateOf (result (pointOf g)) k ≡ g k
 coordinate-of g zero l = refl
 coordinate-of g (suc zero) l = refl
 coordinate-of g (suc (suc zero)) l = refl
 coordinate-of g (suc (suc (suc k))) l = absurd (let bad : ⊥ = omega arith in bad)
 
-module _ {M : IndexedMesh} (a : WellFormed M) (n : ℕ) (least : 1 ≤ n) (most : n ≤ 32) (d : List ℤ) (long : 48 * M .faces ≤ length d) where
-  -- the two sides of an edge, on two lists that the patches of one mesh were written over
-  seam-lists : (d′ : List ℤ) → 48 * M .faces ≤ length d′ → (c t : ℕ) → c < corners M → t ≤ n
-      → boundary (at M) (corners M) c ≡ false
-      → sampleOn M d n (c / 4) (onSide n (c % 4) t) ≡ sampleOn M d′ n (twin (at M) (corners M) c / 4) (onSide n (twin (at M) (corners M) c % 4) (n - t))
-  unfolding unchanged
-  seam-lists d′ long′ c t l h e =
-      let k = claim M M (unchanged M) a n least most d d′ long long′ in
-      let inside = twin-inside (view M 0) (accepted-corners a) (a .simple) c l e in
-      let within = side-within n (twin (at M) (corners M) c % 4) (n - t) (omega arith) in
-      k .seam c t l h e ∙ sym (k .renumbered (twin (at M) (corners M) c / 4) _ _ (omega arith) (within .0) (within .1))
+-- what the patch call answers for an accepted mesh, on lists that are long enough, and what stands in the patch list afterwards
+module _ {M : IndexedMesh} (twins : List ℕ) (patches : List ℤ) (a : WellFormed M) (long : listsShort M twins patches ≡ false) where
+  unmet : meshRefusal M (patchRows M twins patches) [] ≡ none
+  unfolding meshRefusal
+  unmet =
+      none-append (earlyRows M (patchRows M twins patches)) (lateRows M ++ []) (accepted-early a (patchRows M twins patches) (rw long))
+      ∙ none-append (lateRows M) [] (accepted-late a)
 
--- what the patch call answers for an accepted mesh, on lists that are long enough
-accepted-answer : {M : IndexedMesh} {twins : List ℕ} {patches : List ℤ} → WellFormed M → Lent M twins patches
-    → patchAnswer M twins patches ≡ counts (M .vertices) (M .faces) (edges (at M) (corners M) (M .vertices)) (boundaries (at M) (corners M))
-accepted-answer {M} {twins} {patches} a l =
-    rw (le-ltb (length twins) (corners M) (l .twins-long), le-ltb (length patches) (48 * M .faces) (l .patches-long))
-    (sym (answer-accepted M false (accepted-early a) (accepted-late a)))
+  accepted-answer : patchAnswer M twins patches ≡ result (countsOf M)
+  accepted-answer = rw unmet
 
--- and what stands in the patch list afterwards
-pub accepted-list : {M : IndexedMesh} {twins : List ℕ} {patches : List ℤ} → WellFormed M → Lent M twins patches → patchList M twins patches ≡ patchesAfter M patches
-accepted-list {M} {twins} {patches} a l = rw (accepted-answer a l)
+  accepted-list : patchList M twins patches ≡ patchesAfter M patches
+  accepted-list = rw unmet
 
-module _ {M M′ : IndexedMesh} {d d′ b b′ : List ℕ} {e e′ w w′ : List ℤ} {n : ℕ} {q q′ : SamplePlace} {r r′ : Evaluation}
-    (first : Evaluated M d e n q r b w) (second : Evaluated M′ d′ e′ n q′ r′ b′ w′)
-    (a : WellFormed M) (l : Lent M d e) (l′ : Lent M′ d′ e′) (least : 1 ≤ n) (most : n ≤ 32) where
-  abbrev p : Place
-  p = place (q .a) (q .b)
+  patches-long : 48 * M .faces ≤ length patches
+  patches-long = ltb-false (length patches) (48 * M .faces) (or-false (ltb (length twins) (corners M)) _ long .1)
 
-  abbrev p′ : Place
-  p′ = place (q′ .a) (q′ .b)
+  -- a sample on that list
+  sample-on : (n : ℕ) (q : SamplePlace) → sampleAt (patchList M twins patches) n q ≡ sampleAt (patchesAfter M patches) n q
+  sample-on n q = ap (λ (t : List ℤ). sampleAt t n q) accepted-list
 
-  -- the samples are those of the claim
-  here : sampled (r .sample) ≡ sampleOn M e n (q .face) p
-  here = first .sample-is ∙ ap (λ (t : List ℤ). sampleAnswer t (q .face) n (q .a) (q .b)) (accepted-list a l)
+module _ {M M′ : IndexedMesh} {d d′ b b′ : List ℕ} {e e′ p p′ : List ℤ} {n : ℕ} {q q′ : SamplePlace} (o : SamplePlace) (w : Witness)
+    (first : Evaluated M d e n q (w .first) b p) (second : Evaluated M′ d′ e′ n q′ (w .second) b′ p′)
+    (other-is : sampled (w .other) ≡ sampleAt (patchList M d e) n o) where
+  module _ (a : WellFormed M) (long : listsShort M d e ≡ false) where
+    abbrev after : List ℤ
+    after = patchesAfter M e
 
-  there : WellFormed M′ → sampled (r′ .sample) ≡ sampleOn M′ e′ n (q′ .face) p′
-  there a′ = second .sample-is ∙ ap (λ (t : List ℤ). sampleAnswer t (q′ .face) n (q′ .a) (q′ .b)) (accepted-list a′ l′)
+    -- the coordinates of the first sample, by the definitions
+    abbrev expected : ℕ → ℤ
+    expected = coordinateAt after (q .face) n (q .a) (q .b)
 
-  own : Claim M M (unchanged M) n e e
-  own = claim M M (unchanged M) a n least most e e (l .patches-long) (l .patches-long)
+    here : sampled (w .first .sample) ≡ sampleAt after n q
+    here = first .sample-is ∙ sample-on d e a long n q
 
-  gave : q .face < M .faces → q .a ≤ n → q .b ≤ n
-      → sampled (r .sample) ≡ point (coordinateAt (patchesAfter M e) (q .face) n (q .a) (q .b) 0) (coordinateAt (patchesAfter M e) (q .face) n (q .a) (q .b) 1) (coordinateAt (patchesAfter M e) (q .face) n (q .a) (q .b) 2)
-  gave h ha hb = here ∙ own .answered (q .face) (q .a) (q .b) h ha hb
+    gave : OnMesh M n q → sampled (w .first .sample) ≡ result (pointOf expected)
+    gave on = here ∙ answered a e (q .face) n (q .a) (q .b) (patches-long d e a long) (on .0) (on .1)
 
-  pub shown : Shown M M′ n (q .face) p (q′ .face) p′ r r′
-  shown = record {
-    taken = first .mesh-is ∙ accepted-answer a l;
-    answered = λ h ha hb. rw (gave h ha hb);
-    distance = λ k L t h ha hb b common.
-        let is : coordinateOf (sampled (r .sample)) k ≡ coordinateAt (patchesAfter M e) (q .face) n (q .a) (q .b) k =
-        ap (λ (t : Answer). coordinateOf t k) (gave h ha hb) ∙ coordinate-of (coordinateAt (patchesAfter M e) (q .face) n (q .a) (q .b)) k b in
-        rw is (own .distance (q .face) (q .a) (q .b) k L t h ha hb b common);
-    seam = λ c t h b inner same ef ep ef′ ep′.
-        here ∙ rw (ef, ep)
-        (seam-lists a n least most e (l .patches-long) e′ (subst (λ (N : IndexedMesh). 48 * N .faces ≤ length e′) same (l′ .patches-long)) c t h b inner
-        ∙ sym (there (subst WellFormed (sym same) a) ∙ rw (ef′, ep′, same)));
-    counted = λ s.
-        let k = alike-counts a (alike s) in
-        first .mesh-is ∙ accepted-answer a l
-        ∙ sym (second .mesh-is ∙ accepted-answer (alike-well-formed a (alike s)) l′ ∙ rw (k .0, k .1, s .same-vertices, s .same-faces));
-    renumbered = λ s h ha hb ef ep.
-        here ∙ sym (there (alike-well-formed a (alike s))
-        ∙ rw (ef, ep) (claim M M′ s a n least most e e′ (l .patches-long) (rw (← (s .same-faces)) (l′ .patches-long)) .renumbered (q .face) (q .a) (q .b) h ha hb));
-  }
+    claim : Claim M M′ d′ e′ n q o q′ w
+    claim = record {
+      taken = first .patched .answer-is ∙ accepted-answer d e a long;
+      answered = λ on. rw (gave on);
+      distance = λ k L x on h common.
+          let is : number (w .first .sample) k ≡ expected k = ap (λ (t : Answer Point). coordinateOf t k) (gave on) ∙ coordinate-of expected k h in
+          rw is (distance-on a e (patches-long d e a long) n q k L x on h common);
+      seam = λ c t h inner on at-q at-o.
+          here ∙ ap (sampleAt after n) at-q ∙ seam-on a e (patches-long d e a long) n c t h inner on
+          ∙ sym (other-is ∙ sample-on d e a long n o ∙ ap (sampleAt after n) at-o);
+      counted = λ r long′.
+          let k = alike-counts a (alike r) in
+          first .patched .answer-is ∙ accepted-answer d e a long
+          ∙ sym (second .patched .answer-is ∙ accepted-answer d′ e′ (alike-well-formed a (alike r)) long′ ∙ rw (k .0, k .1, r .same-vertices, r .same-faces));
+      renumbered = λ r long′ on at-q′.
+          let a′ = alike-well-formed a (alike r) in
+          here ∙ renumbered-on a e (patches-long d e a long) n r e′ (patches-long d′ e′ a′ long′) (q .face) (place (q .a) (q .b)) (on .0) (on .1)
+          ∙ sym (second .sample-is ∙ sample-on d′ e′ a′ long′ n q′ ∙ ap (sampleAt (patchesAfter M′ e′) n) at-q′);
+    }
+
+-- what `witness` gave: the calls for both meshes, and one more sample of the list that the first patch call left
+pub witnessed : {M M′ : IndexedMesh} {d d′ b b′ : List ℕ} {e e′ p p′ : List ℤ} {n : ℕ} {q o q′ : SamplePlace} {w : Witness}
+    → Evaluated M d e n q (w .first) b p → sampled (w .other) ≡ sampleAt p n o → Evaluated M′ d′ e′ n q′ (w .second) b′ p′
+    → Witnessed M d e M′ d′ e′ n q o q′ w b p b′ p′
+witnessed {M} {n = n} {o = o} {w = w} first other second =
+    let other-is = other ∙ ap (λ (t : List ℤ). sampleAt t n o) (first .patched .patches-are) in
+    record { first = first; other-is = other-is; second = second; claim = λ a long. claim o w first second other-is (accepted-well-formed a) long }

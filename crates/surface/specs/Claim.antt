@@ -1,42 +1,86 @@
--- The third demand: distance, seam and renumbering, one claim about the numbers that the patch call and the sample call give.
--- It speaks of the very definitions that their contracts cite: `patchesAfter` (the patch list that the patch call wrote over d) and
--- `sampleAnswer` (what the sample call answers on that list).
+-- The third demand: distance, seam and renumbering, one claim about the numbers that the patch call and the sample call handed back.
+-- What it asks for is what the calls themselves ask for: no cause of refusal is met.
 --
---   sampleOn M d n f p    what the sample call gives for face f at place p, on the patch list of M written over d
+--   OnMesh M n q          "for every face below F and all a, b from 0 to N": the face is one of M, and cause 14 is not met
 --   exact M k f m         coordinate k of control point m of face f before rounding
---   Multiples M k f L q   L is a common multiple of the sixteen divisors: q m times each
+--   Multiples M k f L x   L is a common multiple of the sixteen divisors: x m times each
+--   exactSum M k n q x    coordinate k of the exact surface at place q, times N^6 and the L of these multiples
+--   coordinateOf answer k, number s k   coordinate k of a sample; 0 for a refusal
+--   pointOf g             the point with the coordinates g 0, g 1 and g 2
+--   placeOn n c t         place t of half-edge c, as the sample call is given it
+--   placeMatching r n q   the place of the renumbered mesh that matches q
+--   Claim ..              what the answers w for the places q and o of M, and q' of M', show of each other
 use mathlib.Core.Path.{_≡_}
 use mathlib.Core.Bool.{false}
 use mathlib.Core.List.{List}
-use Prim.Native.Nat.{ℕ, _-_, _*_, _/_, _%_, _^_, _≤_, _<_}
+use Prim.Native.Nat.{ℕ, zero, suc, _-_, _*_, _/_, _%_, _^_, _≤_, _<_}
 use lib.IntN.{ℤ, pos, natAbs, _-ℤ_, _*ℤ_}
+use Rattle.finite.specs.Table.{Answer, result, refusal}
 use Rattle.mesh.specs.HalfEdge.{twin, boundary}
 use Rattle.mesh.specs.IndexedMesh.{IndexedMesh, corners, at}
-use Rattle.sample.specs.Bernstein.{numerator, coordinateAt}
-use Rattle.sample.specs.Answer.{Answer, point, sampleAnswer}
+use Rattle.mesh.specs.Answer.{checked, countsOf}
+use Rattle.sample.specs.Bernstein.{numerator}
+use Rattle.sample.specs.Refusal.{placeOff}
+use Rattle.sample.specs.Answer.{sampled}
+use Rattle.sample.specs.declared.model.Point.{Point}
+use Rattle.sample.specs.declared.model.Sampled.{Sampled}
 use Rattle.patch.specs.Mask.{Fraction}
-use Rattle.patch.specs.Patch.{patchPoint, view, patchesAfter}
+use Rattle.patch.specs.Patch.{patchPoint, view}
+use Rattle.patch.specs.Answer.{listsShort}
 use Rattle.surface.specs.Renumbering.{Renumbering, Place, place, matching, onSide}
+use Rattle.surface.specs.declared.model.SamplePlace.{SamplePlace}
+use Rattle.surface.specs.declared.model.Witness.{Witness}
 
-abbrev pub sampleOn : IndexedMesh → List ℤ → ℕ → ℕ → Place → Answer
-sampleOn M d n f p = sampleAnswer (patchesAfter M d) f n (p .a) (p .b)
+abbrev pub OnMesh : IndexedMesh → ℕ → SamplePlace → Type 0
+OnMesh M n q = (q .face < M .faces) × (placeOff n (q .a) (q .b) ≡ false)
 
 abbrev pub exact : IndexedMesh → ℕ → ℕ → ℕ → Fraction
 exact M k f m = patchPoint (view M k) (4 * f) m
 
 abbrev pub Multiples : IndexedMesh → ℕ → ℕ → ℕ → (ℕ → ℕ) → Type 0
-Multiples M k f L q = (m : ℕ) → m < 16 → L ≡ exact M k f m .den * q m
+Multiples M k f L x = (m : ℕ) → m < 16 → L ≡ exact M k f m .den * x m
 
-pub record Claim (M M' : IndexedMesh) (r : Renumbering M M') (n : ℕ) (d d' : List ℤ) : Type 0 where
-  -- "each sample within one unit of the exact surface": |sample - exact| ≤ 1 in every coordinate, both sides times N^6 and L
-  pub distance : (f a b k L : ℕ) (q : ℕ → ℕ) → f < M .faces → a ≤ n → b ≤ n → k < 3 → Multiples M k f L q
-      → natAbs (coordinateAt (patchesAfter M d) f n a b k *ℤ pos (n ^ 6 * L) -ℤ numerator n a b (λ m. pos 256 *ℤ exact M k f m .num *ℤ pos (q m))) ≤ n ^ 6 * L
+abbrev pub exactSum : IndexedMesh → ℕ → ℕ → SamplePlace → (ℕ → ℕ) → ℤ
+exactSum M k n q x = numerator n (q .a) (q .b) (λ m. pos 256 *ℤ exact M k (q .face) m .num *ℤ pos (x m))
+
+abbrev pub coordinateOf : Answer Point → ℕ → ℤ
+coordinateOf (result p) zero = p .x
+coordinateOf (result p) (suc zero) = p .y
+coordinateOf (result p) (suc (suc k)) = p .z
+coordinateOf (refusal k) j = pos 0
+
+abbrev pub number : Sampled → ℕ → ℤ
+number s k = coordinateOf (sampled s) k
+
+abbrev pub pointOf : (ℕ → ℤ) → Point
+pointOf g = record { x = g 0; y = g 1; z = g 2 }
+
+-- a place (a, b) of face f, as the sample call is given it
+abbrev pub placeOf : ℕ → Place → SamplePlace
+placeOf f p = record { face = f; a = p .a; b = p .b }
+
+abbrev pub placeOn : ℕ → ℕ → ℕ → SamplePlace
+placeOn n c t = placeOf (c / 4) (onSide n (c % 4) t)
+
+abbrev pub placeMatching : {M M' : IndexedMesh} → Renumbering M M' → ℕ → SamplePlace → SamplePlace
+placeMatching r n q = placeOf (r .faces .to (q .face)) (matching n (r .start (q .face)) (place (q .a) (q .b)))
+
+pub record Claim (M M' : IndexedMesh) (d' : List ℕ) (e' : List ℤ) (n : ℕ) (q o q' : SamplePlace) (w : Witness) : Type 0 where
+  -- "On lent lists that are long enough the patch call takes every accepted mesh,
+  pub taken : checked (w .first .mesh) ≡ result (countsOf M)
+  -- and none of these sample calls refuses."
+  pub answered : OnMesh M n q → sampled (w .first .sample) ≡ result (pointOf (number (w .first .sample)))
+  -- each sample within one unit of the exact surface, in each coordinate: |sample - exact| ≤ 1, both sides times N^6 and L
+  pub distance : (k L : ℕ) (x : ℕ → ℕ) → OnMesh M n q → k < 3 → Multiples M k (q .face) L x
+      → natAbs (number (w .first .sample) k *ℤ pos (n ^ 6 * L) -ℤ exactSum M k n q x) ≤ n ^ 6 * L
   -- "For every side that has a mate, the sample at place t of the side and the sample at place N - t of its mate are the same three numbers."
-  pub seam : (c t : ℕ) → c < corners M → t ≤ n → boundary (at M) (corners M) c ≡ false
-      → sampleOn M d n (c / 4) (onSide n (c % 4) t) ≡ sampleOn M d n (twin (at M) (corners M) c / 4) (onSide n (twin (at M) (corners M) c % 4) (n - t))
-  -- each sample of M' is the sample of M at the matching place of the matching face
-  pub renumbered : (f a b : ℕ) → f < M .faces → a ≤ n → b ≤ n
-      → sampleOn M' d' n (r .faces .to f) (matching n (r .start f) (place a b)) ≡ sampleOn M d n f (place a b)
-  -- "none of these sample calls refuses"
-  pub answered : (f a b : ℕ) → f < M .faces → a ≤ n → b ≤ n
-      → sampleOn M d n f (place a b) ≡ point (coordinateAt (patchesAfter M d) f n a b 0) (coordinateAt (patchesAfter M d) f n a b 1) (coordinateAt (patchesAfter M d) f n a b 2)
+  pub seam : (c t : ℕ) → c < corners M → boundary (at M) (corners M) c ≡ false → placeOff n t 0 ≡ false
+      → q ≡ placeOn n c t
+      → o ≡ placeOn n (twin (at M) (corners M) c) (n - t)
+      → sampled (w .first .sample) ≡ sampled (w .other)
+  -- "M' is accepted too", with the same four counts,
+  pub counted : Renumbering M M' → listsShort M' d' e' ≡ false → checked (w .first .mesh) ≡ checked (w .second .mesh)
+  -- and has the same samples at matching places
+  pub renumbered : (r : Renumbering M M') → listsShort M' d' e' ≡ false → OnMesh M n q
+      → q' ≡ placeMatching r n q
+      → sampled (w .first .sample) ≡ sampled (w .second .sample)

@@ -21,7 +21,9 @@ pub fn evaluate(
     n: usize,
     place: SamplePlace,
 ) -> Evaluation
-    ensures { λ r. ⌜ Evaluated (indexed v f (now (positions .entry)) (now (tags .entry)) (now (faces .entry))) (now (twins .entry)) (now (patches .entry)) n place r (now (twins .exit)) (now (patches .exit)) ⌝ }
+    ensures { λ r. ⌜ Evaluated
+        (indexed v f (now (positions .entry)) (now (tags .entry)) (now (faces .entry))) (now (twins .entry)) (now (patches .entry))
+        n place r (now (twins .exit)) (now (patches .exit)) ⌝ }
 {
     let mesh = patch::patches(v, f, positions, tags, faces, twins, patches);
     let sample = sample::sample(patches, place.face, n, place.a, place.b);
@@ -29,7 +31,8 @@ pub fn evaluate(
 }
 
 // The calls for two meshes, each with its lent lists, and what they show of each other: the claim is about the numbers handed back.
-// Returns: for each mesh the answer of the patch call, and that of the sample call at one place.
+// Returns: for each mesh the answer of the patch call, and those of the sample call on the patch list that it left: for the first mesh at
+// `place` and at `other`, for the second at `place2`.
 // Writes, leaves alone, refuses: as `patch::patches` and `sample::sample`.
 pub fn witness(
     v: usize,
@@ -48,14 +51,19 @@ pub fn witness(
     patches2: &mut [i32],
     n: usize,
     place: SamplePlace,
+    other: SamplePlace,
     place2: SamplePlace,
 ) -> Witness
-    ensures { λ r. ⌜ Evaluated (indexed v f (now (positions .entry)) (now (tags .entry)) (now (faces .entry))) (now (twins .entry)) (now (patches .entry)) n place (r .first) (now (twins .exit)) (now (patches .exit)) ⌝ }
-    ensures { λ r. ⌜ Evaluated (indexed v2 f2 (now (positions2 .entry)) (now (tags2 .entry)) (now (faces2 .entry))) (now (twins2 .entry)) (now (patches2 .entry)) n place2 (r .second) (now (twins2 .exit)) (now (patches2 .exit)) ⌝ }
-    ensures { λ r. ⌜ Witnessed (indexed v f (now (positions .entry)) (now (tags .entry)) (now (faces .entry))) (now (twins .entry)) (now (patches .entry)) (indexed v2 f2 (now (positions2 .entry)) (now (tags2 .entry)) (now (faces2 .entry))) (now (twins2 .entry)) (now (patches2 .entry)) n place place2 r ⌝ }
+    ensures { λ r. ⌜ Witnessed
+        (indexed v f (now (positions .entry)) (now (tags .entry)) (now (faces .entry))) (now (twins .entry)) (now (patches .entry))
+        (indexed v2 f2 (now (positions2 .entry)) (now (tags2 .entry)) (now (faces2 .entry))) (now (twins2 .entry)) (now (patches2 .entry))
+        n place other place2 r (now (twins .exit)) (now (patches .exit)) (now (twins2 .exit)) (now (patches2 .exit)) ⌝ }
 {
+    let first = evaluate(v, f, positions, tags, faces, twins, patches, n, place);
+    let other = sample::sample(patches, other.face, n, other.a, other.b);
     Witness {
-        first: evaluate(v, f, positions, tags, faces, twins, patches, n, place),
+        first,
+        other,
         second: evaluate(
             v2,
             f2,

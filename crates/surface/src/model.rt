@@ -15,8 +15,9 @@ pub struct Evaluation {
     pub sample: Sampled,
 }
 
-// What the calls gave for two meshes.
+// What the calls gave for two meshes, with one more sample on the first one's patch list.
 pub struct Witness {
     pub first: Evaluation,
+    pub other: Sampled,
     pub second: Evaluation,
 }

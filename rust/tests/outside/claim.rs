@@ -30,7 +30,7 @@ fn common_multiple(points: &[Fraction; 16]) -> i128 {
     points.iter().fold(1, |all, point| all / common_divisor(all, point.divisor) * point.divisor)
 }
 
-/// At most one unit from the exact surface, in whole numbers, at some places of some faces.
+/// At most one unit from the exact surface in each coordinate, in whole numbers, at some places of some faces.
 pub fn distance(mesh: &Model, patches: &[i32], n: usize, random: &mut Random, tally: &mut Tally) {
     let surface = Surface::new(mesh);
     for _ in 0..mesh.faces.min(12) {

@@ -1,11 +1,14 @@
--- `witness` meets its contract: what the calls gave is what the definitions say, and of these the claim is proved (`shown`).
+-- `witness` meets its contract: what the calls gave is what the definitions say, and of these the claim is proved (`witnessed`).
 use borrow.Author.Needs.{needs}
-use Rattle.surface.proofs.WitnessLaws.{shown}
+use Rattle.surface.proofs.WitnessLaws.{witnessed}
 use Rattle.surface.proofs.witness.Statement.{statement}
 use Rattle.surface.proofs.witness.Tie as tie
 
 evaluate-requires : tie.Need-evaluate-requires
 evaluate-requires c κs = search needs
+
+sample-requires : tie.Need-sample-requires
+sample-requires c κs = search needs
 
 evaluate-requires-2 : tie.Need-evaluate-requires-2
 evaluate-requires-2 c κs = search needs
@@ -24,15 +27,18 @@ same-length-4 c = search needs
 
 returns : tie.Need-returns
 returns c =
-    let first = c .before .before .before .before .before .before .before .before .before .evaluate .ensures in
-    let second = c .before .before .before .evaluate2 .ensures in
-    (first, (second, shown first second))
+    let second = c .before .before .before in
+    let other = second .before .before .before in
+    let lent = other .before .before in
+    let first = lent .before .before .before in
+    witnessed (first .evaluate .ensures) (other .sample .ensures) (second .evaluate2 .ensures)
 
 pub witness-spec : {M : Type 1} → statement M
 witness-spec =
     tie.close
     (tie.spec
     evaluate-requires
+    sample-requires
     evaluate-requires-2
     same-length
     same-length-2
