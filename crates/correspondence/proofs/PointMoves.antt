@@ -16,7 +16,7 @@ use Rattle.mesh.proofs.CornerLaws.{turn-below}
 use Rattle.mesh.proofs.TwinLaws.{twin-ends}
 use Rattle.symmetry.proofs.Sense.{Sense, same, turned, ahead, behind, leaving, entering, origin, target, Opposite}
 use Rattle.symmetry.proofs.Sense.{target-origin, turned-below, ahead-below, behind-below, leaving-below, entering-below, origin-below}
-use Rattle.symmetry.proofs.Iso.{Sound, Iso, turn-moves, prev-moves, across-moves, leaving-moves, entering-moves, twin-moves, boundary-moves}
+use Rattle.symmetry.proofs.Iso.{Sound, Iso, turn-moves, prev-moves, across-moves, leaving-moves, entering-moves, twin-moves, boundary-moves, entering-boundary}
 use Rattle.symmetry.proofs.VertexMoves.{gather-moves, valence-moves, on-boundary-moves}
 use Rattle.symmetry.proofs.WellFormedMoves.{Alike, sound}
 use Rattle.patch.specs.Point.{Shape, View, x, weight, sharp, sharpTerm, ringTerm, sharpSum, ringSum, fixed}
@@ -81,9 +81,6 @@ module _ {z : Sense} {M M′ : IndexedMesh} (a : WellFormed M) (r : Alike z M M�
   sharp-entering : (c : ℕ) → c < n → sharp G′ (prev (φ c)) ≡ sharp G (entering z c)
   sharp-entering c l = ap (sharp G′) (entering-moves s i c l) ∙ sharp-moves (entering z c) (entering-below z (s .whole) c l)
 
-  boundary-entering : (c : ℕ) → c < n → boundary (at M′) n (prev (φ c)) ≡ boundary (at M) n (entering z c)
-  boundary-entering c l = ap (boundary (at M′) n) (entering-moves s i c l) ∙ boundary-moves s i (entering z c) (entering-below z (s .whole) c l)
-
   -- a half-edge that is not sharp has a twin, which is the same
   twin-same : (c : ℕ) → c < n → sharp G c ≡ false → (twin (at M) n c < n) × (twin (at M′) n (σ c) ≡ σ (twin (at M) n c))
   unfolding sharp boundary
@@ -113,7 +110,7 @@ module _ {z : Sense} {M M′ : IndexedMesh} (a : WellFormed M) (r : Alike z M M�
     unfolding sharpSum
     sharp-sum-moves =
         gather-moves s i sumℤ-monoid (sharpTerm S) (sharpTerm S′) (λ c l.
-        rw (sharp-leaving c l, boundary-entering c l, x-next c l, x-prev c l) (sharp-term-in S c z))
+        rw (sharp-leaving c l, entering-boundary s i c l, x-next c l, x-prev c l) (sharp-term-in S c z))
 
     ring-sum-moves : (p : ℕ) → p < v → ringSum S′ (π p) ≡ ringSum S p
     unfolding ringSum

@@ -18,7 +18,7 @@ use Rattle.mesh.proofs.CornerLaws.{not-none, turn-none, turn-suc}
 use Rattle.mesh.proofs.TwinLaws.{twin-cases, twin-is}
 use Rattle.symmetry.proofs.Sense.{Sense, same, turned, ahead, behind, turned-none, turned-suc, turned-across, turned-behind, turned-below}
 use Rattle.symmetry.proofs.Sense.{leaving, entering, origin, target, origin-leaving, leaving-origin, origin-entering, target-origin}
-use Rattle.symmetry.proofs.Sense.{leaving-below, origin-below, target-below, Opposite, opposite, opposite-same, simple-in}
+use Rattle.symmetry.proofs.Sense.{leaving-below, entering-below, origin-below, target-below, Opposite, opposite, opposite-same, simple-in}
 
 pub record Sound (n v : ℕ) (at : ℕ → ℕ) : Type 0 where
   pub whole : Corners n
@@ -180,3 +180,10 @@ module _ {z : Sense} {n v : ℕ} {at at′ : ℕ → ℕ} (s : Sound n v at) (i 
   pub boundary-moves : (c : ℕ) → c < n → boundary at′ n (φ (origin z c)) ≡ boundary at n c
   unfolding boundary halfEdges
   boundary-moves c l = moved-none (s .whole) halfEdges (twin at n c) (twin at′ n (σ c)) (twin-moves c l)
+
+  -- of the half-edges that leave and enter a corner there
+  pub leaving-boundary : (c : ℕ) → c < n → boundary at′ n (φ c) ≡ boundary at n (leaving z c)
+  leaving-boundary c l = ap (boundary at′ n) (leaving-moves c) ∙ boundary-moves (leaving z c) (leaving-below z (s .whole) c l)
+
+  pub entering-boundary : (c : ℕ) → c < n → boundary at′ n (prev (φ c)) ≡ boundary at n (entering z c)
+  entering-boundary c l = ap (boundary at′ n) (entering-moves c l) ∙ boundary-moves (entering z c) (entering-below z (s .whole) c l)
