@@ -17,7 +17,7 @@ pub bounds : (B : ℕ) → Linear (λ k z _. natAbs z ≤ B * k)
 bounds B = record {
   nil = omega arith;
   plus = λ {y = y} {z = z} f g. omega (arith, abs-+ y z);
-  times = λ k {z} h. omega (arith, abs-* (pos k) z, mul-le-mul-left k h);
+  scale = λ j {z = z} h. omega (arith, abs-* (pos j) z, mul-le-mul-left j h);
 }
 
 module _ {M : IndexedMesh} (a : WellFormed M) (f m k : ℕ) (face : f < M .faces) (axis : k < 3) where

@@ -4,32 +4,35 @@
 --   Linear R          R k z z' of two sums z and z', whose weights sum to k, holds where it holds term by term
 --   Related R q q'    two fractions with one divisor above 0, and their numerators related with it
 --   valued M X        the mesh M, with the coordinate X p of each vertex p: `view M k` is one
-use mathlib.Core.Path.{_≡_, refl, subst}
+--   Nearby R M X X' p   the coordinates X and X' of each vertex of a face at p are related
+use mathlib.Core.Path.{_≡_, refl, ap, _∙_, subst}
 use mathlib.Core.Bool.{Bool, true, false, cond}
 use Prim.Native.Nat.{ℕ, zero, suc, _+_, _*_, _<_}
 use native.Mathlib.Nat.{mul-pos}
 use native.Mathlib.Omega.{arith}
 use lib.Dec.{eqb}
 use lib.IntN.{ℤ, pos, _+ℤ_, _*ℤ_}
-use borrow.Author.Tests.{not-false}
+use borrow.Author.Tests.{eqb-true, not-false}
 use Rattle.finite.specs.Fold.{foldBelow, gather}
-use Rattle.mesh.specs.Corner.{turn, prev}
+use Rattle.mesh.specs.Corner.{turn, next, prev, Corners}
 use Rattle.mesh.specs.HalfEdge.{twin}
 use Rattle.mesh.specs.Fan.{valence}
 use Rattle.mesh.specs.IndexedMesh.{IndexedMesh, corners, at}
 use Rattle.mesh.specs.WellFormed.{WellFormed}
-use Rattle.mesh.proofs.CornerLaws.{turn-below}
+use Rattle.mesh.proofs.CornerLaws.{turn-below, next-below, prev-below, next-prev, turn-none, turn-next}
+use Rattle.mesh.proofs.TwinLaws.{twin-ends}
 use Rattle.mesh.proofs.BoundaryLaws.{boundary-vertex}
 use Rattle.mesh.proofs.AcceptedLaws.{accepted-corners}
 use Rattle.patch.specs.Mask.{Fraction, innerMask, edgeMask, boundaryEdgeMask, smoothCornerMask, boundaryCornerMask, vertexMask}
-use Rattle.patch.specs.Point.{View, x, faces, inside, weight, sharp, sharpSum, ringSum, fixed, cornerPoint, innerPoint, edgePoint, alongPoint, beforePoint, Kind, corner, along, before, inner, point}
+use Rattle.patch.specs.Point.{View, x, faces, inside, weight, sharp, ringTerm, sharpSum, ringSum, fixed}
+use Rattle.patch.specs.Point.{cornerPoint, innerPoint, edgePoint, alongPoint, beforePoint, Kind, corner, along, before, inner, point}
 use Rattle.patch.specs.Patch.{owner, kind, patchPoint, shape}
 use Rattle.patch.proofs.NeighbourLaws.{twin-below, sharp-neighbours}
 
 pub record Linear (R : ℕ → ℤ → ℤ → Type 0) : Type 0 where
   pub nil : R 0 (pos 0) (pos 0)
   pub plus : {k l : ℕ} {y y' z z' : ℤ} → R k y y' → R l z z' → R (k + l) (y +ℤ z) (y' +ℤ z')
-  pub times : (k : ℕ) {z z' : ℤ} → R 1 z z' → R k (pos k *ℤ z) (pos k *ℤ z')
+  pub scale : (j : ℕ) {k : ℕ} {z z' : ℤ} → R k z z' → R (j * k) (pos j *ℤ z) (pos j *ℤ z')
 
 pub record Related (R : ℕ → ℤ → ℤ → Type 0) (q q' : Fraction) : Type 0 where
   pub positive : 0 < q .den
@@ -38,6 +41,19 @@ pub record Related (R : ℕ → ℤ → ℤ → Type 0) (q q' : Fraction) : Type
 
 abbrev pub valued : IndexedMesh → (ℕ → ℤ) → View
 valued M X = record { shape = shape M; value = X }
+
+abbrev pub Nearby : (ℕ → ℤ → ℤ → Type 0) → IndexedMesh → (ℕ → ℤ) → (ℕ → ℤ) → ℕ → Type 0
+Nearby R M X X' p = (c : ℕ) → c < corners M → at M c ≡ p → (i : ℕ) → R 1 (X (at M (turn i c))) (X' (at M (turn i c)))
+
+-- a number for each corner at a vertex
+gather-times : (at : ℕ → ℕ) (p k n : ℕ) → gather 0 _+_ at (λ c. k) n p ≡ k * valence at n p
+unfolding valence foldBelow
+gather-times at p k zero = omega arith
+gather-times at p k (suc n) = ap (λ (m : ℕ). m + cond (eqb (at n) p) k 0) (gather-times at p k n) ∙ distributes (valence at n p) (eqb (at n) p)
+  where
+    distributes : (m : ℕ) (b : Bool) → k * m + cond b k 0 ≡ k * (m + cond b 1 0)
+    distributes m true = omega arith
+    distributes m false = omega arith
 
 module _ {R : ℕ → ℤ → ℤ → Type 0} (L : Linear R) where
   cast : {k l : ℕ} {z z' : ℤ} → k ≡ l → R k z z' → R l z z'
@@ -53,7 +69,8 @@ module _ {R : ℕ → ℤ → ℤ → Type 0} (L : Linear R) where
   inner-mask w hp he hf hg = record {
     positive = omega arith;
     same = refl;
-    related = cast (let s : w + 2 + 2 + 1 ≡ w + 5 = omega arith in s) (L .plus (L .plus (L .plus (L .times w hp) (L .times 2 he)) (L .times 2 hf)) hg);
+    related = cast (let s : w * 1 + 2 * 1 + 2 * 1 + 1 ≡ w + 5 = omega arith in s)
+        (L .plus (L .plus (L .plus (L .scale w hp) (L .scale 2 he)) (L .scale 2 hf)) hg);
   }
 
   edge-mask : (w : ℕ) {p q a b c d p' q' a' b' c' d' : ℤ} → R 1 p p' → R 1 q q' → R 1 a a' → R 1 b b' → R 1 c c' → R 1 d d'
@@ -62,103 +79,117 @@ module _ {R : ℕ → ℤ → ℤ → Type 0} (L : Linear R) where
   edge-mask w hp hq ha hb hc hd = record {
     positive = omega arith;
     same = refl;
-    related = cast (let s : 2 * w + 4 + 2 + 2 + 1 + 1 ≡ 2 * w + 10 = omega arith in s)
-        (L .plus (L .plus (L .plus (L .plus (L .plus (L .times (2 * w) hp) (L .times 4 hq)) (L .times 2 ha)) (L .times 2 hb)) hc) hd);
+    related = cast (let s : 2 * w * 1 + 4 * 1 + 2 * 1 + 2 * 1 + 1 + 1 ≡ 2 * w + 10 = omega arith in s)
+        (L .plus (L .plus (L .plus (L .plus (L .plus (L .scale (2 * w) hp) (L .scale 4 hq)) (L .scale 2 ha)) (L .scale 2 hb)) hc) hd);
   }
 
   boundary-edge-mask : {p q p' q' : ℤ} → R 1 p p' → R 1 q q' → Related R (boundaryEdgeMask p q) (boundaryEdgeMask p' q')
   unfolding boundaryEdgeMask
-  boundary-edge-mask hp hq = record { positive = omega arith; same = refl; related = L .plus (L .times 2 hp) hq }
+  boundary-edge-mask hp hq = record { positive = omega arith; same = refl; related = L .plus (L .scale 2 hp) hq }
 
   smooth-corner-mask : (n : ℕ) {p s p' s' : ℤ} → 0 < n → R 1 p p' → R (5 * n) s s' → Related R (smoothCornerMask n p s) (smoothCornerMask n p' s')
   unfolding smoothCornerMask
   smooth-corner-mask n l hp hs = record {
     positive = mul-pos l (omega arith);
     same = refl;
-    related = cast (let s : n * n + 5 * n ≡ n * (n + 5) = omega arith in s) (L .plus (L .times (n * n) hp) hs);
+    related = cast (let s : n * n * 1 + 5 * n ≡ n * (n + 5) = omega arith in s) (L .plus (L .scale (n * n) hp) hs);
   }
 
   boundary-corner-mask : {p s p' s' : ℤ} → R 1 p p' → R 2 s s' → Related R (boundaryCornerMask p s) (boundaryCornerMask p' s')
   unfolding boundaryCornerMask
-  boundary-corner-mask hp hs = record { positive = omega arith; same = refl; related = L .plus (L .times 4 hp) hs }
+  boundary-corner-mask hp hs = record { positive = omega arith; same = refl; related = L .plus (L .scale 4 hp) hs }
 
   vertex-mask : {p p' : ℤ} → R 1 p p' → Related R (vertexMask p) (vertexMask p')
   unfolding vertexMask
   vertex-mask hp = record { positive = omega arith; same = refl; related = hp }
 
-  -- ---- a sum over the corners at a vertex, with weights of the same sum k at each
-  pub sum-at : (at : ℕ → ℕ) (p k : ℕ) (f f' : ℕ → ℤ) (n : ℕ) → ((c : ℕ) → c < n → R k (f c) (f' c))
-      → R (k * valence at n p) (gather (pos 0) _+ℤ_ at f n p) (gather (pos 0) _+ℤ_ at f' n p)
-  unfolding valence foldBelow
-  sum-at at p k f f' zero h = cast (let s : 0 ≡ k * 0 = omega arith in s) (L .nil)
-  sum-at at p k f f' (suc n) h =
-      cast (distributes (valence at n p) (eqb (at n) p)) (L .plus (sum-at at p k f f' n (λ c l. h c (omega arith))) (term (eqb (at n) p)))
+  -- ---- a sum over the corners at a vertex, with weights that sum to k c at corner c
+  pub sum-at : (at : ℕ → ℕ) (p : ℕ) (k : ℕ → ℕ) (f f' : ℕ → ℤ) (n : ℕ) → ((c : ℕ) → c < n → at c ≡ p → R (k c) (f c) (f' c))
+      → R (gather 0 _+_ at k n p) (gather (pos 0) _+ℤ_ at f n p) (gather (pos 0) _+ℤ_ at f' n p)
+  unfolding foldBelow
+  sum-at at p k f f' zero h = L .nil
+  sum-at at p k f f' (suc n) h = L .plus (sum-at at p k f f' n (λ c l e. h c (omega arith) e)) (term (eqb (at n) p) refl)
     where
-      term : (b : Bool) → R (cond b k 0) (cond b (f n) (pos 0)) (cond b (f' n) (pos 0))
-      term true = h n (omega arith)
-      term false = L .nil
+      term : (b : Bool) → eqb (at n) p ≡ b → R (cond b (k n) 0) (cond b (f n) (pos 0)) (cond b (f' n) (pos 0))
+      term true e = h n (omega arith) (eqb-true (at n) p e)
+      term false e = L .nil
 
-      distributes : (m : ℕ) (b : Bool) → k * m + cond b k 0 ≡ k * (m + cond b 1 0)
-      distributes m true = omega arith
-      distributes m false = omega arith
-
-  -- ---- the points
-  module _ {M : IndexedMesh} (a : WellFormed M) (X X' : ℕ → ℤ) (base : (p : ℕ) → p < M .vertices → R 1 (X p) (X' p)) where
+  -- ---- the points: each is read from vertices of the faces at its vertex
+  module _ {M : IndexedMesh} (a : WellFormed M) (X X' : ℕ → ℤ) where
     abbrev S : View
     S = valued M X
 
     abbrev S' : View
     S' = valued M X'
 
-    at-corner : (c : ℕ) → c < corners M → R 1 (x S c) (x S' c)
-    at-corner c l = base (at M c) (a .named c l)
+    abbrev whole : Corners (corners M)
+    whole = accepted-corners a
 
-    at-turn : (i c : ℕ) → c < corners M → R 1 (x S (turn i c)) (x S' (turn i c))
-    at-turn i c l = at-corner (turn i c) (turn-below (accepted-corners a) i c l)
+    module _ (p : ℕ) (near : Nearby R M X X' p) where
+      here : (c : ℕ) → c < corners M → at M c ≡ p → R 1 (x S c) (x S' c)
+      here c l e = subst (λ (d : ℕ). R 1 (x S d) (x S' d)) (turn-none c) (near c l e 0)
 
-    ring-sum : (p : ℕ) → R (5 * faces (shape M) p) (ringSum S p) (ringSum S' p)
-    unfolding ringSum
-    ring-sum p =
-        sum-at (at M) p 5 _ _ (corners M) (λ c l. L .plus (L .plus (L .times 2 (at-turn 1 c l)) (L .times 2 (at-turn 3 c l))) (at-turn 2 c l))
+      ring-sum : R (5 * faces (shape M) p) (ringSum S p) (ringSum S' p)
+      unfolding ringSum
+      ring-sum =
+          cast (gather-times (at M) p 5 (corners M))
+          (sum-at (at M) p (λ c. 5) (ringTerm S) (ringTerm S') (corners M) (λ c l e.
+          L .plus (L .plus (L .scale 2 (near c l e 1)) (L .scale 2 (near c l e 3))) (near c l e 2)))
 
-    sharp-sum : (p : ℕ) → p < M .vertices → inside (shape M) p ≡ false → R 2 (sharpSum S p) (sharpSum S' p)
-    sharp-sum p l e =
-        let w = boundary-vertex (at M) (accepted-corners a) (a .simple) p (a .fans p l) (not-false _ e) in
-        rw (sharp-neighbours S p w, sharp-neighbours S' p w)
-        (L .plus (at-turn 1 (w .leaving .corner) (w .leaving .below)) (at-turn 3 (w .entering .corner) (w .entering .below)))
+      sharp-sum : p < M .vertices → inside (shape M) p ≡ false → R 2 (sharpSum S p) (sharpSum S' p)
+      sharp-sum l e =
+          let w = boundary-vertex (at M) whole (a .simple) p (a .fans p l) (not-false _ e) in
+          let out = w .leaving in
+          let into = w .entering in
+          rw (sharp-neighbours S p w, sharp-neighbours S' p w)
+          (L .plus (near (out .corner) (out .below) (out .here) 1) (near (into .corner) (into .below) (into .here) 3))
 
-    corner-related : (p : ℕ) → p < M .vertices → Related R (cornerPoint S p) (cornerPoint S' p)
-    unfolding cornerPoint fixed
-    corner-related p l =
-        either (inside (shape M) p) (λ _. smooth-corner-mask (faces (shape M) p) (a .used p l) (base p l) (ring-sum p))
-        (λ e. either (fixed (shape M) p) (λ _. vertex-mask (base p l)) (λ _. boundary-corner-mask (base p l) (sharp-sum p l e)))
+      corner-related : p < M .vertices → R 1 (X p) (X' p) → Related R (cornerPoint S p) (cornerPoint S' p)
+      unfolding cornerPoint fixed
+      corner-related l own =
+          either (inside (shape M) p) (λ _. smooth-corner-mask (faces (shape M) p) (a .used p l) own ring-sum)
+          (λ e. either (fixed (shape M) p) (λ _. vertex-mask own) (λ _. boundary-corner-mask own (sharp-sum l e)))
 
-    inner-related : (c : ℕ) → c < corners M → Related R (innerPoint S c) (innerPoint S' c)
-    unfolding innerPoint weight
-    inner-related c l = inner-mask (weight (shape M) c) (at-corner c l) (at-turn 1 c l) (at-turn 3 c l) (at-turn 2 c l)
+      inner-related : (c : ℕ) → c < corners M → at M c ≡ p → Related R (innerPoint S c) (innerPoint S' c)
+      unfolding innerPoint weight
+      inner-related c l e = inner-mask (weight (shape M) c) (here c l e) (near c l e 1) (near c l e 3) (near c l e 2)
 
-    edge-related : (c d : ℕ) → c < corners M → d < corners M → Related R (edgePoint S c d) (edgePoint S' c d)
-    unfolding edgePoint weight
-    edge-related c d l k = edge-mask _ (at-corner c l) (at-turn 1 c l) (at-turn 3 c l) (at-turn 2 d k) (at-turn 2 c l) (at-turn 3 d k)
+      -- half-edge c leaves p, and half-edge d enters it
+      edge-related : (c d : ℕ) → c < corners M → at M c ≡ p → d < corners M → at M (next d) ≡ p → Related R (edgePoint S c d) (edgePoint S' c d)
+      unfolding edgePoint weight
+      edge-related c d l e k f =
+          let further : (i : ℕ) → R 1 (x S (turn (suc i) d)) (x S' (turn (suc i) d)) =
+          λ i. subst (λ (j : ℕ). R 1 (x S j) (x S' j)) (turn-next i d) (near (next d) (next-below whole d k) f i) in
+          edge-mask _ (here c l e) (near c l e 1) (near c l e 3) (further 1) (near c l e 2) (further 2)
 
-    along-related : (c : ℕ) → c < corners M → Related R (alongPoint S c) (alongPoint S' c)
-    unfolding alongPoint sharp
-    along-related c l =
-        either (sharp (shape M) c) (λ _. boundary-edge-mask (at-corner c l) (at-turn 1 c l)) (λ e. edge-related c (twin (at M) (corners M) c) l (twin-below (shape M) c e))
+      along-related : (c : ℕ) → c < corners M → at M c ≡ p → Related R (alongPoint S c) (alongPoint S' c)
+      unfolding alongPoint sharp
+      along-related c l e =
+          either (sharp (shape M) c) (λ _. boundary-edge-mask (here c l e) (near c l e 1)) (λ h.
+          let t = twin-below (shape M) c h in
+          edge-related c (twin (at M) (corners M) c) l e t (twin-ends (corners M) (at M) c whole t .1 ∙ e))
 
-    before-related : (c : ℕ) → c < corners M → Related R (beforePoint S c) (beforePoint S' c)
-    unfolding beforePoint sharp
-    before-related c l =
-        either (sharp (shape M) (prev c)) (λ _. boundary-edge-mask (at-corner c l) (at-turn 3 c l))
-        (λ e. edge-related (twin (at M) (corners M) (prev c)) (prev c) (twin-below (shape M) (prev c) e) (turn-below (accepted-corners a) 3 c l))
+      before-related : (c : ℕ) → c < corners M → at M c ≡ p → Related R (beforePoint S c) (beforePoint S' c)
+      unfolding beforePoint sharp
+      before-related c l e =
+          let end : at M (next (prev c)) ≡ p = ap (at M) (next-prev c) ∙ e in
+          either (sharp (shape M) (prev c)) (λ _. boundary-edge-mask (here c l e) (near c l e 3)) (λ h.
+          let t = twin-below (shape M) (prev c) h in
+          edge-related (twin (at M) (corners M) (prev c)) (prev c) t (twin-ends (corners M) (at M) (prev c) whole t .0 ∙ end) (prev-below whole c l) end)
 
-    pub point-related : (c : ℕ) → c < corners M → (k : Kind) → Related R (point (valued M X) c k) (point (valued M X') c k)
+    pub point-related : (c : ℕ) → c < corners M → Nearby R M X X' (at M c) → (k : Kind) → Related R (point (valued M X) c k) (point (valued M X') c k)
     unfolding point
-    point-related c l corner = corner-related (at M c) (a .named c l)
-    point-related c l along = along-related c l
-    point-related c l before = before-related c l
-    point-related c l inner = inner-related c l
+    point-related c l near corner = corner-related (at M c) near (a .named c l) (here (at M c) near c l refl)
+    point-related c l near along = along-related (at M c) near c l refl
+    point-related c l near before = before-related (at M c) near c l refl
+    point-related c l near inner = inner-related (at M c) near c l refl
 
-    pub patch-related : (c m : ℕ) → c < corners M → Related R (patchPoint (valued M X) c m) (patchPoint (valued M X') c m)
+    -- a patch is read from the vertices of the faces that share a vertex with its own
+    pub patch-nearby : (c m : ℕ) → c < corners M → ((i : ℕ) → Nearby R M X X' (at M (turn i c)))
+        → Related R (patchPoint (valued M X) c m) (patchPoint (valued M X') c m)
     unfolding patchPoint
-    patch-related c m l = point-related (turn (owner m) c) (turn-below (accepted-corners a) (owner m) c l) (kind m)
+    patch-nearby c m l near = point-related (turn (owner m) c) (turn-below whole (owner m) c l) (near (owner m)) (kind m)
+
+    pub patch-related : ((p : ℕ) → p < M .vertices → R 1 (X p) (X' p)) → (c m : ℕ) → c < corners M
+        → Related R (patchPoint (valued M X) c m) (patchPoint (valued M X') c m)
+    patch-related base c m l = patch-nearby c m l (λ i d k _ j. base _ (a .named (turn j d) (turn-below whole j d k)))

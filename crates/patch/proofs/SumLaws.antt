@@ -31,7 +31,8 @@ module _ (at : ℕ → ℕ) (p : ℕ) where
 
   -- terms within B, one for each corner at p
   pub gather-size : (B : ℕ) (f : ℕ → ℤ) (n : ℕ) → ((c : ℕ) → c < n → natAbs (f c) ≤ B) → natAbs (gather (pos 0) _+ℤ_ at f n p) ≤ B * valence at n p
-  gather-size B f n h = omega (arith, sum-at (bounds B) at p 1 f f n (λ c l. omega (arith, h c l)))
+  unfolding valence
+  gather-size B f n h = sum-at (bounds B) at p (λ c. 1) f f n (λ c l _. omega (arith, h c l))
 
   pub gather-pos : (f : ℕ → ℕ) (n : ℕ) → gather (pos 0) _+ℤ_ at (λ c. pos (f c)) n p ≡ pos (gather 0 _+_ at f n p)
   unfolding foldBelow

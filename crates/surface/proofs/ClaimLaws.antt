@@ -2,7 +2,7 @@
 --
 --   sampleOn M d n f p   what the sample call answers for face f at place p, on the patch list of M written over d
 --   answerFrom M n f p   the same, by the control points
-use mathlib.Core.Path.{_≡_, sym, ap, ap₂, _∙_}
+use mathlib.Core.Path.{_≡_, sym, ap, _∙_}
 use mathlib.Core.Bool.{false}
 use mathlib.Core.List.{List}
 use Prim.Native.Nat.{ℕ, _-_, _*_, _/_, _%_, _^_, _≤_, _<_}
@@ -12,7 +12,7 @@ use lib.ListN.{length}
 use Rattle.finite.specs.Table.{Answer, result}
 use Rattle.mesh.specs.Corner.{turn}
 use Rattle.mesh.specs.HalfEdge.{twin, boundary}
-use Rattle.mesh.specs.IndexedMesh.{IndexedMesh, corners, at, tag}
+use Rattle.mesh.specs.IndexedMesh.{IndexedMesh, corners, at}
 use Rattle.mesh.specs.WellFormed.{WellFormed}
 use Rattle.mesh.proofs.AcceptedLaws.{accepted-corners}
 use Rattle.sample.specs.Bernstein.{rounded, coordinateAt}
@@ -23,12 +23,12 @@ use Rattle.sample.proofs.SampleLaws.{rounded-ext}
 use Rattle.sample.proofs.RefusalLaws.{place-on}
 use Rattle.patch.specs.Patch.{patchPoint, units, view, patchesAfter}
 use Rattle.patch.proofs.PointLaws.{patch-divisor}
-use Rattle.symmetry.proofs.WellFormedMoves.{sound, alike-well-formed}
+use Rattle.symmetry.proofs.WellFormedMoves.{alike-well-formed}
+use Rattle.correspondence.proofs.PointMoves.{patch-moves}
 use Rattle.surface.specs.Renumbering.{Renumbering, Place, matching, onSide}
 use Rattle.surface.specs.Claim.{OnMesh, exact, Multiples, exactSum, pointOf}
 use Rattle.surface.specs.declared.model.SamplePlace.{SamplePlace}
-use Rattle.surface.proofs.PointMoves.{patch-moves}
-use Rattle.surface.proofs.FromRenumbering.{alike, carried, face-begins}
+use Rattle.surface.proofs.FromRenumbering.{alike, face-begins}
 use Rattle.surface.proofs.FaceSamples.{sampleFrom, Within, matching-within, side-within, sample-matching}
 use Rattle.surface.proofs.Seam.{twin-inside, seam}
 use Rattle.surface.proofs.Distance.{distance}
@@ -60,16 +60,15 @@ sampled {M} a d long n f p l on =
 
 -- a face of M′ has the control points of the face of M, seen from the corner at which it begins
 module _ {M M′ : IndexedMesh} (r : Renumbering M M′) (a : WellFormed M) (k : ℕ) (axis : k < 3) (f : ℕ) (face : f < M .faces) where
-  patch-renumbered : (m : ℕ) → patchPoint (view M′ k) (4 * r .faces .to f) m ≡ patchPoint (view M k) (turn (r .start f) (4 * f)) m
-  patch-renumbered m =
-      ap₂ (λ (g c : ℕ). patchPoint (record { shape = record { n = 4 * g; at = at M′; tag = tag M′ }; value = view M′ k .value }) c m)
-      (r .same-faces) (sym (face-begins r f face))
-      ∙ patch-moves (sound a) (a .fans) (carried r k axis) (turn (r .start f) (4 * f)) (omega arith) m
+  patch-renumbered : (m : ℕ) → m < 16 → patchPoint (view M′ k) (4 * r .faces .to f) m ≡ patchPoint (view M k) (turn (r .start f) (4 * f)) m
+  patch-renumbered m b =
+      ap (λ (c : ℕ). patchPoint (view M′ k) c m) (sym (face-begins r f face))
+      ∙ patch-moves a (alike r) (view M k .value) (view M′ k .value) (λ p l. r .positions-move p k l axis) (turn (r .start f) (4 * f)) (omega arith) m b
 
   sample-renumbered : (n : ℕ) (p : Place) → Within n p
       → sampleFrom (view M′ k) n (4 * r .faces .to f) (matching n (r .start f) p) ≡ sampleFrom (view M k) n (4 * f) p
   sample-renumbered n p w =
-      rounded-ext n _ _ (λ m _. ap units (patch-renumbered m)) ∙ sample-matching (view M k) n (r .start f) (4 * f) p w
+      rounded-ext n _ _ (λ m b. ap units (patch-renumbered m b)) ∙ sample-matching (view M k) n (r .start f) (4 * f) p w
 
 -- a sample is that of the exact surface's control points, rounded
 exact-rounded : (M : IndexedMesh) (d : List ℤ) (f n x y k : ℕ) → f < M .faces → k < 3

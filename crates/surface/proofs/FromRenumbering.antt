@@ -3,20 +3,16 @@
 --   spot g s         corner s, modulo 4, of face g
 --   to r c, from r c the corner that c has become, and the one that has become c
 --   alike r          the two meshes are of one shape, their faces turned the same way
---   carried r k h    each vertex takes its tag and its coordinate k along
 use mathlib.Core.Path.{_≡_, ap, _∙_}
 use Prim.Native.Nat.{ℕ, _+_, _-_, _*_, _/_, _%_, _<_}
 use native.Mathlib.Omega.{arith}
 use lib.IntN.{natAbs}
 use Rattle.finite.specs.Permutation.{Permutation}
 use Rattle.mesh.specs.Corner.{turn, next}
-use Rattle.mesh.specs.IndexedMesh.{IndexedMesh, corners, at, tag}
-use Rattle.patch.specs.Patch.{view}
+use Rattle.mesh.specs.IndexedMesh.{IndexedMesh, corners, at}
 use Rattle.symmetry.proofs.Sense.{same}
-use Rattle.symmetry.proofs.Iso.{Iso}
 use Rattle.symmetry.proofs.WellFormedMoves.{Alike}
 use Rattle.surface.specs.Renumbering.{Renumbering}
-use Rattle.surface.proofs.PointMoves.{Carried}
 
 -- ---- corners by face
 spot : ℕ → ℕ → ℕ
@@ -110,21 +106,14 @@ module _ {M M′ : IndexedMesh} (r : Renumbering M M′) where
       let z : (turn (r .start f) (4 * f) + (4 - r .start f)) % 4 ≡ 0 = omega arith in
       ap (λ (g : ℕ). 4 * r .faces .to g + (turn (r .start f) (4 * f) + (4 - r .start g)) % 4) e ∙ omega arith
 
-  abbrev shape : Iso same (corners M) (M .vertices) (at M) (at M′)
-  shape = record { corners = cornerMap; vertices = r .vertices; next-moves = λ c l. next-moves c; at-moves = at-moves }
-
-  pub alike : Alike same M M′
+  abbrev pub alike : Alike same M M′
   alike = record {
     same-vertices = r .same-vertices;
     same-faces = r .same-faces;
     same-positions = r .same-positions;
     same-tags = r .same-tags;
     same-indices = r .same-indices;
-    shape = shape;
+    shape = record { corners = cornerMap; vertices = r .vertices; next-moves = λ c l. next-moves c; at-moves = at-moves };
     sizes-move = λ p k b h. ap natAbs (r .positions-move p k b h);
     tags-move = r .tags-move;
   }
-
-  abbrev pub carried : (k : ℕ) → k < 3
-      → Carried (corners M) (M .vertices) (at M) (at M′) (tag M) (tag M′) (view M k .value) (view M′ k .value)
-  carried k h = record { iso = shape; tag-moves = r .tags-move; value-moves = λ p b. r .positions-move p k b h }

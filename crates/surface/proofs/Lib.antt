@@ -1,5 +1,4 @@
 -- The proof of the claim, from what a renumbering is to the theorem.
-pub mod PointMoves
 pub mod FromRenumbering
 pub mod RenumberedLaws
 pub mod FaceSamples

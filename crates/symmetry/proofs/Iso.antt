@@ -12,13 +12,13 @@ use borrow.Author.Tests.{ne-eqb}
 use Rattle.finite.specs.Permutation.{Permutation}
 use Rattle.finite.proofs.PermutationLaws.{to-injective, to-same}
 use Rattle.mesh.specs.Limits.{noTwin}
-use Rattle.mesh.specs.Corner.{turn, next, prev, Corners}
+use Rattle.mesh.specs.Corner.{turn, next, across, prev, Corners}
 use Rattle.mesh.specs.HalfEdge.{twin, boundary, Simple}
 use Rattle.mesh.proofs.CornerLaws.{not-none, turn-none, turn-suc}
 use Rattle.mesh.proofs.TwinLaws.{twin-cases, twin-is}
-use Rattle.symmetry.proofs.Sense.{Sense, same, turned, turned-none, turned-suc, turned-below}
+use Rattle.symmetry.proofs.Sense.{Sense, same, turned, ahead, behind, turned-none, turned-suc, turned-across, turned-behind, turned-below}
 use Rattle.symmetry.proofs.Sense.{leaving, entering, origin, target, origin-leaving, leaving-origin, origin-entering, target-origin}
-use Rattle.symmetry.proofs.Sense.{leaving-below, origin-below, target-below, Opposite, opposite, opposite-same, simple-in}
+use Rattle.symmetry.proofs.Sense.{leaving-below, entering-below, origin-below, target-below, Opposite, opposite, opposite-same, simple-in}
 
 pub record Sound (n v : ℕ) (at : ℕ → ℕ) : Type 0 where
   pub whole : Corners n
@@ -28,7 +28,7 @@ pub record Sound (n v : ℕ) (at : ℕ → ℕ) : Type 0 where
 pub record Iso (z : Sense) (n v : ℕ) (at at′ : ℕ → ℕ) : Type 0 where
   pub corners : Permutation n
   pub vertices : Permutation v
-  pub next-moves : (c : ℕ) → c < n → next (corners .to c) ≡ corners .to (turned z 1 c)
+  pub next-moves : (c : ℕ) → c < n → next (corners .to c) ≡ corners .to (ahead z c)
   pub at-moves : (c : ℕ) → c < n → at′ (corners .to c) ≡ vertices .to (at c)
 
 abbrev pub Moved : ℕ → (ℕ → ℕ) → ℕ → ℕ → Type 0
@@ -68,7 +68,13 @@ module _ {z : Sense} {n v : ℕ} {at at′ : ℕ → ℕ} (s : Sound n v at) (i 
       turn-suc k (φ c)
       ∙ ap next (turn-moves k c l)
       ∙ i .next-moves (turned z k c) (turned-below z (s .whole) k c l)
-      ∙ ap φ (turned-suc z k c)
+      ∙ ap φ (sym (turned-suc z k c))
+
+  pub prev-moves : (c : ℕ) → c < n → prev (φ c) ≡ φ (behind z c)
+  prev-moves c l = turn-moves 3 c l ∙ ap φ (turned-behind z c)
+
+  pub across-moves : (c : ℕ) → c < n → across (φ c) ≡ φ (across c)
+  across-moves c l = turn-moves 2 c l ∙ ap φ (turned-across z c)
 
   pub at-turn : (k c : ℕ) → c < n → at′ (turn k (φ c)) ≡ π (at (turned z k c))
   at-turn k c l = ap at′ (turn-moves k c l) ∙ i .at-moves (turned z k c) (turned-below z (s .whole) k c l)
@@ -96,14 +102,16 @@ module _ {z : Sense} {n v : ℕ} {at at′ : ℕ → ℕ} (s : Sound n v at) (i 
   leaving-moves c = ap φ (sym (origin-leaving z c))
 
   pub entering-moves : (c : ℕ) → c < n → prev (φ c) ≡ σ (entering z c)
-  entering-moves c l = turn-moves 3 c l ∙ ap φ (sym (origin-entering z c))
+  entering-moves c l = prev-moves c l ∙ ap φ (sym (origin-entering z c))
 
   -- the ends of a half-edge
   origin-moves : (c : ℕ) → c < n → at′ (σ c) ≡ π (at (origin z c))
   origin-moves c l = i .at-moves (origin z c) (origin-below z (s .whole) c l)
 
   target-moves : (c : ℕ) → c < n → at′ (next (σ c)) ≡ π (at (target z c))
-  target-moves c l = at-turn 1 (origin z c) (origin-below z (s .whole) c l) ∙ ap (λ (d : ℕ). π (at d)) (target-origin z c)
+  target-moves c l =
+      ap at′ (i .next-moves (origin z c) (origin-below z (s .whole) c l) ∙ ap φ (target-origin z c))
+      ∙ i .at-moves (target z c) (target-below z (s .whole) c l)
 
   -- the half-edge that has become c
   abbrev τ : ℕ → ℕ
@@ -172,3 +180,10 @@ module _ {z : Sense} {n v : ℕ} {at at′ : ℕ → ℕ} (s : Sound n v at) (i 
   pub boundary-moves : (c : ℕ) → c < n → boundary at′ n (φ (origin z c)) ≡ boundary at n c
   unfolding boundary halfEdges
   boundary-moves c l = moved-none (s .whole) halfEdges (twin at n c) (twin at′ n (σ c)) (twin-moves c l)
+
+  -- of the half-edges that leave and enter a corner there
+  pub leaving-boundary : (c : ℕ) → c < n → boundary at′ n (φ c) ≡ boundary at n (leaving z c)
+  leaving-boundary c l = ap (boundary at′ n) (leaving-moves c) ∙ boundary-moves (leaving z c) (leaving-below z (s .whole) c l)
+
+  pub entering-boundary : (c : ℕ) → c < n → boundary at′ n (prev (φ c)) ≡ boundary at n (entering z c)
+  entering-boundary c l = ap (boundary at′ n) (entering-moves c l) ∙ boundary-moves (entering z c) (entering-below z (s .whole) c l)

@@ -2,17 +2,18 @@
 --
 --   Sense           the faces keep their turn (`same`), or are turned the other way (`reversed`)
 --   turned z k c    the corner that is there k further than c
+--   ahead z c, behind z c   the corners that are there after c and before it
 --   leaving z c     the half-edge that leaves corner c there
 --   entering z c    the half-edge that enters corner c there
 --   origin z c      the corner that half-edge c leaves there
 --   target z c      the corner that half-edge c enters there
 --   Opposite z at c d   half-edges c and d join the same two vertices, each the other way
-use mathlib.Core.Path.{_≡_, refl}
+use mathlib.Core.Path.{_≡_, refl, sym}
 use Prim.Native.Nat.{ℕ, suc, _*_, _<_}
 use native.Mathlib.Omega.{arith}
 use Rattle.mesh.specs.Corner.{turn, next, prev, Corners}
 use Rattle.mesh.specs.HalfEdge.{Simple}
-use Rattle.mesh.proofs.CornerLaws.{turn-below, next-below, prev-below, next-prev, prev-next, turn-none}
+use Rattle.mesh.proofs.CornerLaws.{turn-below, next-below, prev-below, next-prev, prev-next, turn-none, turn-suc}
 
 pub data Sense : Type 0 where
   same reversed : Sense
@@ -20,6 +21,14 @@ pub data Sense : Type 0 where
 abbrev pub turned : Sense → ℕ → ℕ → ℕ
 turned same k c = turn k c
 turned reversed k c = turn (3 * k) c
+
+abbrev pub ahead : Sense → ℕ → ℕ
+ahead same c = next c
+ahead reversed c = prev c
+
+abbrev pub behind : Sense → ℕ → ℕ
+behind same c = prev c
+behind reversed c = next c
 
 abbrev pub leaving : Sense → ℕ → ℕ
 leaving same c = c
@@ -45,14 +54,19 @@ turned-none reversed c = turn-none c
 back-suc : (k c : ℕ) → prev (turn (3 * k) c) ≡ turn (3 * suc k) c
 back-suc k c = omega arith
 
-pub turned-suc : (z : Sense) (k c : ℕ) → turned z 1 (turned z k c) ≡ turned z (suc k) c
-turned-suc same k c = let e : next (turn k c) ≡ turn (suc k) c = omega arith in e
-turned-suc reversed k c = back-suc k c
+pub turned-suc : (z : Sense) (k c : ℕ) → turned z (suc k) c ≡ ahead z (turned z k c)
+turned-suc same k c = turn-suc k c
+turned-suc reversed k c = sym (back-suc k c)
 
 -- two further is two further either way
 pub turned-across : (z : Sense) (c : ℕ) → turned z 2 c ≡ turn 2 c
 turned-across same c = refl
 turned-across reversed c = let e : turn 6 c ≡ turn 2 c = omega arith in e
+
+-- three further is one back
+pub turned-behind : (z : Sense) (c : ℕ) → turned z 3 c ≡ behind z c
+turned-behind same c = refl
+turned-behind reversed c = let e : turn 9 c ≡ next c = omega arith in e
 
 pub turned-below : (z : Sense) {n : ℕ} → Corners n → (k c : ℕ) → c < n → turned z k c < n
 turned-below same w k c l = turn-below w k c l
@@ -67,13 +81,22 @@ pub leaving-origin : (z : Sense) (c : ℕ) → leaving z (origin z c) ≡ c
 leaving-origin same c = refl
 leaving-origin reversed c = prev-next c
 
-pub origin-entering : (z : Sense) (c : ℕ) → origin z (entering z c) ≡ turned z 3 c
+pub origin-entering : (z : Sense) (c : ℕ) → origin z (entering z c) ≡ behind z c
 origin-entering same c = refl
-origin-entering reversed c = let e : next c ≡ turn 9 c = omega arith in e
+origin-entering reversed c = refl
 
-pub target-origin : (z : Sense) (c : ℕ) → turned z 1 (origin z c) ≡ target z c
+pub target-origin : (z : Sense) (c : ℕ) → ahead z (origin z c) ≡ target z c
 target-origin same c = refl
 target-origin reversed c = prev-next c
+
+-- ---- they stay in the face
+pub ahead-below : (z : Sense) {n : ℕ} → Corners n → (c : ℕ) → c < n → ahead z c < n
+ahead-below same w c l = next-below w c l
+ahead-below reversed w c l = prev-below w c l
+
+pub behind-below : (z : Sense) {n : ℕ} → Corners n → (c : ℕ) → c < n → behind z c < n
+behind-below same w c l = prev-below w c l
+behind-below reversed w c l = next-below w c l
 
 pub leaving-below : (z : Sense) {n : ℕ} → Corners n → (c : ℕ) → c < n → leaving z c < n
 leaving-below same w c l = l

@@ -1,5 +1,5 @@
 -- Whatever is gathered at a vertex is the same in two meshes of one shape; so is its valence, and whether it lies on the boundary.
-use mathlib.Core.Path.{_≡_, refl, sym, ap, _∙_}
+use mathlib.Core.Path.{_≡_, refl, sym, _∙_}
 use mathlib.Core.Bool.{true, cond}
 use Prim.Native.Nat.{ℕ, _<_}
 use lib.Dec.{eqb}
@@ -11,8 +11,8 @@ use Rattle.finite.proofs.PermutationLaws.{to-same}
 use Rattle.mesh.specs.HalfEdge.{boundary}
 use Rattle.mesh.specs.Fan.{anyAt, valence, onBoundary, fan}
 use Rattle.mesh.proofs.BoundaryLaws.{boundary-entering}
-use Rattle.symmetry.proofs.Sense.{Sense, same, reversed, leaving, leaving-below}
-use Rattle.symmetry.proofs.Iso.{Sound, Iso, leaving-moves, boundary-moves}
+use Rattle.symmetry.proofs.Sense.{Sense, same, reversed, leaving}
+use Rattle.symmetry.proofs.Iso.{Sound, Iso, leaving-boundary}
 
 -- a boundary half-edge leaves a vertex exactly when one leaves it with the faces turned the other way
 leaves : (z : Sense) {n v : ℕ} {at : ℕ → ℕ} → Sound n v at → (p : ℕ) → fan at n p ≡ true
@@ -42,10 +42,6 @@ module _ {z : Sense} {n v : ℕ} {at at′ : ℕ → ℕ} (s : Sound n v at) (i 
   unfolding valence
   valence-moves = gather-moves sum-monoid (λ c. 1) (λ c. 1) (λ c l. refl)
 
-  -- the half-edge that leaves a corner of the other mesh is boundary there where it is here
-  pub leaving-boundary : (c : ℕ) → c < n → boundary at′ n (φ c) ≡ boundary at n (leaving z c)
-  leaving-boundary c l = ap (boundary at′ n) (leaving-moves s i c) ∙ boundary-moves s i (leaving z c) (leaving-below z (s .whole) c l)
-
   pub on-boundary-moves : (p : ℕ) → p < v → fan at n p ≡ true → onBoundary at′ n (π p) ≡ onBoundary at n p
   unfolding onBoundary
-  on-boundary-moves p b f = gather-moves any-monoid (λ c. boundary at n (leaving z c)) (boundary at′ n) leaving-boundary p b ∙ leaves z s p f
+  on-boundary-moves p b f = gather-moves any-monoid (λ c. boundary at n (leaving z c)) (boundary at′ n) (leaving-boundary s i) p b ∙ leaves z s p f

@@ -1,0 +1,1 @@
+// No code: the control points of two meshes of one shape correspond (proofs/).
