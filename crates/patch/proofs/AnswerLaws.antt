@@ -17,10 +17,10 @@ use Rattle.mesh.specs.IndexedMesh.{IndexedMesh, corners, at}
 use Rattle.mesh.specs.Refusal.{sizesOff, earlyRows, lateRows}
 use Rattle.mesh.specs.WellFormed.{WellFormed}
 use Rattle.mesh.specs.Answer.{Answer, counts, refusal, unless, meshAnswer, twinsAfter, twinsShort}
-use Rattle.mesh.specs.Private.{Holds}
 use Rattle.mesh.proofs.AcceptedLaws.{accepted-from}
 use Rattle.mesh.proofs.PhaseLaws.{early-1, early-2, early-passed, twins-accepted}
 use Rattle.patch.specs.Answer.{listsShort, written}
+use Rattle.patch.specs.Private.{Twins}
 
 -- ---- a list that is too short
 module _ (M : IndexedMesh) where
@@ -77,8 +77,10 @@ module _ (M : IndexedMesh) (d m : List ℕ) {v f e b : ℕ} (answer : counts v f
   long : corners M ≤ length d
   long = ltb-false (length d) (corners M) (counts-long M (twinsShort M d) answer)
 
-  pub twins-listed : corners M ≤ length m
-  twins-listed = rw (filled-twins, length-filled (twin (at M) (corners M)) (corners M) d long) long
-
-  pub twins-held : Holds 0 m (corners M) (twin (at M) (corners M))
-  twins-held c l = rw filled-twins (filled-at (twin (at M) (corners M)) (corners M) c d 0 l)
+  pub twins-left : Twins (M .indices) m
+  twins-left =
+      let whole = counts-accepted M (twinsShort M d) answer .sized .indices-are in
+      record {
+        listed = rw (whole, filled-twins, length-filled (twin (at M) (corners M)) (corners M) d long) long;
+        are = rw whole (λ c l. rw filled-twins (filled-at (twin (at M) (corners M)) (corners M) c d 0 l));
+      }

@@ -9,7 +9,7 @@ use borrow.Author.Needs.{needs}
 use Rattle.mesh.specs.IndexedMesh.{IndexedMesh, indexed}
 use Rattle.mesh.specs.Answer.{Answer, meaning, meshAnswer, twinsAfter, twinsShort}
 use Rattle.patch.specs.Answer.{listsShort, written}
-use Rattle.patch.proofs.AnswerLaws.{short-written, short-twins, patches-short, none-short, patches-long, counts-accepted, twins-listed, twins-held}
+use Rattle.patch.proofs.AnswerLaws.{short-written, short-twins, patches-short, none-short, patches-long, counts-accepted, twins-left}
 use Rattle.patch.proofs.patches.Statement.{statement}
 use Rattle.patch.proofs.patches.Tie as tie
 
@@ -96,7 +96,7 @@ fill-patches-requires c κs =
     let answer = k .before .before .check2 in
     let counted = sym (ap meaning (c .before .before .before .answer .given .1)) ∙ answer .ensures .0 in (
       (counts-accepted m _ counted, omega (arith, k .before .before .before .before .if1 .left)),
-      (twins-listed m (s .args .twins .now) _ counted (answer .ensures .1), twins-held m (s .args .twins .now) _ counted (answer .ensures .1)),
+      twins-left m (s .args .twins .now) _ counted (answer .ensures .1),
     )
 
 same-length-3 : tie.Need-same-length-3
