@@ -19,11 +19,11 @@ use Rattle.mesh.specs.Refusal.{earlyRows, lateRows}
 use Rattle.mesh.specs.WellFormed.{WellFormed}
 use Rattle.mesh.specs.Answer.{countsOf, meshRefusal, meshAnswer, twinsAfter, twinsShort, lentRows, given}
 use Rattle.mesh.specs.declared.model.Mesh.{Mesh}
-use Rattle.mesh.specs.Private.{Holds}
 use Rattle.mesh.proofs.AcceptedLaws.{accepted-from}
 use Rattle.mesh.proofs.PhaseLaws.{early-passed, refusal-alike, twins-alike, twins-accepted}
 use Rattle.patch.specs.Patch.{patchesAfter}
 use Rattle.patch.specs.Answer.{patchesShort, listsShort, patchRows, patchAnswer, patchTwins, patchList}
+use Rattle.patch.specs.Private.{Twins}
 
 -- ---- the call's own row, as it is handed to the check: first the patch list, then the twins
 given-short : (twins patches : Bool) → firstMet (given (cond patches 2 0) ∷ (row twins 2 ∷ [])) ≡ firstMet (row (twins || patches) 2 ∷ [])
@@ -74,8 +74,10 @@ module _ (M : IndexedMesh) (d : List ℕ) (e : List ℤ) {m : Mesh} (answer : re
     filled-twins : t ≡ filled (twin (at M) (corners M)) (corners M) d
     filled-twins = left ∙ sym (twins-accepted M (patchRows M d e) (parts .0) (parts .1) d)
 
-    pub twins-listed : corners M ≤ length t
-    twins-listed = rw (filled-twins, length-filled (twin (at M) (corners M)) (corners M) d twins-long) twins-long
-
-    pub twins-held : Holds 0 t (corners M) (twin (at M) (corners M))
-    twins-held c l = rw filled-twins (filled-at (twin (at M) (corners M)) (corners M) c d 0 l)
+    pub twins-left : Twins (M .indices) t
+    twins-left =
+        let whole = result-well-formed .sized .indices-are in
+        record {
+          listed = rw (whole, filled-twins, length-filled (twin (at M) (corners M)) (corners M) d twins-long) twins-long;
+          are = rw whole (λ c l. rw filled-twins (filled-at (twin (at M) (corners M)) (corners M) c d 0 l));
+        }

@@ -1,56 +1,64 @@
--- What the points of a patch are read from: coordinates are listed and within their range, the listed twins tell which half-edges are sharp,
+-- What the points of a patch are read from: the listed twins tell which half-edges are sharp, the values of the faces at a corner make its points,
 -- two tables tell which point of which corner each of the sixteen is, and three coordinates are a point.
-use mathlib.Core.Path.{_≡_, refl, sym, ap₂, _∙_}
-use mathlib.Core.Bool.{true, false}
+use mathlib.Core.Path.{_≡_, refl, ap, ap₂, subst}
+use mathlib.Core.Bool.{false}
 use mathlib.Core.List.{List, [], _∷_, map}
 use Prim.Native.Nat.{ℕ, zero, suc, _+_, _-_, _*_, _/_, _%_, _≤_, _<_}
 use native.Mathlib.Nat.{not-suc-le-zero}
 use native.Mathlib.Omega.{arith}
-use lib.Dec.{ltb}
-use lib.IntN.{ℤ, natAbs}
+use lib.Dec.{eqb, ltb}
+use lib.IntN.{ℤ}
 use lib.ListN.{length, getD, set}
-use borrow.Author.Tests.{eq-eqb, ne-eqb, ltb-true}
+use borrow.Author.Tests.{ltb-true}
 use Rattle.finite.specs.Fold.{foldBelow}
 use Rattle.finite.specs.Filled.{listBelow, filled}
 use Rattle.finite.proofs.AnyAll.{all-true}
 use Rattle.finite.proofs.FilledLaws.{filled-start, filled-more}
-use Rattle.mesh.specs.Limits.{maxCoordinate, noTwin}
+use Rattle.mesh.specs.Limits.{noTwin}
 use Rattle.mesh.specs.Corner.{turn}
 use Rattle.mesh.specs.HalfEdge.{boundary}
 use Rattle.mesh.specs.Private.{vertexOf, twinOf}
 use Rattle.mesh.proofs.CornerLaws.{turn-below}
-use Rattle.patch.specs.Point.{x, sharp}
+use Rattle.patch.specs.Mask.{Fraction, innerMask, edgeMask}
+use Rattle.patch.specs.Point.{View, weight, sharp, innerPoint, edgePoint}
 use Rattle.patch.specs.Patch.{owner, kind}
-use Rattle.patch.specs.Private.{seen, Readable, Twins, Source, pointFrom, numberFrom}
+use Rattle.patch.specs.Private.{shapeOf, SeenFrom, Made, boundaryIn, sharpIn, Twins, Source, pointFrom, numberFrom}
+use Rattle.patch.specs.declared.fraction.Fraction as code
+use Rattle.patch.specs.declared.values.FaceValues.{FaceValues}
 use Rattle.patch.proofs.NeighbourLaws.{twin-below}
 
--- ---- coordinates
-module _ {positions : List ℤ} {faces weights : List ℕ} {k : ℕ} (r : Readable positions faces weights k) where
-  -- what a function asks that reads the coordinate of the corner i further than c
-  pub turned-asked : (i c : ℕ) → i < 4 → c < length faces → (i < 4) × (turn i c < length faces) × (3 * vertexOf faces (turn i c) + k < length positions)
-  turned-asked i c h l = let b = turn-below (r .corners) i c l in (h, b, r .placed .listed (turn i c) b)
-
-  pub turned-size : (i c : ℕ) → c < length faces → natAbs (x (seen positions faces k) (turn i c)) ≤ maxCoordinate
-  turned-size i c l = r .placed .small (turn i c) (turn-below (r .corners) i c l)
-
 -- ---- twins
-module _ {faces twins : List ℕ} (t : Twins faces twins) (positions : List ℤ) (k c : ℕ) (l : c < length faces) where
-  pub sharp-listed : twinOf twins c ≡ noTwin → sharp (seen positions faces k .shape) c ≡ true
-  unfolding sharp boundary
-  sharp-listed e = eq-eqb _ _ (sym (t .are c l) ∙ e)
+module _ {faces twins : List ℕ} (t : Twins faces twins) (c : ℕ) (l : c < length faces) where
+  pub boundary-in : boundaryIn twins c ≡ boundary (vertexOf faces) (length faces) c
+  unfolding boundary
+  boundary-in = ap (λ (d : ℕ). eqb d noTwin) (t .are c l)
 
-  pub not-sharp-listed : (twinOf twins c ≡ noTwin → ⊥) → sharp (seen positions faces k .shape) c ≡ false
-  unfolding sharp boundary
-  not-sharp-listed n = ne-eqb _ _ (λ e. n (t .are c l ∙ e))
+  pub sharp-in : sharpIn twins c ≡ sharp (shapeOf faces) c
+  unfolding sharp
+  sharp-in = boundary-in
 
-  pub twin-listed : (twinOf twins c ≡ noTwin → ⊥) → twinOf twins c < length faces
-  twin-listed n = rw (t .are c l) (twin-below (seen positions faces k .shape) c (not-sharp-listed n))
+  pub twin-listed : sharp (shapeOf faces) c ≡ false → twinOf twins c < length faces
+  twin-listed e = rw (t .are c l) (twin-below (shapeOf faces) c e)
+
+-- ---- the points, from the values of the faces
+pub made-is : {q q' : Fraction} {r : code.Fraction} → q ≡ q' → Made q r → Made q' r
+made-is {r = r} e m = subst (λ (q : Fraction). Made q r) e m
+
+pub inner-seen : (S : View) (c w : ℕ) (a : FaceValues) → w ≡ weight (S .shape) c → SeenFrom S c a
+    → innerMask w (a .here) (a .next) (a .prev) (a .across) ≡ innerPoint S c
+unfolding innerPoint
+inner-seen S c w a e h = rw (e, h .here-is, h .next-is, h .prev-is, h .across-is)
+
+pub edge-seen : (S : View) (c d w : ℕ) (a b : FaceValues) → w ≡ weight (S .shape) c → SeenFrom S c a → SeenFrom S d b
+    → edgeMask w (a .here) (a .next) (a .prev) (b .across) (a .across) (b .prev) ≡ edgePoint S c d
+unfolding edgePoint
+edge-seen S c d w a b e h g = rw (e, h .here-is, h .next-is, h .prev-is, g .across-is, h .across-is, g .prev-is)
 
 -- ---- the two tables of a patch
 -- the corner of a face that owns a point is one of its corners
 pub owner-listed : {positions points : List ℤ} {faces twins weights : List ℕ} → Source positions faces twins weights points → (g m c : ℕ) → 4 * g + 4 ≤ length faces → c ≡ turn m (4 * g)
     → c < length faces
-owner-listed t g m c l e = rw e (turn-below (t .readable 0 (omega arith) .corners) m (4 * g) (omega arith))
+owner-listed t g m c l e = rw e (turn-below (t .placed 0 (omega arith) .corners) m (4 * g) (omega arith))
 
 -- number 3m + k of a patch is coordinate k of its point m
 pub number-point : (positions : List ℤ) (faces : List ℕ) (points : List ℤ) (g m k : ℕ) → k < 3

@@ -6,8 +6,9 @@
 --   stored z       the integer z, stored and read back
 --   machine e      what the machine computes for e, from what it has stored
 --   Coordinates e  its coordinates are within their range
+--   made e         the fraction of e over its weights, as the machine hands it on
 use mathlib.Core.Path.{_≡_, refl, sym, ap, ap₂, _∙_, subst}
-use Prim.Native.Nat.{ℕ, _+_, _*_, _≤_}
+use Prim.Native.Nat.{ℕ, _+_, _*_, _≤_, _<_}
 use native.Mathlib.Nat.{mul-le-mul-left}
 use native.Mathlib.Omega.{arith}
 use lib.IntN.{ℤ, pos, natAbs, _+ℤ_, _*ℤ_}
@@ -16,6 +17,7 @@ use mir.Val.{SFits, toZ, ofZ}
 use mir.Facts.{toZ-ofZ, toZ-pos}
 use Rattle.integer.proofs.Laws.{abs-+, abs-*, sfits-abs}
 use Rattle.mesh.specs.Limits.{maxCoordinate}
+use Rattle.patch.specs.Private.{Made}
 
 infixl 6 _⊞_
 pub data Sum : Type 0 where
@@ -68,3 +70,15 @@ exact-stored e l w = ap stored (exact e l w) ∙ toZ-ofZ (value-fits e l w)
 
 pub fits : (e : Sum) → Coordinates e → weights e ≤ 1024 → SFits w64 (machine e)
 fits e l w = subst (SFits w64) (sym (exact e l w)) (value-fits e l w)
+
+-- a coordinate z that is known as y, read back
+pub stored-is : (z y : ℤ) → natAbs z ≤ maxCoordinate → z ≡ y → stored z ≡ y
+stored-is z y l e = exact-stored (one z) l (omega arith) ∙ e
+
+-- a numerator, stored as z, and a divisor
+pub made-of : (num z : ℤ) (den : ℕ) → z ≡ num → 0 < den → natAbs num ≤ maxCoordinate * den → Made (record { num = num; den = den }) (record { num = z; den = den })
+made-of num z den e p l = record { is = rw e; within = record { positive = p; small = rw e l } }
+
+pub made : (e : Sum) → Coordinates e → (den : ℕ) → weights e ≡ den → 0 < den → den ≤ 1024
+    → Made (record { num = value e; den = den }) (record { num = stored (machine e); den = den })
+made e l den q p h = made-of (value e) (stored (machine e)) den (exact-stored e l (omega arith)) p (omega (arith, size e l))

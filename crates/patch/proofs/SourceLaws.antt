@@ -1,55 +1,38 @@
 -- The tables of an accepted mesh are all that its patches are written from, and what is written from them is the patch list.
-use mathlib.Core.Path.{_≡_}
+use mathlib.Core.Path.{_≡_, sym, _∙_}
 use mathlib.Core.List.{List}
 use Prim.Native.Nat.{ℕ, _+_, _-_, _*_, _/_, _%_, _≤_, _<_}
-use native.Mathlib.Nat.{lt-of-lt-of-le}
 use native.Mathlib.Omega.{arith}
 use lib.IntN.{ℤ}
 use lib.ListN.{length}
-use Rattle.finite.proofs.FoldLaws.{bool-cases}
 use Rattle.mesh.specs.Corner.{turn}
-use Rattle.mesh.specs.Fan.{onBoundary}
 use Rattle.mesh.specs.IndexedMesh.{IndexedMesh, corners, at}
 use Rattle.mesh.specs.WellFormed.{WellFormed}
 use Rattle.mesh.proofs.CornerLaws.{turn-below}
 use Rattle.mesh.proofs.AcceptedLaws.{accepted-corners}
 use Rattle.patch.specs.Point.{Kind, corner, along, before, inner, weight, sharp, alongPoint, beforePoint, innerPoint, edgePoint, point}
-use Rattle.patch.specs.Patch.{owner, kind, patchPoint, shape, view, units, patchNumber}
-use Rattle.patch.specs.Private.{vertexWeight, Tables, Readable, Source, pointFrom, numberFrom}
+use Rattle.patch.specs.Patch.{owner, kind, patchPoint, view, units, patchNumber}
+use Rattle.patch.specs.Private.{Twins, Tables, Source, pointFrom, numberFrom}
+use Rattle.patch.proofs.TableLaws.{weight-seen, accepted-whole, accepted-light, accepted-coordinates}
 
 pub face-listed : {M : IndexedMesh} → WellFormed M → (g : ℕ) → g < M .faces → 4 * g + 4 ≤ length (M .indices)
 face-listed a g l = omega (arith, a .sized .indices-are)
 
-module _ {M : IndexedMesh} (a : WellFormed M) {twins weights : List ℕ} {points : List ℤ} (t : Tables M twins weights points) where
+module _ {M : IndexedMesh} (a : WellFormed M) {weights : List ℕ} {points : List ℤ} (t : Tables M weights points) where
   whole : length (M .indices) ≡ corners M
-  whole = a .sized .indices-are
+  whole = accepted-whole a
 
-  -- a weight is at most twice eight faces
-  light : (p : ℕ) → p < M .vertices → vertexWeight (shape M) p ≤ 32
-  unfolding vertexWeight
-  light p l =
-      bool-cases (onBoundary (at M) (corners M) p)
-      (λ e. rw e (omega (arith, a .boundary-high p l e)))
-      (λ e. rw e (omega (arith, a .inner-high p l e)))
-
-  readable : (k : ℕ) → k < 3 → Readable (M .positions) (M .indices) weights k
-  unfolding weight vertexWeight
-  readable k h = record {
-    corners = rw whole (accepted-corners a);
-    placed = record {
-      listed = λ c l. omega (arith, a .named c (rw whole at l), a .sized .positions-are);
-      small = λ c l. a .coordinates (3 * at M c + k) (omega (arith, a .named c (rw whole at l)));
+  pub source : {twins : List ℕ} → Twins (M .indices) twins → length (M .indices) ≤ length weights → 3 * M .vertices ≤ length points
+      → Source (M .positions) (M .indices) twins weights points
+  source twinned listed pointed = record {
+    placed = accepted-coordinates a;
+    weighed = record {
+      listed = listed;
+      are = λ c l. t .weights-are c (rw whole at l) ∙ sym (weight-seen M whole c);
+      light = λ c l. rw (weight-seen M whole c) (accepted-light a c (rw whole at l));
     };
-    weighed = λ c l. lt-of-lt-of-le (a .named c (rw whole at l)) (t .weights-listed);
-    light = λ c l. rw (t .weights-are (at M c) (a .named c (rw whole at l))) (light (at M c) (a .named c (rw whole at l)));
-    weights-are = λ c l. rw whole (t .weights-are (at M c) (a .named c (rw whole at l)));
-  }
-
-  pub source : Source (M .positions) (M .indices) twins weights points
-  source = record {
-    readable = readable;
-    twinned = record { listed = rw whole (t .twins-listed); are = rw whole (t .twins-are) };
-    pointed = λ c k l h. omega (arith, a .named c (rw whole at l), t .points-listed);
+    twinned = twinned;
+    pointed = λ c k l h. omega (arith, a .named c (rw whole at l));
   }
 
   -- a point from the tables is the point of the mesh

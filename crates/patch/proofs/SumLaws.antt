@@ -1,22 +1,19 @@
--- Sums over the corners at a vertex, as the code makes them: their size, sums of naturals, and a count as a test.
-use mathlib.Core.Path.{_≡_, refl, sym, ap, ap₂, _∙_}
+-- Sums over the corners at a vertex, as the code makes them: their size, and a count as a test.
+use mathlib.Core.Path.{_≡_, refl, sym, ap, _∙_}
 use mathlib.Core.Bool.{Bool, true, false, not, cond, _||_, or-true, or-false}
-use mathlib.Core.List.{List}
-use Prim.Native.Nat.{ℕ, zero, suc, _+_, _*_, _^_, _≤_, _<_}
+use Prim.Native.Nat.{ℕ, zero, suc, _+_, _*_, _^_, _≤_, _<_, zero-le}
 use native.Mathlib.Nat.{add-zero}
 use native.Mathlib.Omega.{arith}
 use lib.Dec.{eqb}
 use lib.IntN.{ℤ, pos, natAbs, _+ℤ_}
-use lib.ListN.{getD}
 use lib.Signed.{mag}
 use mir.Syntax.{Width}
 use mir.Val.{toZ, ofZ, hbits}
 use mir.Facts.{toZ-ofZ}
 use borrow.Author.Tests.{ne-eqb}
 use Rattle.finite.specs.Fold.{foldBelow, indicator, gather}
-use Rattle.finite.specs.Filled.{filled}
-use Rattle.finite.proofs.FoldLaws.{fold-ext}
-use Rattle.finite.proofs.FilledLaws.{filled-at}
+use Rattle.finite.proofs.FoldLaws.{fold-ext, bool-cases}
+use Rattle.mesh.specs.Limits.{maxCoordinate}
 use Rattle.mesh.specs.Fan.{anyAt, valence}
 use Rattle.patch.proofs.PointLaws.{bounds}
 use Rattle.patch.proofs.Related.{sum-at}
@@ -24,6 +21,14 @@ use Rattle.patch.proofs.Related.{sum-at}
 -- what a call gave, read back from its bits
 pub read-back : (w : Width) {r z : ℤ} → mag r < 2 ^ hbits w → r ≡ z → toZ w (ofZ w r) ≡ z
 read-back w ok e = toZ-ofZ (record { sfits = ok }) ∙ e
+
+pub cond-size : (b : Bool) (z : ℤ) (B : ℕ) → natAbs z ≤ B → natAbs (cond b z (pos 0)) ≤ B
+cond-size true z B h = h
+cond-size false z B h = zero-le
+
+pub indicator-few : (b : Bool) → indicator b ≤ 1
+indicator-few true = omega arith
+indicator-few false = omega arith
 
 module _ (at : ℕ → ℕ) (p : ℕ) where
   pub gather-ext : {A : Type 0} (z : A) (op : A → A → A) {f g : ℕ → A} (n : ℕ) → ((c : ℕ) → c < n → f c ≡ g c) → gather z op at f n p ≡ gather z op at g n p
@@ -34,14 +39,20 @@ module _ (at : ℕ → ℕ) (p : ℕ) where
   unfolding valence
   gather-size B f n h = sum-at (bounds B) at p (λ c. 1) f f n (λ c l _. omega (arith, h c l))
 
-  pub gather-pos : (f : ℕ → ℕ) (n : ℕ) → gather (pos 0) _+ℤ_ at (λ c. pos (f c)) n p ≡ pos (gather 0 _+_ at f n p)
+  -- terms of at most 1, one for each corner at p
+  pub gather-few : (f : ℕ → ℕ) (n : ℕ) → ((c : ℕ) → f c ≤ 1) → gather 0 _+_ at f n p ≤ n
   unfolding foldBelow
-  gather-pos f zero = refl
-  gather-pos f (suc n) = ap₂ _+ℤ_ (gather-pos f n) (term (eqb (at n) p))
-    where
-      term : (b : Bool) → cond b (pos (f n)) (pos 0) ≡ pos (cond b (f n) 0)
-      term true = refl
-      term false = refl
+  gather-few f zero h = omega arith
+  gather-few f (suc n) h = bool-cases (eqb (at n) p) (λ e. rw e (omega (arith, gather-few f n h, h n))) (λ e. rw e (omega (arith, gather-few f n h)))
+
+  pub valence-few : (n : ℕ) → valence at n p ≤ n
+  unfolding valence
+  valence-few n = gather-few (λ c. 1) n (λ c. omega arith)
+
+  -- terms within five coordinates, as many as there are corners
+  pub gather-bound : (f : ℕ → ℤ) (n : ℕ) → ((c : ℕ) → c < n → natAbs (f c) ≤ 5 * maxCoordinate)
+      → natAbs (gather (pos 0) _+ℤ_ at f n p) ≤ 5 * maxCoordinate * n
+  gather-bound f n h = omega (arith, gather-size (5 * maxCoordinate) f n h, valence-few n)
 
   -- no corner at p has t exactly when their count is 0
   pub count-none : (t : ℕ → Bool) (n : ℕ) → eqb (gather 0 _+_ at (λ c. indicator (t c)) n p) 0 ≡ not (anyAt at n p t)
@@ -58,11 +69,3 @@ module _ (at : ℕ → ℕ) (p : ℕ) where
       step : (m : ℕ) (x u : Bool) → eqb m 0 ≡ not x → eqb (m + indicator u) 0 ≡ not (x || u)
       step m x true e = ne-eqb (m + 1) 0 (λ h. omega arith) ∙ sym (ap not (or-true x))
       step m x false e = rw (add-zero, or-false) e
-
--- a table of terms that a loop filled
-module _ (terms d : List ℤ) (f : ℕ → ℤ) (n : ℕ) (e : terms ≡ filled f n d) where
-  pub filled-size : (B : ℕ) → ((c : ℕ) → c < n → natAbs (f c) ≤ B) → (c : ℕ) → c < n → natAbs (getD terms c (pos 0)) ≤ B
-  filled-size B h c l = rw (e, filled-at f n c d (pos 0) l) (h c l)
-
-  pub filled-gather : (at : ℕ → ℕ) (p : ℕ) → gather (pos 0) _+ℤ_ at (λ c. getD terms c (pos 0)) n p ≡ gather (pos 0) _+ℤ_ at f n p
-  filled-gather at p = gather-ext at p (pos 0) _+ℤ_ n (λ c l. rw e (filled-at f n c d (pos 0) l))

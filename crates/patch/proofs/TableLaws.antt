@@ -1,41 +1,40 @@
--- The tables by vertex of an accepted mesh: what their entries are made of, the sizes of these, and the corner point from them.
+-- The tables of an accepted mesh: what their entries are made of, the sizes of these, and the corner point from them.
 use mathlib.Core.Path.{_≡_, _∙_}
-use mathlib.Core.Bool.{Bool, true, false, cond, _||_}
+use mathlib.Core.Bool.{Bool, false, cond, _||_}
 use mathlib.Core.List.{List}
-use Prim.Native.Nat.{ℕ, _+_, _*_, _≤_, _<_, zero-le}
+use Prim.Native.Nat.{ℕ, _+_, _*_, _≤_, _<_}
 use native.Mathlib.Nat.{lt-of-lt-of-le}
 use native.Mathlib.Omega.{arith}
 use lib.Dec.{eqb}
 use lib.IntN.{ℤ, pos, natAbs}
-use lib.ListN.{length, getD, set}
+use lib.ListN.{length, getD, set, replicate, getD-replicate}
 use lib.Seq.{getD-set-same, getD-set-other}
 use borrow.Author.Tests.{eqb-true, eqb-false, not-false}
 use Rattle.integer.proofs.Laws.{abs-+}
-use Rattle.finite.specs.Fold.{gather, indicator}
-use Rattle.finite.proofs.FoldLaws.{bool-cases, eqb-same}
-use Rattle.mesh.specs.Limits.{maxCoordinate, maxValence, cornerTag}
+use Rattle.finite.proofs.FoldLaws.{bool-cases}
+use Rattle.mesh.specs.Limits.{maxVertices, maxCoordinate, maxValence, cornerTag}
 use Rattle.mesh.specs.Corner.{turn, next, prev, across, Corners}
 use Rattle.mesh.specs.HalfEdge.{boundary}
-use Rattle.mesh.specs.Fan.{valence, onBoundary}
+use Rattle.mesh.specs.Fan.{onBoundary}
 use Rattle.mesh.specs.IndexedMesh.{IndexedMesh, corners, at, tag}
 use Rattle.mesh.specs.WellFormed.{WellFormed}
-use Rattle.mesh.specs.Private.{Indices}
+use Rattle.mesh.specs.Private.{Holds, Indices}
 use Rattle.mesh.proofs.CornerLaws.{turn-below}
 use Rattle.mesh.proofs.BoundaryLaws.{boundary-vertex}
 use Rattle.mesh.proofs.AcceptedLaws.{accepted-corners}
 use Rattle.patch.specs.Mask.{smoothCornerMask, boundaryCornerMask, vertexMask}
-use Rattle.patch.specs.Point.{View, x, ringTerm, sharpTerm, inside, sharp, sharpSum, ringSum, fixed, cornerPoint}
+use Rattle.patch.specs.Point.{Shape, View, x, ringTerm, sharpTerm, faces, inside, weight, sharp, sharpSum, ringSum, fixed, cornerPoint}
 use Rattle.patch.specs.Patch.{shape, view}
-use Rattle.patch.specs.Private.{vertexWeight, Placed}
+use Rattle.patch.specs.Private.{shapeOf, seen, Coordinates}
 use Rattle.patch.proofs.MaskLaws.{one, term, _⊞_, size}
 use Rattle.patch.proofs.NeighbourLaws.{sharp-neighbours}
-use Rattle.patch.proofs.SumLaws.{gather-size, count-none}
+use Rattle.patch.proofs.SumLaws.{cond-size, gather-size}
+
+-- a table as it is made: the same number at each vertex
+pub same-all : {A : Type 0} (z : A) → Holds z (replicate maxVertices z) maxVertices (λ p. z)
+same-all z p l = getD-replicate maxVertices p z z l
 
 -- ---- the terms of the two sums
-pub cond-size : (b : Bool) (z : ℤ) (B : ℕ) → natAbs z ≤ B → natAbs (cond b z (pos 0)) ≤ B
-cond-size true z B h = h
-cond-size false z B h = zero-le
-
 module _ (S : View) (k : Corners (S .shape .n)) (small : (c : ℕ) → c < S .shape .n → natAbs (x S c) ≤ maxCoordinate) where
   turn-size : (i c : ℕ) → c < S .shape .n → natAbs (x S (turn i c)) ≤ maxCoordinate
   turn-size i c l = small (turn i c) (turn-below k i c l)
@@ -46,51 +45,85 @@ module _ (S : View) (k : Corners (S .shape .n)) (small : (c : ℕ) → c < S .sh
 
   pub sharp-term-size : (c : ℕ) → c < S .shape .n → natAbs (sharpTerm S c) ≤ 5 * maxCoordinate
   sharp-term-size c l =
+      let leaves = sharp (S .shape) c in
+      let enters = boundary (S .shape .at) (S .shape .n) (prev c) in
       omega (
         arith,
-        abs-+ (cond (sharp (S .shape) c) (x S (next c)) (pos 0)) (cond (boundary (S .shape .at) (S .shape .n) (prev c)) (x S (prev c)) (pos 0)),
-        cond-size (sharp (S .shape) c) (x S (next c)) maxCoordinate (turn-size 1 c l),
-        cond-size (boundary (S .shape .at) (S .shape .n) (prev c)) (x S (prev c)) maxCoordinate (turn-size 3 c l),
+        abs-+ (cond leaves (x S (next c)) (pos 0)) (cond enters (x S (prev c)) (pos 0)),
+        cond-size leaves (x S (next c)) maxCoordinate (turn-size 1 c l),
+        cond-size enters (x S (prev c)) maxCoordinate (turn-size 3 c l),
       )
 
-faces-weight : (M : IndexedMesh) (p : ℕ) → valence (at M) (corners M) p ≤ vertexWeight (shape M) p
-unfolding vertexWeight
-faces-weight M p = bool-cases (onBoundary (at M) (corners M) p) (λ e. rw e (omega arith)) (λ e. rw e (omega arith))
+-- ---- the lists of a mesh tell its shape and its coordinates
+module _ (M : IndexedMesh) (whole : length (M .indices) ≡ corners M) where
+  pub weight-seen : (c : ℕ) → weight (shapeOf (M .indices)) c ≡ weight (shape M) c
+  unfolding weight
+  weight-seen c = rw whole
+
+  pub faces-seen : (p : ℕ) → faces (shapeOf (M .indices)) p ≡ faces (shape M) p
+  faces-seen p = rw whole
+
+  pub inside-seen : (p : ℕ) → inside (shapeOf (M .indices)) p ≡ inside (shape M) p
+  inside-seen p = rw whole
+
+  pub ring-seen : (k p : ℕ) → ringSum (seen (M .positions) (M .indices) k) p ≡ ringSum (view M k) p
+  unfolding ringSum
+  ring-seen k p = rw whole
+
+  pub sharp-seen : (k p : ℕ) → sharpSum (seen (M .positions) (M .indices) k) p ≡ sharpSum (view M k) p
+  unfolding sharpSum sharp
+  sharp-seen k p = rw whole
 
 module _ {M : IndexedMesh} (a : WellFormed M) where
-  pub accepted-indices : Indices (M .indices) (corners M)
+  pub accepted-whole : length (M .indices) ≡ corners M
+  accepted-whole = a .sized .indices-are
+
+  pub accepted-indices : Indices (M .indices) (length (M .indices))
   accepted-indices = record {
-    whole = omega arith;
-    few = omega (arith, a .sized .faces-high);
-    listed = omega (arith, a .sized .indices-are);
-    named = λ c l. lt-of-lt-of-le (a .named c l) (a .sized .vertices-high);
+    whole = omega (arith, accepted-whole);
+    few = omega (arith, a .sized .faces-high, accepted-whole);
+    listed = omega arith;
+    named = λ c l. lt-of-lt-of-le (a .named c (rw accepted-whole at l)) (a .sized .vertices-high);
   }
 
-  -- the weight of a vertex
-  weight-range : (p : ℕ) → p < M .vertices → (0 < vertexWeight (shape M) p) × (vertexWeight (shape M) p ≤ maxValence)
-  unfolding vertexWeight
-  weight-range p l =
+  -- how many faces a vertex has
+  faces-range : (p : ℕ) → p < M .vertices → (0 < faces (shape M) p) × (faces (shape M) p ≤ maxValence)
+  faces-range p l =
       bool-cases (onBoundary (at M) (corners M) p)
-      (λ e. rw e (omega (arith, a .used p l), omega (arith, a .boundary-high p l e)))
-      (λ e. rw e (omega (arith, a .used p l), omega (arith, a .inner-high p l e)))
+      (λ e. (a .used p l, omega (arith, a .boundary-high p l e)))
+      (λ e. (a .used p l, omega (arith, a .inner-high p l e)))
+
+  -- a weight is at most twice eight faces
+  pub accepted-light : (c : ℕ) → c < corners M → weight (shape M) c ≤ 32
+  unfolding weight
+  accepted-light c l =
+      let p = at M c in
+      let b = a .named c l in
+      bool-cases (onBoundary (at M) (corners M) p)
+      (λ e. rw e (omega (arith, a .boundary-high p b e)))
+      (λ e. rw e (omega (arith, a .inner-high p b e)))
 
   module _ (k : ℕ) (axis : k < 3) where
-    pub accepted-placed : Placed (M .positions) (M .indices) (corners M) k
-    accepted-placed = record {
-      listed = λ c l. omega (arith, a .named c l, a .sized .positions-are);
-      small = λ c l. a .coordinates (3 * at M c + k) (omega (arith, a .named c l));
+    corner-small : (c : ℕ) → c < corners M → natAbs (x (view M k) c) ≤ maxCoordinate
+    corner-small c l = a .coordinates (3 * at M c + k) (omega (arith, a .named c l))
+
+    pub accepted-coordinates : Coordinates (M .positions) (M .indices) k
+    accepted-coordinates = record {
+      corners = rw accepted-whole (accepted-corners a);
+      listed = λ c l. omega (arith, a .named c (rw accepted-whole at l), a .sized .positions-are);
+      small = λ c l. corner-small c (rw accepted-whole at l);
     }
 
-    ring-size : (p : ℕ) → natAbs (ringSum (view M k) p) ≤ 5 * maxCoordinate * valence (at M) (corners M) p
+    ring-size : (p : ℕ) → natAbs (ringSum (view M k) p) ≤ 5 * maxCoordinate * faces (shape M) p
     unfolding ringSum
-    ring-size p = gather-size (at M) p (5 * maxCoordinate) _ (corners M) (ring-term-size (view M k) (accepted-corners a) (accepted-placed .small))
+    ring-size p = gather-size (at M) p (5 * maxCoordinate) _ (corners M) (ring-term-size (view M k) (accepted-corners a) corner-small)
 
     -- what a function asks that makes the corner point of vertex p from the entries of the tables
-    pub corner-asked : (p : ℕ) → p < M .vertices → (w : ℕ) (z r : ℤ) → w ≡ vertexWeight (shape M) p → z ≡ view M k .value p → r ≡ ringSum (view M k) p
-        → (0 < w) × (w ≤ maxValence) × (natAbs z ≤ maxCoordinate) × (natAbs r ≤ 5 * maxCoordinate * w)
-    corner-asked p l w z r hw hz hr =
-        let range = weight-range p l in
-        rw (hw, hz, hr) (range .0, range .1, a .coordinates (3 * p + k) (omega arith), omega (arith, ring-size p, faces-weight M p))
+    pub corner-asked : (p : ℕ) → p < M .vertices → (n : ℕ) (z r : ℤ) → n ≡ faces (shape M) p → z ≡ view M k .value p → r ≡ ringSum (view M k) p
+        → (0 < n) × (n ≤ maxValence) × (natAbs z ≤ maxCoordinate) × (natAbs r ≤ 5 * maxCoordinate * n)
+    corner-asked p l n z r hn hz hr =
+        let range = faces-range p l in
+        rw (hn, hz, hr) (range .0, range .1, a .coordinates (3 * p + k) (omega arith), ring-size p)
 
     -- two half-edges at a boundary vertex are boundary
     pub sharp-size : (p : ℕ) → p < M .vertices → inside (shape M) p ≡ false → natAbs (sharpSum (view M k) p) ≤ 2 * maxCoordinate
@@ -98,27 +131,20 @@ module _ {M : IndexedMesh} (a : WellFormed M) where
         let w = boundary-vertex (at M) (accepted-corners a) (a .simple) p (a .fans p l) (not-false _ e) in
         let n = w .leaving .corner in
         let m = w .entering .corner in
-        let corner-size = turn-size (view M k) (accepted-corners a) (accepted-placed .small) in
+        let corner-size = turn-size (view M k) (accepted-corners a) corner-small in
         rw (sharp-neighbours (view M k) p w)
         (omega (arith, abs-+ (x (view M k) (next n)) (x (view M k) (prev m)), corner-size 1 n (w .leaving .below), corner-size 3 m (w .entering .below)))
 
--- ---- the corner point, from the entries of the tables
-module _ (M : IndexedMesh) (p : ℕ) where
-  pub inside-count : eqb (gather 0 _+_ (at M) (λ c. indicator (boundary (at M) (corners M) c)) (corners M) p) 0 ≡ inside (shape M) p
-  unfolding onBoundary
-  inside-count = count-none (at M) p (boundary (at M) (corners M)) (corners M)
+-- ---- the weight of a corner and the corner point, from the entries of the tables
+pub weight-entries : (G : Shape) (c p : ℕ) (i : Bool) (m : ℕ) → p ≡ G .at c → i ≡ inside G p → m ≡ faces G p → cond i m (2 * m) ≡ weight G c
+unfolding weight
+weight-entries G c p i m hp hi hm = rw (hi, hm, hp)
 
-  -- a boundary vertex with one face has the weight 2
-  pub corner-entries : (k : ℕ) (i : Bool) (w : ℕ) (z r s : ℤ)
-      → i ≡ inside (shape M) p → w ≡ vertexWeight (shape M) p → z ≡ view M k .value p → r ≡ ringSum (view M k) p → s ≡ sharpSum (view M k) p
-      → cond i (smoothCornerMask w z r) (cond (eqb (tag M p) cornerTag || eqb w 2) (vertexMask z) (boundaryCornerMask z s)) ≡ cornerPoint (view M k) p
-  unfolding cornerPoint fixed vertexWeight
-  corner-entries k i w z r s hi hw hz hr hs =
-      bool-cases (onBoundary (at M) (corners M) p)
-      (λ e.
-      let m = valence (at M) (corners M) p in
-      rw (hi, hw, hz, hr, hs, e, eqb-same (2 * m) 2 m 1 (λ h. omega arith) (λ h. omega arith)))
-      (λ e. rw (hi, hw, hz, hr, hs, e))
+pub corner-entries : (M : IndexedMesh) (p k : ℕ) (i : Bool) (n : ℕ) (z r s : ℤ)
+    → i ≡ inside (shape M) p → n ≡ faces (shape M) p → z ≡ view M k .value p → r ≡ ringSum (view M k) p → s ≡ sharpSum (view M k) p
+    → cond i (smoothCornerMask n z r) (cond (eqb (tag M p) cornerTag || eqb n 1) (vertexMask z) (boundaryCornerMask z s)) ≡ cornerPoint (view M k) p
+unfolding cornerPoint fixed
+corner-entries M p k i n z r s hi hn hz hr hs = rw (hi, hn, hz, hr, hs)
 
 -- ---- one coordinate of the points, with 3 numbers a point: one store
 module _ (k i : ℕ) (v : ℤ) (points : List ℤ) (axis : k < 3) where

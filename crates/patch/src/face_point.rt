@@ -1,50 +1,27 @@
 // The edge and inner points that a corner of a face owns, from the lists of a mesh, its twins, and the table of weights.
+use crate::fraction::Fraction;
+use crate::fraction::point_in_units;
 use crate::mask::boundary_edge_mask;
 use crate::mask::edge_mask;
 use crate::mask::inner_mask;
-use crate::values::corner_value;
+use crate::values::face_values;
+use crate::values::is_sharp;
 use crate::values::turned;
 use crate::values::wide;
-use mesh::model::Mesh;
 ghost use mathlib.Core.Path.{_≡_};
-ghost use Prim.Native.Nat.{ℕ, _+_, _*_, _<_};
-ghost use lib.IntN.{pos};
-ghost use lib.ListN.{length, getD};
+ghost use Prim.Native.Nat.{ℕ, _<_};
+ghost use lib.ListN.{length};
 ghost use Rattle.finite.specs.Filled.{listBelow};
-ghost use Rattle.mesh.specs.Corner.{turn};
-ghost use Rattle.mesh.specs.Private.{vertexOf};
 ghost use Rattle.patch.specs.Point.{innerPoint, edgePoint, alongPoint, beforePoint};
 ghost use Rattle.patch.specs.Patch.{units};
-ghost use Rattle.patch.specs.Private.{seen, Readable, Twins};
-
-// The weight of the vertex of corner c.
-fn corner_weight(faces: &[u16], weights: &[u16], c: usize) -> u32
-    requires { ⌜ (c < length (now faces)) × (vertexOf (now faces) c < length (now weights)) ⌝ }
-    ensures { λ r. ⌜ r ≡ getD (now (weights .entry)) (vertexOf (now (faces .entry)) c) 0 ⌝ }
-{
-    weights[wide(faces[c])] as u32
-}
-
-// Coordinate k of the vertex of the corner i further than c.
-fn turned_value(positions: &[i32], faces: &[u16], k: usize, i: usize, c: usize) -> i64
-    requires { ⌜ (i < 4) × (turn i c < length (now faces)) × (3 * vertexOf (now faces) (turn i c) + k < length (now positions)) ⌝ }
-    ensures { λ r. ⌜ r ≡ getD (now (positions .entry)) (3 * vertexOf (now (faces .entry)) (turn i c) + k) (pos 0) ⌝ }
-{
-    corner_value(positions, faces, k, turned(i, c))
-}
+ghost use Rattle.patch.specs.Private.{seen, Coordinates, Weights, Twins, Made};
 
 // The inner point at corner c, coordinate k.
-fn inner_point(positions: &[i32], faces: &[u16], weights: &[u16], k: usize, c: usize) -> i32
-    requires { ⌜ Readable (now positions) (now faces) (now weights) k × (c < length (now faces)) ⌝ }
-    ensures { λ r. ⌜ r ≡ units (innerPoint (seen (now (positions .entry)) (now (faces .entry)) k) c) ⌝ }
+fn inner_point(positions: &[i32], faces: &[u16], weights: &[u16], k: usize, c: usize) -> Fraction
+    requires { ⌜ Coordinates (now positions) (now faces) k × Weights (now faces) (now weights) × (c < length (now faces)) ⌝ }
+    ensures { λ r. ⌜ Made (innerPoint (seen (now (positions .entry)) (now (faces .entry)) k) c) r ⌝ }
 {
-    inner_mask(
-        corner_weight(faces, weights, c),
-        corner_value(positions, faces, k, c),
-        turned_value(positions, faces, k, 1, c),
-        turned_value(positions, faces, k, 3, c),
-        turned_value(positions, faces, k, 2, c),
-    )
+    inner_mask(weights[c] as u32, face_values(positions, faces, k, c))
 }
 
 // The edge point on the inner edge of half-edge c, with twin d, near its start, coordinate k.
@@ -55,18 +32,14 @@ fn edge_point(
     k: usize,
     c: usize,
     d: usize,
-) -> i32
-    requires { ⌜ Readable (now positions) (now faces) (now weights) k × (c < length (now faces)) × (d < length (now faces)) ⌝ }
-    ensures { λ r. ⌜ r ≡ units (edgePoint (seen (now (positions .entry)) (now (faces .entry)) k) c d) ⌝ }
+) -> Fraction
+    requires { ⌜ Coordinates (now positions) (now faces) k × Weights (now faces) (now weights) × (c < length (now faces)) × (d < length (now faces)) ⌝ }
+    ensures { λ r. ⌜ Made (edgePoint (seen (now (positions .entry)) (now (faces .entry)) k) c d) r ⌝ }
 {
     edge_mask(
-        corner_weight(faces, weights, c),
-        corner_value(positions, faces, k, c),
-        turned_value(positions, faces, k, 1, c),
-        turned_value(positions, faces, k, 3, c),
-        turned_value(positions, faces, k, 2, d),
-        turned_value(positions, faces, k, 2, c),
-        turned_value(positions, faces, k, 3, d),
+        weights[c] as u32,
+        face_values(positions, faces, k, c),
+        face_values(positions, faces, k, d),
     )
 }
 
@@ -78,16 +51,15 @@ fn along_point(
     weights: &[u16],
     k: usize,
     c: usize,
-) -> i32
-    requires { ⌜ Readable (now positions) (now faces) (now weights) k × Twins (now faces) (now twins) × (c < length (now faces)) ⌝ }
-    ensures { λ r. ⌜ r ≡ units (alongPoint (seen (now (positions .entry)) (now (faces .entry)) k) c) ⌝ }
+) -> Fraction
+    requires { ⌜ Coordinates (now positions) (now faces) k × Weights (now faces) (now weights) × Twins (now faces) (now twins) × (c < length (now faces)) ⌝ }
+    ensures { λ r. ⌜ Made (alongPoint (seen (now (positions .entry)) (now (faces .entry)) k) c) r ⌝ }
 {
-    let d = twins[c];
-    if d == Mesh::NO_TWIN {
-        let p = corner_value(positions, faces, k, c);
-        return boundary_edge_mask(p, turned_value(positions, faces, k, 1, c));
+    if is_sharp(twins, c) {
+        let a = face_values(positions, faces, k, c);
+        return boundary_edge_mask(a.here, a.next);
     }
-    edge_point(positions, faces, weights, k, c, wide(d))
+    edge_point(positions, faces, weights, k, c, wide(twins[c]))
 }
 
 // The edge point on the half-edge before c near its end, coordinate k.
@@ -98,29 +70,28 @@ fn before_point(
     weights: &[u16],
     k: usize,
     c: usize,
-) -> i32
-    requires { ⌜ Readable (now positions) (now faces) (now weights) k × Twins (now faces) (now twins) × (c < length (now faces)) ⌝ }
-    ensures { λ r. ⌜ r ≡ units (beforePoint (seen (now (positions .entry)) (now (faces .entry)) k) c) ⌝ }
+) -> Fraction
+    requires { ⌜ Coordinates (now positions) (now faces) k × Weights (now faces) (now weights) × Twins (now faces) (now twins) × (c < length (now faces)) ⌝ }
+    ensures { λ r. ⌜ Made (beforePoint (seen (now (positions .entry)) (now (faces .entry)) k) c) r ⌝ }
 {
     let h = turned(3, c);
-    let d = twins[h];
-    if d == Mesh::NO_TWIN {
-        let p = corner_value(positions, faces, k, c);
-        return boundary_edge_mask(p, corner_value(positions, faces, k, h));
+    if is_sharp(twins, h) {
+        let a = face_values(positions, faces, k, c);
+        return boundary_edge_mask(a.here, a.prev);
     }
-    edge_point(positions, faces, weights, k, wide(d), h)
+    edge_point(positions, faces, weights, k, wide(twins[h]), h)
 }
 
 // The inner point at corner c.
 pub(crate) fn inner_points(positions: &[i32], faces: &[u16], weights: &[u16], c: usize) -> [i32; 3]
-    requires { ⌜ ((k : ℕ) → k < 3 → Readable (now positions) (now faces) (now weights) k) × (c < length (now faces)) ⌝ }
+    requires { ⌜ ((k : ℕ) → k < 3 → Coordinates (now positions) (now faces) k) × Weights (now faces) (now weights) × (c < length (now faces)) ⌝ }
     ensures { λ r. ⌜ r ≡ listBelow (λ k. units (innerPoint (seen (now (positions .entry)) (now (faces .entry)) k) c)) 3 ⌝ }
 {
-    [
+    point_in_units(
         inner_point(positions, faces, weights, 0, c),
         inner_point(positions, faces, weights, 1, c),
         inner_point(positions, faces, weights, 2, c),
-    ]
+    )
 }
 
 // The edge point on half-edge c near its start.
@@ -131,14 +102,14 @@ pub(crate) fn along_points(
     weights: &[u16],
     c: usize,
 ) -> [i32; 3]
-    requires { ⌜ ((k : ℕ) → k < 3 → Readable (now positions) (now faces) (now weights) k) × Twins (now faces) (now twins) × (c < length (now faces)) ⌝ }
+    requires { ⌜ ((k : ℕ) → k < 3 → Coordinates (now positions) (now faces) k) × Weights (now faces) (now weights) × Twins (now faces) (now twins) × (c < length (now faces)) ⌝ }
     ensures { λ r. ⌜ r ≡ listBelow (λ k. units (alongPoint (seen (now (positions .entry)) (now (faces .entry)) k) c)) 3 ⌝ }
 {
-    [
+    point_in_units(
         along_point(positions, faces, twins, weights, 0, c),
         along_point(positions, faces, twins, weights, 1, c),
         along_point(positions, faces, twins, weights, 2, c),
-    ]
+    )
 }
 
 // The edge point on the half-edge before c near its end.
@@ -149,12 +120,12 @@ pub(crate) fn before_points(
     weights: &[u16],
     c: usize,
 ) -> [i32; 3]
-    requires { ⌜ ((k : ℕ) → k < 3 → Readable (now positions) (now faces) (now weights) k) × Twins (now faces) (now twins) × (c < length (now faces)) ⌝ }
+    requires { ⌜ ((k : ℕ) → k < 3 → Coordinates (now positions) (now faces) k) × Weights (now faces) (now weights) × Twins (now faces) (now twins) × (c < length (now faces)) ⌝ }
     ensures { λ r. ⌜ r ≡ listBelow (λ k. units (beforePoint (seen (now (positions .entry)) (now (faces .entry)) k) c)) 3 ⌝ }
 {
-    [
+    point_in_units(
         before_point(positions, faces, twins, weights, 0, c),
         before_point(positions, faces, twins, weights, 1, c),
         before_point(positions, faces, twins, weights, 2, c),
-    ]
+    )
 }

@@ -1,15 +1,14 @@
-// The patches of an accepted mesh: the tables by vertex, then each patch into its own stretch of the list.
+// The patches of an accepted mesh: the tables, then each patch into its own stretch of the list.
 use crate::tables::fill_tables;
 use crate::writer::write_patch;
 use mesh::model::Mesh;
 ghost use mathlib.Core.Path.{_≡_};
 ghost use Prim.Native.Nat.{_*_, _≤_};
 ghost use lib.ListN.{length};
-ghost use Rattle.mesh.specs.HalfEdge.{twin};
 ghost use Rattle.mesh.specs.IndexedMesh.{indexed};
 ghost use Rattle.mesh.specs.WellFormed.{WellFormed};
-ghost use Rattle.mesh.specs.Private.{Holds, vertexOf};
 ghost use Rattle.patch.specs.Patch.{patchesAfter};
+ghost use Rattle.patch.specs.Private.{Twins};
 
 // Writes the patches of an accepted mesh with its twins.
 pub(crate) fn fill_patches(
@@ -22,10 +21,10 @@ pub(crate) fn fill_patches(
     patches: &mut [i32],
 )
     requires { ⌜ WellFormed (indexed v f (now positions) (now tags) (now faces)) × (48 * f ≤ length (now patches)) ⌝ }
-    requires { ⌜ (4 * f ≤ length (now twins)) × Holds 0 (now twins) (4 * f) (twin (vertexOf (now faces)) (4 * f)) ⌝ }
+    requires { ⌜ Twins (now faces) (now twins) ⌝ }
     ensures { λ _. ⌜ now (patches .exit) ≡ patchesAfter (indexed v f (now (positions .entry)) (now (tags .entry)) (now (faces .entry))) (now (patches .entry)) ⌝ }
 {
-    let mut weights = [0u16; Mesh::MAX_VERTICES];
+    let mut weights = [0u16; 4 * Mesh::MAX_FACES];
     let mut points = [0i32; 3 * Mesh::MAX_VERTICES];
     fill_tables(
         v,

@@ -1,7 +1,9 @@
 //! The bicubic patches of a checked mesh: sixteen control points a face, as whole numbers of 1/256 micrometre.
 mod corner_point;
+mod counts;
 mod face_point;
 mod fill;
+mod fraction;
 mod mask;
 mod sums;
 mod tables;

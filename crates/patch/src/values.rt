@@ -1,10 +1,20 @@
-// What is read from the lists of a mesh: corners of a face, and coordinates.
+// What is read from the lists of a mesh: corners of a face, coordinates, and which half-edges are sharp.
+use mesh::model::Mesh;
 ghost use mathlib.Core.Path.{_≡_};
 ghost use Prim.Native.Nat.{_+_, _*_, _<_};
 ghost use lib.IntN.{pos};
 ghost use lib.ListN.{length, getD};
 ghost use Rattle.mesh.specs.Corner.{turn};
 ghost use Rattle.mesh.specs.Private.{vertexOf};
+ghost use Rattle.patch.specs.Private.{seen, Coordinates, SeenFrom, boundaryIn, sharpIn};
+
+// One coordinate of the four vertices of a face, seen from a corner: of its own vertex, of the next, the one across and the previous.
+pub(crate) struct FaceValues {
+    pub(crate) here: i64,
+    pub(crate) next: i64,
+    pub(crate) across: i64,
+    pub(crate) prev: i64,
+}
 
 // The number of a vertex, as an index.
 pub(crate) fn wide(x: u16) -> usize
@@ -35,4 +45,33 @@ pub(crate) fn corner_value(positions: &[i32], faces: &[u16], k: usize, c: usize)
     ensures { λ r. ⌜ r ≡ getD (now (positions .entry)) (3 * vertexOf (now (faces .entry)) c + k) (pos 0) ⌝ }
 {
     coordinate(positions, 3 * wide(faces[c]) + k)
+}
+
+// Coordinate k of the four vertices of the face of corner c, seen from there.
+pub(crate) fn face_values(positions: &[i32], faces: &[u16], k: usize, c: usize) -> FaceValues
+    requires { ⌜ Coordinates (now positions) (now faces) k × (c < length (now faces)) ⌝ }
+    ensures { λ r. ⌜ SeenFrom (seen (now (positions .entry)) (now (faces .entry)) k) c r ⌝ }
+{
+    FaceValues {
+        here: corner_value(positions, faces, k, c),
+        next: corner_value(positions, faces, k, turned(1, c)),
+        across: corner_value(positions, faces, k, turned(2, c)),
+        prev: corner_value(positions, faces, k, turned(3, c)),
+    }
+}
+
+// Whether half-edge c has no twin.
+pub(crate) fn is_boundary(twins: &[u16], c: usize) -> bool
+    requires { ⌜ c < length (now twins) ⌝ }
+    ensures { λ r. ⌜ r ≡ boundaryIn (now (twins .entry)) c ⌝ }
+{
+    twins[c] == Mesh::NO_TWIN
+}
+
+// Whether half-edge c takes the boundary rule.
+pub(crate) fn is_sharp(twins: &[u16], c: usize) -> bool
+    requires { ⌜ c < length (now twins) ⌝ }
+    ensures { λ r. ⌜ r ≡ sharpIn (now (twins .entry)) c ⌝ }
+{
+    is_boundary(twins, c)
 }

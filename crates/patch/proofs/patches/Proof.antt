@@ -10,7 +10,7 @@ use Rattle.finite.proofs.TableLaws.{refusal-met}
 use Rattle.mesh.specs.IndexedMesh.{IndexedMesh, indexed}
 use Rattle.mesh.specs.Answer.{countsOf, checked, meshRefusal}
 use Rattle.patch.specs.Answer.{patchRows, patchAnswer, patchTwins}
-use Rattle.patch.proofs.AnswerLaws.{same-answer, same-twins, patches-long, result-well-formed, result-list, twins-listed, twins-held}
+use Rattle.patch.proofs.AnswerLaws.{same-answer, same-twins, patches-long, result-well-formed, result-list, twins-left}
 use Rattle.patch.proofs.patches.Statement.{statement}
 use Rattle.patch.proofs.patches.Tie as tie
 
@@ -84,7 +84,7 @@ fill-patches-requires c κs =
     let s = start k in
     let counted = sym (ap checked (t .before .answer .given .1)) ∙ answered k in (
       (result-well-formed (mesh s) (twins s) (lent s) counted, patches-long (mesh s) (twins s) (lent s) counted),
-      (twins-listed (mesh s) (twins s) (lent s) counted _ (left k), twins-held (mesh s) (twins s) (lent s) counted _ (left k)),
+      twins-left (mesh s) (twins s) (lent s) counted _ (left k),
     )
 
 same-length-2 : tie.Need-same-length-2

@@ -2,13 +2,13 @@
 use Prim.Native.Nat.{_*_, _≤_}
 use native.Mathlib.Omega.{arith}
 use lib.IntN.{pos, natAbs, _+ℤ_, _*ℤ_}
-use mir.Syntax.{w32, w64}
+use mir.Syntax.{w64}
 use mir.Val.{SFits}
 use mir.Facts.{toZ-ofZ}
 use Rattle.integer.proofs.Laws.{abs-+, abs-*, sfits-abs}
 use Rattle.mesh.specs.Limits.{maxCoordinate}
 use Rattle.patch.specs.Mask.{boundaryCornerMask}
-use Rattle.patch.proofs.SumLaws.{read-back}
+use Rattle.patch.proofs.MaskLaws.{made-of}
 use Rattle.patch.proofs.corner_point.boundary_corner.Statement.{statement}
 use Rattle.patch.proofs.corner_point.boundary_corner.Tie as tie
 
@@ -22,20 +22,17 @@ module _ (c : tie.Start) where
   fits : SFits w64 (pos 4 *ℤ c .args .p +ℤ c .args .s)
   fits = sfits-abs _ (omega (arith, size))
 
-mul-in-units : tie.Need-mul-in-units
-mul-in-units c = simp (toZ-ofZ (c .fits .p)) (product-fits c)
+mul-t3 : tie.Need-mul-t3
+mul-t3 c = simp (toZ-ofZ (c .fits .p)) (product-fits c)
 
-add-in-units : tie.Need-add-in-units
-add-in-units c = simp (toZ-ofZ (c .fits .p), toZ-ofZ (c .fits .s), toZ-ofZ (product-fits c)) (fits c)
-
-in-units-requires : tie.Need-in-units-requires
-in-units-requires c κs = simp (toZ-ofZ (c .fits .p), toZ-ofZ (c .fits .s), toZ-ofZ (product-fits c), toZ-ofZ (fits c)) (omega arith, size c)
+add-t4 : tie.Need-add-t4
+add-t4 c = simp (toZ-ofZ (c .fits .p), toZ-ofZ (c .fits .s), toZ-ofZ (product-fits c)) (fits c)
 
 returns : tie.Need-returns
 unfolding boundaryCornerMask
 returns c =
-    let s = c .before in
-    read-back w32 (c .in-units .ok) (simp (toZ-ofZ (s .fits .p), toZ-ofZ (s .fits .s), toZ-ofZ (product-fits s), toZ-ofZ (fits s)) at (c .in-units .ensures))
+    made-of (pos 4 *ℤ c .args .p +ℤ c .args .s) _ 6
+    (simp (toZ-ofZ (c .fits .p), toZ-ofZ (c .fits .s), toZ-ofZ (product-fits c), toZ-ofZ (fits c))) (omega arith) (size c)
 
 pub boundary-corner-spec : {M : Type 1} → statement M
-boundary-corner-spec = tie.close (tie.spec mul-in-units add-in-units in-units-requires returns)
+boundary-corner-spec = tie.close (tie.spec mul-t3 add-t4 returns)

@@ -1,22 +1,9 @@
 -- `corner_point` meets its contract: by the two tests of the definition, each case is what one mask gave.
-use mathlib.Core.Path.{_≡_, sym, ap, _∙_}
-use mathlib.Core.Bool.{cond, _||_}
-use lib.Dec.{eqb}
-use mir.Syntax.{w32}
+use mathlib.Core.Path.{sym, _∙_}
 use mir.Facts.{toZ-ofZ}
 use borrow.Author.Needs.{needs}
-use Rattle.mesh.specs.Limits.{cornerTag}
-use Rattle.patch.specs.Mask.{Fraction, smoothCornerMask, boundaryCornerMask, vertexMask}
-use Rattle.patch.specs.Patch.{units}
-use Rattle.patch.proofs.SumLaws.{read-back}
 use Rattle.patch.proofs.corner_point.corner_point.Statement.{statement}
 use Rattle.patch.proofs.corner_point.corner_point.Tie as tie
-
--- the fraction that the contract has
-abbrev mask : tie.Start → Fraction
-mask s =
-    cond (s .args .inside) (smoothCornerMask (s .args .weight) (s .args .p) (s .args .ring))
-    (cond (eqb (s .args .tag) cornerTag || eqb (s .args .weight) 2) (vertexMask (s .args .p)) (boundaryCornerMask (s .args .p) (s .args .sharp)))
 
 smooth-corner-requires : tie.Need-smooth-corner-requires
 smooth-corner-requires c κs = search needs
@@ -24,8 +11,7 @@ smooth-corner-requires c κs = search needs
 returns : tie.Need-returns
 returns c =
     let s = c .before .before in
-    let e : mask s ≡ smoothCornerMask (s .args .weight) (s .args .p) (s .args .ring) = rw (c .before .if1 .taken) in
-    read-back w32 (c .smooth-corner .ok) (simp (toZ-ofZ (s .fits .p), toZ-ofZ (s .fits .ring)) at (c .smooth-corner .ensures)) ∙ sym (ap units e)
+    rw (c .before .if1 .taken) (simp (toZ-ofZ (s .fits .p), toZ-ofZ (s .fits .ring)) at (c .smooth-corner .ensures))
 
 fixed-requires : tie.Need-fixed-requires
 fixed-requires c κs = search needs
@@ -37,8 +23,7 @@ returns-2 : tie.Need-returns-2
 returns-2 c =
     let f = c .before .before in
     let s = f .before .before in
-    let e : mask s ≡ vertexMask (s .args .p) = rw (f .before .if1 .left, sym (f .fixed .ensures) ∙ c .before .if2 .taken) in
-    read-back w32 (c .vertex-corner .ok) (simp (toZ-ofZ (s .fits .p)) at (c .vertex-corner .ensures)) ∙ sym (ap units e)
+    rw (f .before .if1 .left, sym (f .fixed .ensures) ∙ c .before .if2 .taken) (simp (toZ-ofZ (s .fits .p)) at (c .vertex-corner .ensures))
 
 boundary-corner-requires : tie.Need-boundary-corner-requires
 boundary-corner-requires c κs =
@@ -50,8 +35,8 @@ returns-3 : tie.Need-returns-3
 returns-3 c =
     let f = c .before .before in
     let s = f .before .before in
-    let e : mask s ≡ boundaryCornerMask (s .args .p) (s .args .sharp) = rw (f .before .if1 .left, sym (f .fixed .ensures) ∙ c .before .if2 .left) in
-    read-back w32 (c .boundary-corner .ok) (simp (toZ-ofZ (s .fits .p), toZ-ofZ (s .fits .sharp)) at (c .boundary-corner .ensures)) ∙ sym (ap units e)
+    rw (f .before .if1 .left, sym (f .fixed .ensures) ∙ c .before .if2 .left)
+    (simp (toZ-ofZ (s .fits .p), toZ-ofZ (s .fits .sharp)) at (c .boundary-corner .ensures))
 
 pub corner-point-spec : {M : Type 1} → statement M
 corner-point-spec =

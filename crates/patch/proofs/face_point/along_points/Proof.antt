@@ -1,28 +1,44 @@
--- `along_points` meets its contract: each coordinate of the edge point has its own call.
+-- `along_points` meets its contract: each coordinate of the edge point has its own call, and all are rounded alike.
+use mathlib.Core.Path.{ap, _∙_}
 use native.Mathlib.Omega.{arith}
-use mir.Syntax.{w32}
-use Rattle.patch.proofs.SumLaws.{read-back}
+use borrow.Author.Needs.{needs}
+use Rattle.patch.specs.Patch.{units}
 use Rattle.patch.proofs.FacePointLaws.{list-of-three}
 use Rattle.patch.proofs.face_point.along_points.Statement.{statement}
 use Rattle.patch.proofs.face_point.along_points.Tie as tie
 
+-- the function's entry, from the first and the second call
+abbrev start₁ : tie.After-along-point → tie.Start
+start₁ c = c .before .before .before .before
+
+abbrev start₂ : tie.After-along-point2 → tie.Start
+start₂ c = start₁ (c .before)
+
 along-point-requires : tie.Need-along-point-requires
-along-point-requires c κs = let s = c .before .before .before in (s .pre .0 0 (omega arith), s .pre .1, s .pre .2)
+along-point-requires c κs = let s = c .before .before .before in (s .pre .0 0 (omega arith), s .pre .1, s .pre .2, s .pre .3)
 
 along-point-requires-2 : tie.Need-along-point-requires-2
-along-point-requires-2 c κs = let s = c .before .before .before .before in (s .pre .0 1 (omega arith), s .pre .1, s .pre .2)
+along-point-requires-2 c κs = let s = start₁ c in (s .pre .0 1 (omega arith), s .pre .1, s .pre .2, s .pre .3)
 
 along-point-requires-3 : tie.Need-along-point-requires-3
-along-point-requires-3 c κs = let s = c .before .before .before .before .before in (s .pre .0 2 (omega arith), s .pre .1, s .pre .2)
+along-point-requires-3 c κs = let s = start₂ c in (s .pre .0 2 (omega arith), s .pre .1, s .pre .2, s .pre .3)
+
+point-in-units-requires : tie.Need-point-in-units-requires
+point-in-units-requires c κs = search needs
 
 returns : tie.Need-returns
 returns c =
-    let y = c .before in
+    let z = c .before in
+    let y = z .before in
     let x = y .before in
-    list-of-three _
-    (read-back w32 (x .along-point .ok) (x .along-point .ensures))
-    (read-back w32 (y .along-point2 .ok) (y .along-point2 .ensures))
-    (read-back w32 (c .along-point3 .ok) (c .along-point3 .ensures))
+    c .point-in-units .ensures ∙ list-of-three _ (ap units (x .along-point .ensures .is)) (ap units (y .along-point2 .ensures .is)) (ap units (z .along-point3 .ensures .is))
 
 pub along-points-spec : {M : Type 1} → statement M
-along-points-spec = tie.close (tie.spec along-point-requires along-point-requires-2 along-point-requires-3 returns)
+along-points-spec =
+    tie.close
+    (tie.spec
+    along-point-requires
+    along-point-requires-2
+    along-point-requires-3
+    point-in-units-requires
+    returns)

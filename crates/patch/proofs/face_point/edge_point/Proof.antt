@@ -1,112 +1,52 @@
--- `edge_point` meets its contract: it passes the mask the weight and the coordinates that the edge point names.
-use mathlib.Core.Path.{_≡_, _∙_}
+-- `edge_point` meets its contract: it passes the mask the weight and the values that the edge point names.
 use native.Mathlib.Omega.{arith}
-use mir.Syntax.{w32, w64}
-use mir.Val.{toZ, ofZ}
-use Rattle.mesh.specs.Corner.{next, across, prev}
-use Rattle.patch.specs.Point.{View, x, weight, edgePoint}
-use Rattle.patch.specs.Private.{seen}
-use Rattle.patch.proofs.SumLaws.{read-back}
-use Rattle.patch.proofs.FacePointLaws.{turned-asked, turned-size}
+use borrow.Author.Needs.{needs}
+use Rattle.patch.proofs.FacePointLaws.{made-is, edge-seen}
 use Rattle.patch.proofs.face_point.edge_point.Statement.{statement}
 use Rattle.patch.proofs.face_point.edge_point.Tie as tie
 
-corner-weight-requires : tie.Need-corner-weight-requires
-corner-weight-requires c κs = let s = c .before .before in (s .pre .1, s .pre .0 .weighed (s .args .c) (s .pre .1))
+abbrev start : tie.After-face-values → tie.Start
+start c = c .before .before .before .before
 
-corner-value-requires : tie.Need-corner-value-requires
-corner-value-requires c κs = let s = c .before .before .before in (s .pre .1, s .pre .0 .placed .listed (s .args .c) (s .pre .1))
+mul-edge-mask : tie.Need-mul-edge-mask
+mul-edge-mask c = search needs
 
-turned-value-requires : tie.Need-turned-value-requires
-turned-value-requires c κs = let s = c .before .before .before .before in turned-asked (s .pre .0) 1 (s .args .c) (omega arith) (s .pre .1)
+shared-slice-read-edge-mask : tie.Need-shared-slice-read-edge-mask
+shared-slice-read-edge-mask c = search needs
 
-turned-value-requires-2 : tie.Need-turned-value-requires-2
-turned-value-requires-2 c κs = let s = c .before .before .before .before .before in turned-asked (s .pre .0) 3 (s .args .c) (omega arith) (s .pre .1)
+cast-edge-mask : tie.Need-cast-edge-mask
+cast-edge-mask c = omega (arith, c .shared-slice-known3 .given (c .before .before .before .args .c))
 
-turned-value-requires-3 : tie.Need-turned-value-requires-3
-turned-value-requires-3 c κs = let s = c .before .before .before .before .before .before in turned-asked (s .pre .0) 2 (s .args .d) (omega arith) (s .pre .2)
+face-values-requires : tie.Need-face-values-requires
+face-values-requires c κs = search needs
 
-turned-value-requires-4 : tie.Need-turned-value-requires-4
-turned-value-requires-4 c κs =
-    let s = c .before .before .before .before .before .before .before in
-    turned-asked (s .pre .0) 2 (s .args .c) (omega arith) (s .pre .1)
-
-turned-value-requires-5 : tie.Need-turned-value-requires-5
-turned-value-requires-5 c κs =
-    let s = c .before .before .before .before .before .before .before .before in
-    turned-asked (s .pre .0) 3 (s .args .d) (omega arith) (s .pre .2)
-
--- what was read
-module _ (c : tie.After-turned-value5) where
-  abbrev fourth : tie.After-turned-value4
-  fourth = c .before
-
-  abbrev third : tie.After-turned-value3
-  third = fourth .before
-
-  abbrev second : tie.After-turned-value2
-  second = third .before
-
-  abbrev first : tie.After-turned-value
-  first = second .before
-
-  abbrev value : tie.After-corner-value
-  value = first .before
-
-  abbrev start : tie.Start
-  start = value .before .before .before .before
-
-  abbrev S : View
-  S = seen (start .args .positions .now) (start .args .faces .now) (start .args .k)
-
-  weight-read : value .before .corner-weight .result ≡ weight (S .shape) (start .args .c)
-  weight-read = value .before .corner-weight .ensures ∙ start .pre .0 .weights-are (start .args .c) (start .pre .1)
-
-  p-read : toZ w64 (ofZ w64 (value .corner-value .result)) ≡ x S (start .args .c)
-  p-read = read-back w64 (value .corner-value .ok) (value .corner-value .ensures)
-
-  q-read : toZ w64 (ofZ w64 (first .turned-value .result)) ≡ x S (next (start .args .c))
-  q-read = read-back w64 (first .turned-value .ok) (first .turned-value .ensures)
-
-  a-read : toZ w64 (ofZ w64 (second .turned-value2 .result)) ≡ x S (prev (start .args .c))
-  a-read = read-back w64 (second .turned-value2 .ok) (second .turned-value2 .ensures)
-
-  a2-read : toZ w64 (ofZ w64 (third .turned-value3 .result)) ≡ x S (across (start .args .d))
-  a2-read = read-back w64 (third .turned-value3 .ok) (third .turned-value3 .ensures)
-
-  c-read : toZ w64 (ofZ w64 (fourth .turned-value4 .result)) ≡ x S (across (start .args .c))
-  c-read = read-back w64 (fourth .turned-value4 .ok) (fourth .turned-value4 .ensures)
-
-  c2-read : toZ w64 (ofZ w64 (c .turned-value5 .result)) ≡ x S (prev (start .args .d))
-  c2-read = read-back w64 (c .turned-value5 .ok) (c .turned-value5 .ensures)
+face-values-requires-2 : tie.Need-face-values-requires-2
+face-values-requires-2 c κs = search needs
 
 edge-mask-requires : tie.Need-edge-mask-requires
 edge-mask-requires c κs =
-    let s = start c in
-    let r = s .pre .0 in
-    let l = s .pre .1 in
-    let h = s .pre .2 in
-    rw (value c .before .corner-weight .ensures, p-read c, q-read c, a-read c, a2-read c, c-read c, c2-read c) (
-      (r .light (s .args .c) l, r .placed .small (s .args .c) l, turned-size r 1 (s .args .c) l),
-      (turned-size r 3 (s .args .c) l, turned-size r 2 (s .args .d) h, turned-size r 2 (s .args .c) l, turned-size r 3 (s .args .d) h),
-    )
+    let s = start (c .before) in
+    let w = s .pre .1 in
+    (rw (w .are (s .args .c) (s .pre .2)) (w .light (s .args .c) (s .pre .2)), c .before .face-values .ensures .small, c .face-values2 .ensures .small)
 
 returns : tie.Need-returns
-unfolding edgePoint
 returns c =
-    let r = c .before in
-    read-back w32 (c .edge-mask .ok) (rw (weight-read r, p-read r, q-read r, a-read r, a2-read r, c-read r, c2-read r) at (c .edge-mask .ensures))
+    let w = c .before in
+    let v = w .before in
+    let s = start v in
+    made-is
+    (edge-seen _ (s .args .c) (s .args .d) _ (v .face-values .result) (w .face-values2 .result) (s .pre .1 .are (s .args .c) (s .pre .2))
+    (v .face-values .ensures) (w .face-values2 .ensures))
+    (c .edge-mask .ensures)
 
 pub edge-point-spec : {M : Type 1} → statement M
 edge-point-spec =
     tie.close
     (tie.spec
-    corner-weight-requires
-    corner-value-requires
-    turned-value-requires
-    turned-value-requires-2
-    turned-value-requires-3
-    turned-value-requires-4
-    turned-value-requires-5
+    mul-edge-mask
+    shared-slice-read-edge-mask
+    cast-edge-mask
+    face-values-requires
+    face-values-requires-2
     edge-mask-requires
     returns)

@@ -1,28 +1,44 @@
--- `inner_points` meets its contract: each coordinate of the inner point has its own call.
+-- `inner_points` meets its contract: each coordinate of the inner point has its own call, and all are rounded alike.
+use mathlib.Core.Path.{ap, _∙_}
 use native.Mathlib.Omega.{arith}
-use mir.Syntax.{w32}
-use Rattle.patch.proofs.SumLaws.{read-back}
+use borrow.Author.Needs.{needs}
+use Rattle.patch.specs.Patch.{units}
 use Rattle.patch.proofs.FacePointLaws.{list-of-three}
 use Rattle.patch.proofs.face_point.inner_points.Statement.{statement}
 use Rattle.patch.proofs.face_point.inner_points.Tie as tie
 
+-- the function's entry, from the first and the second call
+abbrev start₁ : tie.After-inner-point → tie.Start
+start₁ c = c .before .before .before
+
+abbrev start₂ : tie.After-inner-point2 → tie.Start
+start₂ c = start₁ (c .before)
+
 inner-point-requires : tie.Need-inner-point-requires
-inner-point-requires c κs = let s = c .before .before in (s .pre .0 0 (omega arith), s .pre .1)
+inner-point-requires c κs = let s = c .before .before in (s .pre .0 0 (omega arith), s .pre .1, s .pre .2)
 
 inner-point-requires-2 : tie.Need-inner-point-requires-2
-inner-point-requires-2 c κs = let s = c .before .before .before in (s .pre .0 1 (omega arith), s .pre .1)
+inner-point-requires-2 c κs = let s = start₁ c in (s .pre .0 1 (omega arith), s .pre .1, s .pre .2)
 
 inner-point-requires-3 : tie.Need-inner-point-requires-3
-inner-point-requires-3 c κs = let s = c .before .before .before .before in (s .pre .0 2 (omega arith), s .pre .1)
+inner-point-requires-3 c κs = let s = start₂ c in (s .pre .0 2 (omega arith), s .pre .1, s .pre .2)
+
+point-in-units-requires : tie.Need-point-in-units-requires
+point-in-units-requires c κs = search needs
 
 returns : tie.Need-returns
 returns c =
-    let y = c .before in
+    let z = c .before in
+    let y = z .before in
     let x = y .before in
-    list-of-three _
-    (read-back w32 (x .inner-point .ok) (x .inner-point .ensures))
-    (read-back w32 (y .inner-point2 .ok) (y .inner-point2 .ensures))
-    (read-back w32 (c .inner-point3 .ok) (c .inner-point3 .ensures))
+    c .point-in-units .ensures ∙ list-of-three _ (ap units (x .inner-point .ensures .is)) (ap units (y .inner-point2 .ensures .is)) (ap units (z .inner-point3 .ensures .is))
 
 pub inner-points-spec : {M : Type 1} → statement M
-inner-points-spec = tie.close (tie.spec inner-point-requires inner-point-requires-2 inner-point-requires-3 returns)
+inner-points-spec =
+    tie.close
+    (tie.spec
+    inner-point-requires
+    inner-point-requires-2
+    inner-point-requires-3
+    point-in-units-requires
+    returns)

@@ -1,101 +1,107 @@
 -- `edge_mask` meets its contract: the mask's weights sum to its divisor.
-use mathlib.Core.Path.{ap, _∙_}
 use Prim.Native.Nat.{_+_, _*_}
 use native.Mathlib.Omega.{arith}
-use lib.IntN.{ℤ, pos, _*ℤ_}
 use borrow.Author.Needs.{needs}
-use mir.Syntax.{w32}
-use mir.Facts.{toZ-ofZ}
-use Rattle.integer.specs.Nearest.{nearest}
 use Rattle.patch.specs.Mask.{edgeMask}
-use Rattle.patch.proofs.MaskLaws.{Sum, one, term, _⊞_, Coordinates, size, exact-stored, fits}
+use Rattle.patch.proofs.MaskLaws.{Sum, one, term, _⊞_, Coordinates, made, fits}
 use Rattle.patch.proofs.mask.edge_mask.Statement.{statement}
 use Rattle.patch.proofs.mask.edge_mask.Tie as tie
 
+-- the function's entry, from the place of each value that is read
+abbrev start₁ : tie.After-struct-told → tie.Start
+start₁ c = c .before .before
+
+abbrev start₂ : tie.After-struct-told2 → tie.Start
+start₂ c = start₁ (c .before .before)
+
+abbrev start₃ : tie.After-struct-told3 → tie.Start
+start₃ c = start₂ (c .before .before)
+
+abbrev start₄ : tie.After-struct-told4 → tie.Start
+start₄ c = start₃ (c .before .before)
+
+abbrev start₅ : tie.After-struct-told5 → tie.Start
+start₅ c = start₄ (c .before .before)
+
+abbrev start₆ : tie.After-struct-told6 → tie.Start
+start₆ c = start₅ (c .before .before)
+
 -- the sum by its terms, from the left
 abbrev sum₁ : tie.Start → Sum
-sum₁ c = term (2 * c .args .w) (c .args .p)
+sum₁ s = term (2 * s .args .w) (s .args .a .here)
 
 abbrev sum₂ : tie.Start → Sum
-sum₂ c = sum₁ c ⊞ term 4 (c .args .q)
+sum₂ s = sum₁ s ⊞ term 4 (s .args .a .next)
 
 abbrev sum₃ : tie.Start → Sum
-sum₃ c = sum₂ c ⊞ term 2 (c .args .a)
+sum₃ s = sum₂ s ⊞ term 2 (s .args .a .prev)
 
 abbrev sum₄ : tie.Start → Sum
-sum₄ c = sum₃ c ⊞ term 2 (c .args .a2)
+sum₄ s = sum₃ s ⊞ term 2 (s .args .b .across)
 
 abbrev sum₅ : tie.Start → Sum
-sum₅ c = sum₄ c ⊞ one (c .args .c)
+sum₅ s = sum₄ s ⊞ one (s .args .a .across)
 
 abbrev sum : tie.Start → Sum
-sum c = sum₅ c ⊞ one (c .args .c2)
+sum s = sum₅ s ⊞ one (s .args .b .prev)
 
-coordinates : (c : tie.Start) → Coordinates (sum c)
-coordinates c = let p = c .pre .0 in let q = c .pre .1 in (((((p .1, p .2), q .0), q .1), q .2), q .3)
+coordinates : (s : tie.Start) → Coordinates (sum s)
+coordinates s = let a = s .pre .1 in let b = s .pre .2 in (((((a .here, a .next), a .prev), b .across), a .across), b .prev)
 
 mul-w2 : tie.Need-mul-w2
 mul-w2 c = search needs
 
-cast-in-units : tie.Need-cast-in-units
-cast-in-units c = search needs
+cast-t5 : tie.Need-cast-t5
+cast-t5 c = search needs
 
-mul-in-units : tie.Need-mul-in-units
-mul-in-units c = fits (sum₁ c) (c .pre .0 .1) (omega arith)
+mul-t6 : tie.Need-mul-t6
+mul-t6 c = let s = start₁ c in fits (sum₁ s) (s .pre .1 .here) (omega arith)
 
-mul-in-units-2 : tie.Need-mul-in-units-2
-mul-in-units-2 c = fits (term 4 (c .args .q)) (c .pre .0 .2) (omega arith)
+mul-t7 : tie.Need-mul-t7
+mul-t7 c = let s = start₂ c in fits (term 4 (s .args .a .next)) (s .pre .1 .next) (omega arith)
 
-add-in-units : tie.Need-add-in-units
-add-in-units c = fits (sum₂ c) (coordinates c .0 .0 .0 .0) (omega arith)
+add-t8 : tie.Need-add-t8
+add-t8 c = let s = start₂ c in fits (sum₂ s) (coordinates s .0 .0 .0 .0) (omega arith)
 
-mul-in-units-3 : tie.Need-mul-in-units-3
-mul-in-units-3 c = fits (term 2 (c .args .a)) (c .pre .1 .0) (omega arith)
+mul-t9 : tie.Need-mul-t9
+mul-t9 c = let s = start₃ c in fits (term 2 (s .args .a .prev)) (s .pre .1 .prev) (omega arith)
 
-add-in-units-2 : tie.Need-add-in-units-2
-add-in-units-2 c = fits (sum₃ c) (coordinates c .0 .0 .0) (omega arith)
+add-t10 : tie.Need-add-t10
+add-t10 c = let s = start₃ c in fits (sum₃ s) (coordinates s .0 .0 .0) (omega arith)
 
-mul-in-units-4 : tie.Need-mul-in-units-4
-mul-in-units-4 c = fits (term 2 (c .args .a2)) (c .pre .1 .1) (omega arith)
+mul-t11 : tie.Need-mul-t11
+mul-t11 c = let s = start₄ c in fits (term 2 (s .args .b .across)) (s .pre .2 .across) (omega arith)
 
-add-in-units-3 : tie.Need-add-in-units-3
-add-in-units-3 c = fits (sum₄ c) (coordinates c .0 .0) (omega arith)
+add-t12 : tie.Need-add-t12
+add-t12 c = let s = start₄ c in fits (sum₄ s) (coordinates s .0 .0) (omega arith)
 
-add-in-units-4 : tie.Need-add-in-units-4
-add-in-units-4 c = fits (sum₅ c) (coordinates c .0) (omega arith)
+add-t13 : tie.Need-add-t13
+add-t13 c = let s = start₅ c in fits (sum₅ s) (coordinates s .0) (omega arith)
 
-add-in-units-5 : tie.Need-add-in-units-5
-add-in-units-5 c = fits (sum c) (coordinates c) (omega arith)
+add-t14 : tie.Need-add-t14
+add-t14 c = let s = start₆ c in fits (sum s) (coordinates s) (omega arith)
 
-add-in-units-6 : tie.Need-add-in-units-6
-add-in-units-6 c = search needs
-
-in-units-requires : tie.Need-in-units-requires
-in-units-requires c κs =
-    (omega arith, rw (exact-stored (sum c) (coordinates c) (omega arith)) (omega (arith, size (sum c) (coordinates c))))
+add-t15 : tie.Need-add-t15
+add-t15 c = search needs
 
 returns : tie.Need-returns
 unfolding edgeMask
-returns c =
-    let s = c .before in
-    toZ-ofZ {w = w32} (record { sfits = c .in-units .ok }) ∙ c .in-units .ensures
-    ∙ ap (λ (z : ℤ). nearest (pos 256 *ℤ z) (2 * s .args .w + 10)) (exact-stored (sum s) (coordinates s) (omega arith))
+returns c = let s = start₆ c in made (sum s) (coordinates s) (2 * s .args .w + 10) (omega arith) (omega arith) (omega arith)
 
 pub edge-mask-spec : {M : Type 1} → statement M
 edge-mask-spec =
     tie.close
     (tie.spec
     mul-w2
-    cast-in-units
-    mul-in-units
-    mul-in-units-2
-    add-in-units
-    mul-in-units-3
-    add-in-units-2
-    mul-in-units-4
-    add-in-units-3
-    add-in-units-4
-    add-in-units-5
-    add-in-units-6
-    in-units-requires
+    cast-t5
+    mul-t6
+    mul-t7
+    add-t8
+    mul-t9
+    add-t10
+    mul-t11
+    add-t12
+    add-t13
+    add-t14
+    add-t15
     returns)

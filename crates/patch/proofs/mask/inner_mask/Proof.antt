@@ -1,79 +1,68 @@
 -- `inner_mask` meets its contract: the mask's weights sum to its divisor.
-use mathlib.Core.Path.{ap, _∙_}
 use Prim.Native.Nat.{_+_}
 use native.Mathlib.Omega.{arith}
-use lib.IntN.{ℤ, pos, _*ℤ_}
 use borrow.Author.Needs.{needs}
-use mir.Syntax.{w32}
-use mir.Facts.{toZ-ofZ}
-use Rattle.integer.specs.Nearest.{nearest}
 use Rattle.patch.specs.Mask.{innerMask}
-use Rattle.patch.proofs.MaskLaws.{Sum, one, term, _⊞_, Coordinates, size, exact-stored, fits}
+use Rattle.patch.proofs.MaskLaws.{Sum, one, term, _⊞_, Coordinates, made, fits}
 use Rattle.patch.proofs.mask.inner_mask.Statement.{statement}
 use Rattle.patch.proofs.mask.inner_mask.Tie as tie
 
+-- the function's entry, from the place of each value that is read
+abbrev start₁ : tie.After-struct-told → tie.Start
+start₁ c = c .before .before
+
+abbrev start₂ : tie.After-struct-told2 → tie.Start
+start₂ c = start₁ (c .before .before)
+
+abbrev start₃ : tie.After-struct-told3 → tie.Start
+start₃ c = start₂ (c .before .before)
+
+abbrev start₄ : tie.After-struct-told4 → tie.Start
+start₄ c = start₃ (c .before .before)
+
 -- the sum by its terms, from the left
 abbrev sum₁ : tie.Start → Sum
-sum₁ c = term (c .args .w) (c .args .p)
+sum₁ s = term (s .args .w) (s .args .a .here)
 
 abbrev sum₂ : tie.Start → Sum
-sum₂ c = sum₁ c ⊞ term 2 (c .args .e)
+sum₂ s = sum₁ s ⊞ term 2 (s .args .a .next)
 
 abbrev sum₃ : tie.Start → Sum
-sum₃ c = sum₂ c ⊞ term 2 (c .args .e2)
+sum₃ s = sum₂ s ⊞ term 2 (s .args .a .prev)
 
 abbrev sum : tie.Start → Sum
-sum c = sum₃ c ⊞ one (c .args .f)
+sum s = sum₃ s ⊞ one (s .args .a .across)
 
-coordinates : (c : tie.Start) → Coordinates (sum c)
-coordinates c = (((c .pre .1, c .pre .2), c .pre .3), c .pre .4)
+coordinates : (s : tie.Start) → Coordinates (sum s)
+coordinates s = let a = s .pre .1 in (((a .here, a .next), a .prev), a .across)
 
-cast-in-units : tie.Need-cast-in-units
-cast-in-units c = search needs
+cast-t3 : tie.Need-cast-t3
+cast-t3 c = search needs
 
-mul-in-units : tie.Need-mul-in-units
-mul-in-units c = fits (sum₁ c) (c .pre .1) (omega arith)
+mul-t4 : tie.Need-mul-t4
+mul-t4 c = let s = start₁ c in fits (sum₁ s) (s .pre .1 .here) (omega arith)
 
-mul-in-units-2 : tie.Need-mul-in-units-2
-mul-in-units-2 c = fits (term 2 (c .args .e)) (c .pre .2) (omega arith)
+mul-t5 : tie.Need-mul-t5
+mul-t5 c = let s = start₂ c in fits (term 2 (s .args .a .next)) (s .pre .1 .next) (omega arith)
 
-add-in-units : tie.Need-add-in-units
-add-in-units c = fits (sum₂ c) (coordinates c .0 .0) (omega arith)
+add-t6 : tie.Need-add-t6
+add-t6 c = let s = start₂ c in fits (sum₂ s) (coordinates s .0 .0) (omega arith)
 
-mul-in-units-3 : tie.Need-mul-in-units-3
-mul-in-units-3 c = fits (term 2 (c .args .e2)) (c .pre .3) (omega arith)
+mul-t7 : tie.Need-mul-t7
+mul-t7 c = let s = start₃ c in fits (term 2 (s .args .a .prev)) (s .pre .1 .prev) (omega arith)
 
-add-in-units-2 : tie.Need-add-in-units-2
-add-in-units-2 c = fits (sum₃ c) (coordinates c .0) (omega arith)
+add-t8 : tie.Need-add-t8
+add-t8 c = let s = start₃ c in fits (sum₃ s) (coordinates s .0) (omega arith)
 
-add-in-units-3 : tie.Need-add-in-units-3
-add-in-units-3 c = fits (sum c) (coordinates c) (omega arith)
+add-t9 : tie.Need-add-t9
+add-t9 c = let s = start₄ c in fits (sum s) (coordinates s) (omega arith)
 
-add-in-units-4 : tie.Need-add-in-units-4
-add-in-units-4 c = search needs
-
-in-units-requires : tie.Need-in-units-requires
-in-units-requires c κs =
-    (omega arith, rw (exact-stored (sum c) (coordinates c) (omega arith)) (omega (arith, size (sum c) (coordinates c))))
+add-t10 : tie.Need-add-t10
+add-t10 c = search needs
 
 returns : tie.Need-returns
 unfolding innerMask
-returns c =
-    let s = c .before in
-    toZ-ofZ {w = w32} (record { sfits = c .in-units .ok }) ∙ c .in-units .ensures
-    ∙ ap (λ (z : ℤ). nearest (pos 256 *ℤ z) (s .args .w + 5)) (exact-stored (sum s) (coordinates s) (omega arith))
+returns c = let s = start₄ c in made (sum s) (coordinates s) (s .args .w + 5) (omega arith) (omega arith) (omega arith)
 
 pub inner-mask-spec : {M : Type 1} → statement M
-inner-mask-spec =
-    tie.close
-    (tie.spec
-    cast-in-units
-    mul-in-units
-    mul-in-units-2
-    add-in-units
-    mul-in-units-3
-    add-in-units-2
-    add-in-units-3
-    add-in-units-4
-    in-units-requires
-    returns)
+inner-mask-spec = tie.close (tie.spec cast-t3 mul-t4 mul-t5 add-t6 mul-t7 add-t8 add-t9 add-t10 returns)

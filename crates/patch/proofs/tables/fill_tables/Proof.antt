@@ -1,77 +1,90 @@
--- `fill_tables` meets its contract: the weights come from the two counts of each vertex, and each pass writes one coordinate of the corner points.
+-- `fill_tables` meets its contract: the weights come from the counts of each vertex, and each pass writes one coordinate of the corner points.
 use mathlib.Core.Path.{_≡_, refl, ap, _∙_}
-use mathlib.Core.Bool.{Bool, cond}
 use mathlib.Core.List.{List}
 use Prim.Native.Nat.{ℕ, _+_, _-_, _*_, _<_, _≤_}
-use native.Mathlib.Nat.{not-suc-le-zero, le-trans, lt-of-lt-of-le}
+use native.Mathlib.Nat.{not-suc-le-zero}
 use native.Mathlib.Numerals.{add-one-le, add-one-dec}
 use native.Mathlib.Omega.{arith}
-use lib.Dec.{eqb}
-use lib.IntN.{ℤ, pos, natAbs}
-use lib.ListN.{length, getD, getD-replicate}
+use lib.IntN.{pos}
+use lib.ListN.{length, getD}
 use borrow.Author.Needs.{needs}
 use Rattle.finite.proofs.FilledLaws.{filled-at}
 use Rattle.mesh.specs.Limits.{maxVertices}
-use Rattle.mesh.specs.Fan.{valence}
-use Rattle.mesh.specs.IndexedMesh.{IndexedMesh, indexed}
-use Rattle.mesh.specs.Private.{Holds, vertexOf}
-use Rattle.patch.specs.Point.{cornerPoint}
+use Rattle.mesh.specs.IndexedMesh.{IndexedMesh, indexed, corners}
+use Rattle.mesh.specs.Private.{Holds}
+use Rattle.patch.specs.Point.{weight, cornerPoint}
 use Rattle.patch.specs.Patch.{shape, view, units}
-use Rattle.patch.specs.Private.{vertexWeight}
-use Rattle.patch.proofs.TableLaws.{accepted-indices, inside-count, strided-all}
+use Rattle.patch.specs.Private.{shapeOf}
+use Rattle.patch.proofs.TableLaws.{same-all, weight-seen, accepted-whole, accepted-indices, strided-all}
 use Rattle.patch.proofs.tables.fill_tables.Statement.{statement}
 use Rattle.patch.proofs.tables.fill_tables.Tie as tie
 
 abbrev Inv-loop : tie.InvT-loop
-Inv-loop v f positions tags faces twins weights points₀ leaving k₀ points k =
+Inv-loop v f positions tags faces twins weights points₀ valences leaving k₀ points k =
     (k ≤ 3) × (length points ≡ length points₀)
     × ((p j : ℕ) → p < v → j < k → getD points (3 * p + j) (pos 0) ≡ units (cornerPoint (view (indexed v f positions tags faces) j) p))
 
 abbrev μ-loop : tie.MeasureT-loop
-μ-loop v f positions tags faces twins weights points₀ leaving k₀ points k = 3 - k
+μ-loop v f positions tags faces twins weights points₀ valences leaving k₀ points k = 3 - k
 
--- the mesh that was passed
+-- the function's entry, from the tables of counts, and the mesh that was passed
+abbrev entry : tie.After-slice-known Inv-loop μ-loop → tie.Start Inv-loop μ-loop
+entry c = c .before .before .before .before
+
+abbrev made : tie.After-leaving Inv-loop μ-loop → tie.Start Inv-loop μ-loop
+made c = entry (c .before .before)
+
 abbrev mesh : tie.Start Inv-loop μ-loop → IndexedMesh
 mesh s = indexed (s .args .v) (s .args .f) (s .args .positions .now) (s .args .tags .now) (s .args .faces .now)
 
--- after the weights were written
-module _ (c : tie.After-fill-weights Inv-loop μ-loop) where
-  abbrev counted : tie.After-count-leaving Inv-loop μ-loop
-  counted = c .before .before .before .before
+-- before the weights are written
+module _ (c : tie.After-fill-weights-arg Inv-loop μ-loop) where
+  abbrev lent : tie.After-valences3 Inv-loop μ-loop
+  lent = c .before .before
+
+  abbrev counted : tie.After-count-faces Inv-loop μ-loop
+  counted = lent .before .before .before
 
   abbrev start : tie.Start Inv-loop μ-loop
-  start = counted .before .before .before .before .before .before
+  start = made (counted .before)
 
-  weights-are : Holds 0 (c .fill-weights .last .1 .1 .1 .1 .0) (start .args .v) (vertexWeight (shape (mesh start)))
-  unfolding vertexWeight
-  weights-are p l =
-      let m = valence (vertexOf (start .args .faces .now)) (4 * start .args .f) p in
-      let h = counted .count-leaving .ensures p (lt-of-lt-of-le l (start .pre .0 .sized .vertices-high)) in
-      ap (λ (w : List ℕ). getD w p 0) (c .fill-weights .ensures) ∙ filled-at _ (start .args .v) p (start .args .weights .now) 0 l
-      ∙ ap (λ (b : Bool). cond b m (2 * m)) (ap (λ (z : ℤ). eqb (natAbs z) 0) h ∙ inside-count (mesh start) p)
+  valences-long : maxVertices ≤ length (counted .count-faces .last .1 .1 .0)
+  valences-long = omega (arith, counted .count-faces .kept .1 .1 .0)
 
-  weights-long : start .args .v ≤ length (c .fill-weights .last .1 .1 .1 .1 .0)
-  weights-long = rw (c .fill-weights .kept .1 .1 .1 .1 .0) (le-trans (start .pre .0 .sized .vertices-high) (start .pre .1 .0 .1))
+  leaving-long : maxVertices ≤ length (counted .count-faces .last .1 .1 .1 .0)
+  leaving-long = omega (arith, counted .count-faces .kept .1 .1 .1 .0)
 
-mul-count-leaving : tie.Need-mul-count-leaving Inv-loop μ-loop
-mul-count-leaving c = omega (arith, c .before .before .before .before .pre .0 .sized .faces-high)
+-- after they were written
+weights-are : (c : tie.After-fill-weights Inv-loop μ-loop)
+    → Holds 0 (c .fill-weights .last .1 .1 .1 .0) (corners (mesh (start (c .before)))) (weight (shape (mesh (start (c .before)))))
+weights-are c d l =
+    let s = start (c .before) in
+    let whole = accepted-whole (s .pre .0 .0) in
+    ap (λ (w : List ℕ). getD w d 0) (c .fill-weights .ensures)
+    ∙ filled-at (weight (shapeOf (s .args .faces .now))) (length (s .args .faces .now)) d (s .args .weights .now) 0 (rw whole l)
+    ∙ weight-seen (mesh s) whole d
 
-slice-aggregate-count-leaving : tie.Need-slice-aggregate-count-leaving Inv-loop μ-loop
-slice-aggregate-count-leaving c = search needs
+slice-aggregate-count-faces : tie.Need-slice-aggregate-count-faces Inv-loop μ-loop
+slice-aggregate-count-faces c = search needs
 
-count-leaving-requires : tie.Need-count-leaving-requires Inv-loop μ-loop
-count-leaving-requires c κs =
-    let s = c .before .before .before .before .before in
-    ((accepted-indices (s .pre .0), s .pre .1 .0 .0, omega arith), (s .pre .1 .1, λ p l. getD-replicate maxVertices p (pos 0) (pos 0) l))
+slice-aggregate-count-faces-2 : tie.Need-slice-aggregate-count-faces-2 Inv-loop μ-loop
+slice-aggregate-count-faces-2 c = search needs
+
+count-faces-requires : tie.Need-count-faces-requires Inv-loop μ-loop
+count-faces-requires c κs =
+    let s = made c in
+    ((accepted-indices (s .pre .0 .0), s .pre .0 .1), ((omega arith, omega arith), (same-all 0, same-all 0)))
 
 slice-aggregate-fill-weights : tie.Need-slice-aggregate-fill-weights Inv-loop μ-loop
 slice-aggregate-fill-weights c = search needs
 
+slice-aggregate-fill-weights-2 : tie.Need-slice-aggregate-fill-weights-2 Inv-loop μ-loop
+slice-aggregate-fill-weights-2 c = search needs
+
 fill-weights-requires : tie.Need-fill-weights-requires Inv-loop μ-loop
 fill-weights-requires c κs =
-    let s = c .before .before .before .before .before .before .before .before .before in
-    let t = s .pre .0 .sized .vertices-high in
-    (accepted-indices (s .pre .0), t, omega (arith, c .before .before .before .count-leaving .kept .1 .1 .1 .0), omega (arith, s .pre .1 .0 .1))
+    let s = start c in
+    ((accepted-indices (s .pre .0 .0), counted c .count-faces .ensures), (valences-long c, leaving-long c, s .pre .1 .0))
 
 loop-holds : tie.Need-loop-holds Inv-loop μ-loop
 loop-holds c = (omega arith, refl, λ p j l b. absurd (not-suc-le-zero b))
@@ -79,51 +92,61 @@ loop-holds c = (omega arith, refl, λ p j l b. absurd (not-suc-le-zero b))
 slice-aggregate-fill-coordinate : tie.Need-slice-aggregate-fill-coordinate Inv-loop μ-loop
 slice-aggregate-fill-coordinate c = search needs
 
+slice-aggregate-fill-coordinate-2 : tie.Need-slice-aggregate-fill-coordinate-2 Inv-loop μ-loop
+slice-aggregate-fill-coordinate-2 c = search needs
+
+-- the weights and the function's entry, from the loop's head
+abbrev weighed : tie.At-loop Inv-loop μ-loop → tie.After-fill-weights Inv-loop μ-loop
+weighed l = l .before .before .before
+
+abbrev begun : tie.At-loop Inv-loop μ-loop → tie.Start Inv-loop μ-loop
+begun l = start (weighed l .before)
+
 fill-coordinate-requires : tie.Need-fill-coordinate-requires Inv-loop μ-loop
 fill-coordinate-requires c κs =
-    let w = c .before .before .before .before .before .before .before in
-    let s = start w in
-    let t = s .pre .0 .sized .vertices-high in (
-      (s .pre .0, s .pre .1 .0 .0, omega (arith, counted w .count-leaving .kept .1 .1 .1 .0), weights-long w),
-      ((c .before .before .before .loop-test .taken, omega (arith, s .pre .1 .0 .2)), (s .pre .1 .1, (counted w .count-leaving .ensures, weights-are w))),
+    let turn = c .before .before .before in
+    let l = turn .before in
+    let t = weighed l .before in
+    let s = start t in (
+      (s .pre .0 .0, s .pre .0 .1, counted t .count-faces .ensures),
+      (valences-long t, leaving-long t, turn .loop-test .taken, omega (arith, s .pre .1 .1, s .pre .0 .0 .sized .vertices-high, l .loop .inv .1)),
     )
 
+-- the end of a turn
+abbrev lends : tie.After-points Inv-loop μ-loop → tie.After-leaving4 Inv-loop μ-loop
+lends c = c .before .before .before
+
+abbrev turns : tie.After-points Inv-loop μ-loop → tie.In-loop Inv-loop μ-loop
+turns c = lends c .before .before
+
 add-k : tie.Need-add-k Inv-loop μ-loop
-add-k c = omega arith
+add-k c = omega (arith, turns c .loop-test .taken)
 
 loop-less : tie.Need-loop-less Inv-loop μ-loop
-loop-less c = add-one-dec _ _ (c .before .before .before .before .before .loop-test .taken)
+loop-less c = add-one-dec _ _ (turns c .loop-test .taken)
 
 loop-again : tie.Need-loop-again Inv-loop μ-loop
 loop-again c =
-    let l = c .before .before .before .before .before .before in
-    let s = start (l .before .before .before) in (
-      add-one-le (c .before .before .before .before .before .loop-test .taken),
-      c .before .fill-coordinate .kept .1 .1 .1 .1 .1 .1 .1 .1 .1 .0 ∙ l .loop .inv .1,
-      strided-all (s .args .v) (l .loop .k) (l .loop .points) (c .before .fill-coordinate .last .1 .1 .1 .1 .1 .1 .1 .1 .1 .0) (λ j p. units (cornerPoint (view (mesh s) j) p))
-          (c .before .before .before .before .before .loop-test .taken)
-          (c .before .fill-coordinate .ensures .0) (c .before .fill-coordinate .ensures .1) (l .loop .inv .2),
+    let l = turns c .before in
+    let s = begun l in
+    let one = c .before .fill-coordinate in
+    let below = turns c .loop-test .taken in (
+      add-one-le below,
+      one .kept .1 .1 .1 .1 .1 .1 .1 .1 .1 .0 ∙ l .loop .inv .1,
+      strided-all (s .args .v) (l .loop .k) (l .loop .points) (one .last .1 .1 .1 .1 .1 .1 .1 .1 .1 .0)
+          (λ j p. units (cornerPoint (view (mesh s) j) p)) below (one .ensures .0) (one .ensures .1) (l .loop .inv .2),
     )
 
 same-length : tie.Need-same-length Inv-loop μ-loop
-same-length c = c .before .before .before .before .fill-weights .kept .1 .1 .1 .1 .0
+same-length c = weighed (c .before) .fill-weights .kept .1 .1 .1 .0
 
 same-length-2 : tie.Need-same-length-2 Inv-loop μ-loop
 same-length-2 c = c .before .loop .inv .1
 
 returns : tie.Need-returns Inv-loop μ-loop
 returns c =
-    let w = c .before .before .before .before in
-    let s = start w in
-    let t = s .pre .0 .sized .vertices-high in
-    record {
-      twins-listed = s .pre .1 .0 .0;
-      twins-are = s .pre .1 .1;
-      weights-listed = weights-long w;
-      weights-are = weights-are w;
-      points-listed = omega (arith, c .before .loop .inv .1, s .pre .1 .0 .2);
-      points-are = λ p k l b. c .before .loop .inv .2 p k l (omega (arith, b));
-    }
+    let l = c .before in
+    record { weights-are = weights-are (weighed l); points-are = λ p k h b. l .loop .inv .2 p k h (omega (arith, b, c .loop-test .left)) }
 
 pub fill-tables-spec : {M : Type 1} → statement M
 fill-tables-spec =
@@ -131,13 +154,15 @@ fill-tables-spec =
     (tie.spec
     Inv-loop
     μ-loop
-    mul-count-leaving
-    slice-aggregate-count-leaving
-    count-leaving-requires
+    slice-aggregate-count-faces
+    slice-aggregate-count-faces-2
+    count-faces-requires
     slice-aggregate-fill-weights
+    slice-aggregate-fill-weights-2
     fill-weights-requires
     loop-holds
     slice-aggregate-fill-coordinate
+    slice-aggregate-fill-coordinate-2
     fill-coordinate-requires
     add-k
     loop-less

@@ -1,0 +1,133 @@
+-- `fill_weights` meets its contract: the tables have the faces of the corner's vertex, and whether it is inside, which make its weight.
+use mathlib.Core.Path.{_≡_, refl, ap, _∙_}
+use Prim.Native.Nat.{ℕ, _-_, _<_, _≤_}
+use native.Mathlib.Nat.{le-antisymm}
+use native.Mathlib.Numerals.{add-one-le, add-one-dec}
+use native.Mathlib.Omega.{arith}
+use lib.ListN.{length, length-set}
+use Rattle.finite.specs.Filled.{filled}
+use Rattle.finite.proofs.FilledLaws.{filled-start, filled-more, filled-all}
+use Rattle.mesh.specs.Limits.{maxVertices}
+use Rattle.mesh.specs.Private.{vertexOf}
+use Rattle.patch.specs.Point.{weight}
+use Rattle.patch.specs.Private.{shapeOf}
+use Rattle.patch.proofs.SumLaws.{valence-few}
+use Rattle.patch.proofs.TableLaws.{weight-entries}
+use Rattle.patch.proofs.counts.fill_weights.Statement.{statement}
+use Rattle.patch.proofs.counts.fill_weights.Tie as tie
+
+abbrev Inv-loop : tie.InvT-loop
+Inv-loop faces valences leaving weights₀ c₀ c-end weights c =
+    (c ≤ c-end) × (length weights ≡ length weights₀) × (weights ≡ filled (weight (shapeOf faces)) c weights₀)
+
+abbrev μ-loop : tie.MeasureT-loop
+μ-loop faces valences leaving weights₀ c₀ c-end weights c = c-end - c
+
+abbrev entry : tie.After-slice-known Inv-loop μ-loop → tie.Start Inv-loop μ-loop
+entry c = c .before .before .before .before
+
+-- the vertex of corner c has a place in the tables
+module _ (w : tie.After-wide Inv-loop μ-loop) where
+  abbrev head : tie.At-loop Inv-loop μ-loop
+  head = w .before .before .before
+
+  abbrev start : tie.Start Inv-loop μ-loop
+  start = entry (head .before)
+
+  abbrev p : ℕ
+  p = w .wide .result
+
+  below : head .loop .c < length (start .args .faces .now)
+  below = w .before .before .loop-test .taken
+
+  named : p < maxVertices
+  named = rw (w .wide .ensures) (start .pre .0 .0 .named (head .loop .c) below)
+
+loop-holds : tie.Need-loop-holds Inv-loop μ-loop
+loop-holds c = (omega arith, refl, filled-start _ (entry c .args .weights .now))
+
+mul-wide : tie.Need-mul-wide Inv-loop μ-loop
+mul-wide c = omega arith
+
+shared-slice-read-wide : tie.Need-shared-slice-read-wide Inv-loop μ-loop
+shared-slice-read-wide c = omega arith
+
+wide-requires : tie.Need-wide-requires Inv-loop μ-loop
+wide-requires c κs = tt
+
+mul-corner-weight : tie.Need-mul-corner-weight Inv-loop μ-loop
+mul-corner-weight c = omega (arith, named c)
+
+shared-slice-read-corner-weight : tie.Need-shared-slice-read-corner-weight Inv-loop μ-loop
+shared-slice-read-corner-weight c = omega (arith, named (c .before), start (c .before) .pre .1 .1)
+
+mul-corner-weight-2 : tie.Need-mul-corner-weight-2 Inv-loop μ-loop
+mul-corner-weight-2 c = omega (arith, named (c .before))
+
+shared-slice-read-corner-weight-2 : tie.Need-shared-slice-read-corner-weight-2 Inv-loop μ-loop
+shared-slice-read-corner-weight-2 c = let w = c .before .before in omega (arith, named w, start w .pre .1 .0)
+
+corner-weight-requires : tie.Need-corner-weight-requires Inv-loop μ-loop
+corner-weight-requires c κs =
+    let w = c .before .before in
+    let s = start w in
+    rw (s .pre .0 .1 .valences-are (p w) (named w))
+    (omega (arith, valence-few (vertexOf (s .args .faces .now)) (p w) (length (s .args .faces .now)), s .pre .0 .0 .few))
+
+-- the end of a turn
+abbrev placed : tie.After-corner-weight Inv-loop μ-loop → tie.After-wide Inv-loop μ-loop
+placed c = c .before .before .before
+
+mul-weights : tie.Need-mul-weights Inv-loop μ-loop
+mul-weights c = let w = placed c in omega (arith, below w, start w .pre .0 .0 .few)
+
+slice-write-weights : tie.Need-slice-write-weights Inv-loop μ-loop
+slice-write-weights c = let w = placed c in omega (arith, below w, start w .pre .1 .2, head w .loop .inv .1)
+
+add-c : tie.Need-add-c Inv-loop μ-loop
+add-c c = let w = placed c in omega (arith, below w, start w .pre .0 .0 .few)
+
+loop-less : tie.Need-loop-less Inv-loop μ-loop
+loop-less c = add-one-dec _ _ (below (placed c))
+
+loop-again : tie.Need-loop-again Inv-loop μ-loop
+loop-again c =
+    let w = placed c in
+    let l = head w .loop in
+    let s = start w in
+    let counts = s .pre .0 .1 in (
+      add-one-le (below w),
+      length-set (l .weights) (l .c) _ ∙ l .inv .1,
+      filled-more (weight (shapeOf (s .args .faces .now))) (l .c) _ (s .args .weights .now) (l .weights) (omega (arith, below w, s .pre .1 .2)) (l .inv .2)
+          (c .corner-weight .ensures
+          ∙ weight-entries (shapeOf (s .args .faces .now)) (l .c) (p w) _ _ (w .wide .ensures) (counts .inside-are (p w) (named w)) (counts .valences-are (p w) (named w))),
+    )
+
+same-length : tie.Need-same-length Inv-loop μ-loop
+same-length c = c .before .loop .inv .1
+
+returns : tie.Need-returns Inv-loop μ-loop
+returns c = let l = c .before .loop in filled-all _ _ _ _ (l .weights) (l .inv .0) (c .loop-test .left) (l .inv .2)
+
+pub fill-weights-spec : {M : Type 1} → statement M
+fill-weights-spec =
+    tie.close
+    (tie.spec
+    Inv-loop
+    μ-loop
+    loop-holds
+    mul-wide
+    shared-slice-read-wide
+    wide-requires
+    mul-corner-weight
+    shared-slice-read-corner-weight
+    mul-corner-weight-2
+    shared-slice-read-corner-weight-2
+    corner-weight-requires
+    mul-weights
+    slice-write-weights
+    add-c
+    loop-less
+    loop-again
+    same-length
+    returns)

@@ -1,0 +1,68 @@
+// The faces of each vertex, whether it is inside, and the weight of each corner.
+use crate::values::is_boundary;
+use crate::values::wide;
+ghost use mathlib.Core.Path.{_≡_};
+ghost use mathlib.Core.Bool.{cond};
+ghost use Prim.Native.Nat.{_+_, _*_, _≤_, _<_};
+ghost use lib.ListN.{length, getD, set};
+ghost use Rattle.finite.specs.Fold.{indicator};
+ghost use Rattle.finite.specs.Filled.{filled};
+ghost use Rattle.mesh.specs.Limits.{maxVertices, maxFaces};
+ghost use Rattle.mesh.specs.Private.{Holds, Indices};
+ghost use Rattle.patch.specs.Point.{weight};
+ghost use Rattle.patch.specs.Private.{shapeOf, Twins, Counts};
+
+// 1 for true, 0 for false.
+fn one_if(b: bool) -> u16
+    ensures { λ r. ⌜ r ≡ indicator b ⌝ }
+{
+    if b {
+        return 1;
+    }
+    0
+}
+
+// Adds a number to the count at place p.
+fn count_at(counts: &mut [u16], p: usize, n: u16)
+    requires { ⌜ (p < length (now counts)) × (getD (now counts) p 0 + n < 65536) ⌝ }
+    ensures { λ _. ⌜ now (counts .exit) ≡ set (now (counts .entry)) p (getD (now (counts .entry)) p 0 + n) ⌝ }
+{
+    counts[p] = counts[p] + n;
+}
+
+// Counts the faces of each vertex, and the boundary half-edges that leave it, over tables of zeros.
+pub(crate) fn count_faces(faces: &[u16], twins: &[u16], valences: &mut [u16], leaving: &mut [u16])
+    requires { ⌜ Indices (now faces) (length (now faces)) × Twins (now faces) (now twins) ⌝ }
+    requires { ⌜ (maxVertices ≤ length (now valences)) × (maxVertices ≤ length (now leaving)) ⌝ }
+    requires { ⌜ Holds 0 (now valences) maxVertices (λ p. 0) × Holds 0 (now leaving) maxVertices (λ p. 0) ⌝ }
+    ensures { λ _. ⌜ Counts (shapeOf (now (faces .entry))) (now (valences .exit)) (now (leaving .exit)) ⌝ }
+{
+    for c in 0..faces.len() {
+        let p = wide(faces[c]);
+        count_at(valences, p, 1);
+        count_at(leaving, p, one_if(is_boundary(twins, c)));
+    }
+}
+
+// The weight of a corner of a vertex, inside or not, with so many faces.
+fn corner_weight(inside: bool, valence: u16) -> u16
+    requires { ⌜ valence ≤ 4 * maxFaces ⌝ }
+    ensures { λ r. ⌜ r ≡ cond inside valence (2 * valence) ⌝ }
+{
+    if inside {
+        return valence;
+    }
+    2 * valence
+}
+
+// Writes the weight of each corner.
+pub(crate) fn fill_weights(faces: &[u16], valences: &[u16], leaving: &[u16], weights: &mut [u16])
+    requires { ⌜ Indices (now faces) (length (now faces)) × Counts (shapeOf (now faces)) (now valences) (now leaving) ⌝ }
+    requires { ⌜ (maxVertices ≤ length (now valences)) × (maxVertices ≤ length (now leaving)) × (length (now faces) ≤ length (now weights)) ⌝ }
+    ensures { λ _. ⌜ now (weights .exit) ≡ filled (weight (shapeOf (now (faces .entry)))) (length (now (faces .entry))) (now (weights .entry)) ⌝ }
+{
+    for c in 0..faces.len() {
+        let p = wide(faces[c]);
+        weights[c] = corner_weight(leaving[p] == 0, valences[p]);
+    }
+}
