@@ -11,10 +11,12 @@ use Rattle.mesh.specs.IndexedMesh.{IndexedMesh, corners}
 use Rattle.mesh.specs.HalfEdge.{isTwin, twin, boundary, sameWay, doubled, joins, edges, boundaries}
 use Rattle.mesh.specs.Fan.{valence, onBoundary, around, iterate, fanBy, fan}
 use Rattle.mesh.specs.Refusal.{sizesOff, coordinateOff, tagOff, vertexOff, vertexTwice, halfEdgeTwice, vertexUnused, fanBroken, valenceOff, innerTagged}
-use Rattle.mesh.specs.Answer.{Answer, counts, refusal, meshAnswer, checkAnswer}
+use Rattle.finite.specs.Table.{Answer, result, refusal}
+use Rattle.mesh.specs.declared.model.Mesh.{Mesh}
+use Rattle.mesh.specs.Answer.{meshRefusal, checkAnswer}
 use Rattle.sample.specs.Bernstein.{weight, numerator, rounded}
 use Rattle.sample.specs.Refusal.{faceOff, controlOff, placeOff}
-use Rattle.sample.specs.Answer as Sample
+use Rattle.sample.specs.declared.model.Point as Sample
 use Rattle.sample.specs.Answer.{sampleAnswer}
 use Rattle.patch.specs.Mask.{innerMask, edgeMask, boundaryEdgeMask, smoothCornerMask, boundaryCornerMask, vertexMask}
 use Rattle.patch.specs.Point as Point
@@ -39,8 +41,8 @@ statedAll [] = []
 statedAll (e ∷ es) = e .stated ∷ statedAll es
 
 -- the check's answer on a list of twins of the length asked for: V F E B, or the number of the refusal alone
-abbrev numbers : Answer → List ℤ
-numbers (counts v f e b) = pos v ∷ pos f ∷ pos e ∷ pos b ∷ []
+abbrev numbers : Answer Mesh → List ℤ
+numbers (result m) = pos (m .vertices) ∷ pos (m .faces) ∷ pos (m .edges) ∷ pos (m .boundary) ∷ []
 numbers (refusal k) = pos k ∷ []
 
 abbrev checked : IndexedMesh → List ℤ
@@ -52,9 +54,9 @@ control M f i j =
     patchNumber M (48 * f + 3 * (i + 4 * j)) ∷ patchNumber M (48 * f + 3 * (i + 4 * j) + 1) ∷ patchNumber M (48 * f + 3 * (i + 4 * j) + 2) ∷ []
 
 -- the sample call's answer on the patch list of a mesh
-abbrev sampleNumbers : Sample.Answer → List ℤ
-sampleNumbers (Sample.point x y z) = x ∷ y ∷ z ∷ []
-sampleNumbers (Sample.refusal k) = pos k ∷ []
+abbrev sampleNumbers : Answer Sample.Point → List ℤ
+sampleNumbers (result p) = p .x ∷ p .y ∷ p .z ∷ []
+sampleNumbers (refusal k) = pos k ∷ []
 
 abbrev sampled : IndexedMesh → ℕ → ℕ → ℕ → ℕ → List ℤ
 sampled M n f a b = sampleNumbers (sampleAnswer (patchesAfter M []) f n a b)
@@ -96,5 +98,5 @@ examples =
     ∷ []
 
 pub examples-hold : computedAll examples ≡ statedAll examples
-unfolding examples halfEven nearestℕ nearest foldBelow listBelow filled isTwin twin boundary sameWay doubled joins edges boundaries valence onBoundary around iterate fanBy fan sizesOff coordinateOff tagOff vertexOff vertexTwice halfEdgeTwice vertexUnused fanBroken valenceOff innerTagged meshAnswer weight numerator rounded faceOff controlOff placeOff sampleAnswer innerMask edgeMask boundaryEdgeMask smoothCornerMask boundaryCornerMask vertexMask Point.weight sharp sharpSum ringSum fixed cornerPoint innerPoint edgePoint alongPoint beforePoint point owner kind patchPoint patchNumber
+unfolding examples halfEven nearestℕ nearest foldBelow listBelow filled isTwin twin boundary sameWay doubled joins edges boundaries valence onBoundary around iterate fanBy fan sizesOff coordinateOff tagOff vertexOff vertexTwice halfEdgeTwice vertexUnused fanBroken valenceOff innerTagged meshRefusal weight numerator rounded faceOff controlOff placeOff sampleAnswer innerMask edgeMask boundaryEdgeMask smoothCornerMask boundaryCornerMask vertexMask Point.weight sharp sharpSum ringSum fixed cornerPoint innerPoint edgePoint alongPoint beforePoint point owner kind patchPoint patchNumber
 examples-hold = refl
