@@ -8,9 +8,9 @@ use mathlib.Core.Path.{_≡_, refl, sym, ap, _∙_}
 use mathlib.Core.Bool.{Bool, true, false, cond}
 use mathlib.Core.List.{List, [], _∷_, _++_}
 use mathlib.Core.Option.{Option, none, some}
-use Prim.Native.Nat.{ℕ}
+use Prim.Native.Nat.{ℕ, zero, suc}
 use native.Mathlib.Omega.{arith}
-use Rattle.finite.specs.Table.{Row, row, firstMet, Answer, result, refusal, answerBy}
+use Rattle.finite.specs.Table.{Row, row, firstMet, Answer, result, refusal, answerBy, refusalOf}
 
 -- ---- one row
 module _ (k : ℕ) (m : Option ℕ) {b : Bool} where
@@ -71,6 +71,11 @@ result-none (some k) e = let z : _≡_ {A = ℕ} 0 1 = cc in absurd (omega arith
 pub refusal-met : {A : Type 0} (x : A) {k : ℕ} (met : Option ℕ) → refusal k ≡ answerBy met x → met ≡ some k
 refusal-met x none e = let z : _≡_ {A = ℕ} 0 1 = cc in absurd (omega arith)
 refusal-met x (some j) e = cc
+
+-- a refusal that is handed on as a number
+pub refusal-some : (r : ℕ) → (r ≡ 0 → ⊥) → refusalOf r ≡ some r
+refusal-some zero h = absurd (h refl)
+refusal-some (suc k) h = refl
 
 -- ---- checking row by row
 pub record From (rows rest : List Row) : Type 0 where

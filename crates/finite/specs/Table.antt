@@ -5,11 +5,12 @@
 --   Answer A             what a call returns: its result, or the number of a refusal
 --   answerBy met a       the refusal that was met, else the result a
 --   writtenBy met before after   a lent list afterwards: as it was before after a refusal, else what was written
+--   refusalOf r          a refusal as private functions hand it on: its number, 0 for none
 --   outcome r            the answer of a call without a result, for each case of the code's enum `Outcome`
 use mathlib.Core.Bool.{Bool, cond}
 use mathlib.Core.List.{List, [], _∷_}
 use mathlib.Core.Option.{Option, none, some}
-use Prim.Native.Nat.{ℕ}
+use Prim.Native.Nat.{ℕ, zero, suc}
 use Rattle.finite.specs.declared.model.Outcome.{Outcome}
 use Rattle.finite.specs.declared.model.Outcome.the-variants.{Done, Refused}
 
@@ -36,6 +37,10 @@ answerBy (some k) a = refusal k
 abbrev pub writtenBy : {A : Type 0} → Option ℕ → A → A → A
 writtenBy none before after = after
 writtenBy (some k) before after = before
+
+abbrev pub refusalOf : ℕ → Option ℕ
+refusalOf zero = none
+refusalOf (suc k) = some (suc k)
 
 abbrev pub outcome : Outcome → Answer Unit
 outcome Done = result tt

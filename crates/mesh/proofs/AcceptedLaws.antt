@@ -16,7 +16,7 @@ use Rattle.finite.proofs.AnyAll.{any-false, any-none}
 use Rattle.finite.specs.Table.{Row, firstMet}
 use Rattle.finite.proofs.TableLaws.{skipped, none-met, none-append, append-none}
 use Rattle.mesh.specs.Limits.{minVertices, maxVertices, minFaces, maxFaces, maxCoordinate, minValence, maxValence, minBoundaryFaces, maxBoundaryFaces, cornerTag}
-use Rattle.mesh.specs.Corner.{turn, next, Corners}
+use Rattle.mesh.specs.Corner.{turn, next}
 use Rattle.mesh.specs.HalfEdge.{edges, boundaries, Simple}
 use Rattle.mesh.specs.Fan.{valence, onBoundary, fan}
 use Rattle.mesh.specs.IndexedMesh.{IndexedMesh, corners, at, tag, coordinate}
@@ -25,6 +25,7 @@ use Rattle.mesh.specs.WellFormed.{Sized, WellFormed}
 use Rattle.mesh.proofs.TwinLaws.{doubled-simple, simple-doubled}
 use Rattle.mesh.proofs.SizeLaws.{off-false, sizes-false}
 use Rattle.mesh.proofs.EdgeLaws.{edges-twice}
+use Rattle.mesh.specs.Tables.{Corners}
 
 -- ---- 1: sizes
 pub off-none : (a b x : ℕ) → a ≤ x → x ≤ b → off a b x ≡ false

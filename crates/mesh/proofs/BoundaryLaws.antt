@@ -14,15 +14,17 @@ use native.Mathlib.Omega.{arith}
 use borrow.Author.Tests.{eq-eqb, eqb-true}
 use Rattle.finite.proofs.FoldLaws.{lt-suc-cases}
 use Rattle.mesh.specs.Limits.{noTwin}
-use Rattle.mesh.specs.Corner.{next, prev, Corners}
+use Rattle.mesh.specs.Corner.{next, prev}
 use Rattle.mesh.specs.HalfEdge.{twin, boundary, Simple}
-use Rattle.mesh.specs.Fan.{anyAt, valence, onBoundary, around, backAround, iterate, fan, Turn}
+use Rattle.mesh.specs.Fan.{anyAt, valence, onBoundary, around, iterate, fan}
 use Rattle.mesh.proofs.CornerLaws.{next-below, not-none}
 use Rattle.mesh.proofs.TwinLaws.{twin-cases}
 use Rattle.mesh.proofs.CirculationLaws.{Turning, around-in, back-none, back-some}
 use Rattle.mesh.proofs.VertexLaws.{any-at-hit, any-at-none, any-at-false}
 use Rattle.mesh.proofs.TurnLaws.{Covers, turn-first, turn-at}
 use Rattle.mesh.proofs.FanLaws.{fan-turning, fan-keeps, fan-means}
+use Rattle.mesh.specs.Tables.{Corners}
+use Rattle.mesh.specs.Circulation.{backAround, Turn}
 
 pub record One (n : ℕ) (at : ℕ → ℕ) (p : ℕ) (t : ℕ → Bool) : Type 0 where
   pub corner : ℕ

@@ -20,10 +20,10 @@ use Rattle.finite.proofs.Least.{least-miss}
 use Rattle.mesh.specs.Limits.{maxVertices, noTwin}
 use Rattle.mesh.specs.Corner.{next}
 use Rattle.mesh.specs.HalfEdge.{runs, isTwin, twin, sameWay, doubled, Simple}
-use Rattle.mesh.specs.Private.{Holds, latest, Chained}
 use Rattle.mesh.specs.Fan.{valence}
 use Rattle.mesh.proofs.TwinLaws.{twin-is}
 use Rattle.mesh.proofs.VertexLaws.{valence-count}
+use Rattle.mesh.specs.Tables.{Holds, latest, Chained}
 
 -- ---- the latest number below n with p, plus 1
 pub latest-le : (p : ℕ → Bool) (n : ℕ) → latest p n ≤ n

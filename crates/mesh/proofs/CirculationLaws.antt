@@ -12,11 +12,12 @@ use lib.Dec.{ltb}
 use borrow.Author.Tests.{eq-eqb, ne-eqb, lt-ltb, le-ltb, ltb-true}
 use Rattle.finite.proofs.FoldLaws.{bool-cases}
 use Rattle.mesh.specs.Limits.{noTwin}
-use Rattle.mesh.specs.Corner.{next, prev, Corners}
-use Rattle.mesh.specs.HalfEdge.{Paired}
-use Rattle.mesh.specs.Fan.{around, backAround, iterate, Turn, Circulated}
+use Rattle.mesh.specs.Corner.{next, prev}
+use Rattle.mesh.specs.Fan.{around, iterate}
 use Rattle.mesh.proofs.CornerLaws.{next-below, prev-below, next-prev, prev-next, not-none}
 use Rattle.mesh.proofs.TwinLaws.{Joins}
+use Rattle.mesh.specs.Tables.{Corners}
+use Rattle.mesh.specs.Circulation.{Paired, backAround, Turn, Circulated}
 
 -- ---- one step
 module _ (tw : ℕ → ℕ) (n c : ℕ) where

@@ -12,10 +12,12 @@ use Rattle.finite.proofs.FoldLaws.{fold-ext, fold-unit, fold-op, fold-swap, fol
 use Rattle.finite.proofs.AnyAll.{and-true, any-true, any-false}
 use Rattle.finite.proofs.Counting.{sum-monoid, sum-ones}
 use Rattle.mesh.specs.Limits.{noTwin}
-use Rattle.mesh.specs.Corner.{next, Corners}
-use Rattle.mesh.specs.HalfEdge.{twin, boundary, joins, edges, boundaries, Simple, Paired}
+use Rattle.mesh.specs.Corner.{next}
+use Rattle.mesh.specs.HalfEdge.{twin, boundary, joins, edges, boundaries, Simple}
 use Rattle.mesh.proofs.CornerLaws.{next-below, not-none}
 use Rattle.mesh.proofs.TwinLaws.{twin-cases, twin-is, twin-twin, twin-paired}
+use Rattle.mesh.specs.Tables.{Corners}
+use Rattle.mesh.specs.Circulation.{Paired}
 
 -- of a sum in which only the term at i may be other than 0, that term is left
 sum-only : (f : ℕ → ℕ) (n i : ℕ) → i < n → ((k : ℕ) → k < n → (k ≡ i → ⊥) → f k ≡ 0) → sumBelow f n ≡ f i

@@ -13,13 +13,14 @@ use Rattle.finite.specs.Fold.{anyBelow, countBelow}
 use Rattle.finite.proofs.AnyAll.{any-true, any-hit, same-test}
 use Rattle.finite.proofs.Counting.{cover-apart, cover-inside}
 use Rattle.mesh.specs.Limits.{noTwin}
-use Rattle.mesh.specs.Corner.{Corners}
 use Rattle.mesh.specs.HalfEdge.{twin, Simple}
-use Rattle.mesh.specs.Fan.{allAt, valence, around, backAround, iterate, fanBy, fan, Turn, Circulated}
+use Rattle.mesh.specs.Fan.{allAt, valence, around, iterate, fanBy, fan}
 use Rattle.mesh.proofs.TwinLaws.{twin-joins, twin-paired}
 use Rattle.mesh.proofs.CirculationLaws.{Turning, Keeps, step-injective, turning, keeps, circulated-ext}
 use Rattle.mesh.proofs.VertexLaws.{valence-count, any-at-true, any-at-hit, all-at-true, all-at-hit}
 use Rattle.mesh.proofs.TurnLaws.{Covers, turn-first, turn-at, turn-covers, turn-full}
+use Rattle.mesh.specs.Tables.{Corners}
+use Rattle.mesh.specs.Circulation.{backAround, Turn, Circulated}
 
 -- ---- the test, as a statement
 module _ (s : ℕ → ℕ) (n : ℕ) (at : ℕ → ℕ) (p : ℕ) where

@@ -12,8 +12,8 @@ use borrow.Author.Tests.{eq-eqb, ne-eqb}
 use Rattle.finite.specs.Fold.{anyBelow, countBelow, indicator}
 use Rattle.finite.specs.Filled.{filled}
 use Rattle.finite.proofs.FoldLaws.{bool-cases, fold-ext}
-use Rattle.finite.specs.Table.{Row, firstMet, Answer, result, refusal, answerBy}
-use Rattle.finite.proofs.TableLaws.{met-here, skipped, none-met, orElse, orElse-assoc, first-append, some-append, none-append, append-none}
+use Rattle.finite.specs.Table.{Row, firstMet, Answer, result, refusal, answerBy, refusalOf}
+use Rattle.finite.proofs.TableLaws.{refusal-some, met-here, skipped, none-met, orElse, orElse-assoc, first-append, some-append, none-append, append-none}
 use Rattle.mesh.specs.Limits.{maxVertices, noTwin, cornerTag}
 use Rattle.mesh.specs.Corner.{next}
 use Rattle.mesh.specs.HalfEdge.{twin, edges, boundaries}
@@ -21,10 +21,10 @@ use Rattle.mesh.specs.IndexedMesh.{IndexedMesh, corners, at}
 use Rattle.mesh.specs.Refusal.{meshSizesOff, coordinateOff, tagOff, vertexOff, vertexTwice, halfEdgeTwice, valenceBad, entryRows, earlyRows, lateRows}
 use Rattle.mesh.specs.WellFormed.{Sized}
 use Rattle.mesh.specs.Answer.{countsOf, meshRefusal, meshAnswer, twinsAfter}
-use Rattle.mesh.specs.Private.{refusalOf, Holds, vertexOf, twinOf, Indices, Counted}
 use Rattle.mesh.proofs.SizeLaws.{sizes-false, indices-corners}
 use Rattle.mesh.proofs.EdgeLaws.{edges-lead, edges-twice}
 use Rattle.mesh.proofs.AcceptedLaws.{vertex-false, twice-false, half-edge-false}
+use Rattle.mesh.specs.Tables.{Holds, vertexOf, twinOf, Indices, Counted}
 
 -- ---- what a table by vertex says of a cause, of the first v vertices
 module _ (v : ℕ) (few : v ≤ maxVertices) (valences : List ℕ) (m : ℕ → ℕ) (h : Holds 0 valences maxVertices m) where
@@ -81,10 +81,6 @@ early-passed M own e =
     )
 
 -- ---- refusals as the private functions hand them on
-pub refusal-some : (r : ℕ) → (r ≡ 0 → ⊥) → refusalOf r ≡ some r
-refusal-some zero h = absurd (h refl)
-refusal-some (suc k) h = refl
-
 -- a call's row that is met as a number says
 pub given-met : (k : ℕ) (rest : Option ℕ) → (k ≡ 0 → ⊥) → cond (not (eqb k 0)) (some k) rest ≡ refusalOf k
 given-met k rest h = rw (ne-eqb k 0 h) (sym (refusal-some k h))

@@ -10,11 +10,10 @@ use borrow.Author.Tests.{le-leb, lt-leb, ltb-false, eqb-true, not-false}
 use Rattle.finite.specs.Fold.{foldBelow, anyBelow}
 use Rattle.finite.proofs.AnyAll.{or-false}
 use Rattle.mesh.specs.Limits.{minVertices, maxVertices, minFaces, maxFaces}
-use Rattle.mesh.specs.Corner.{Corners}
 use Rattle.mesh.specs.Refusal.{off, sizesOff}
 use Rattle.mesh.specs.WellFormed.{Sized}
 use Rattle.mesh.specs.Answer.{faceCorners}
-use Rattle.mesh.specs.Private.{Indices}
+use Rattle.mesh.specs.Tables.{Corners, Indices}
 
 pub off-false : (a b x : ℕ) → off a b x ≡ false → (a ≤ x) × (x ≤ b)
 off-false a b x e = let h = or-false (ltb x a) (ltb b x) e in (ltb-false x a (h .0), ltb-false b x (h .1))

@@ -11,9 +11,10 @@ use native.Mathlib.Omega.{arith}
 use lib.Dec.{eqb}
 use borrow.Author.Tests.{eq-eqb, eqb-true}
 use Rattle.finite.proofs.Counting.{at-least, pigeons, at-most}
-use Rattle.mesh.specs.Fan.{valence, iterate, Turn}
+use Rattle.mesh.specs.Fan.{valence, iterate}
 use Rattle.mesh.proofs.CirculationLaws.{Turning, Keeps, before}
 use Rattle.mesh.proofs.VertexLaws.{valence-count}
+use Rattle.mesh.specs.Circulation.{Turn}
 
 abbrev pub On : (ℕ → ℕ) → ℕ → ℕ → ℕ → Type 0
 On s o m d = (i : ℕ) × (i < m) × (iterate s i o ≡ d)

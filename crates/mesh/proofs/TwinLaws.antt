@@ -10,9 +10,11 @@ use Rattle.finite.proofs.FoldLaws.{bool-cases}
 use Rattle.finite.proofs.AnyAll.{and-true, any-false, any-none}
 use Rattle.finite.proofs.Least.{least-cases}
 use Rattle.mesh.specs.Limits.{noTwin}
-use Rattle.mesh.specs.Corner.{next, Corners}
-use Rattle.mesh.specs.HalfEdge.{isTwin, twin, sameWay, doubled, Simple, Paired}
+use Rattle.mesh.specs.Corner.{next}
+use Rattle.mesh.specs.HalfEdge.{isTwin, twin, sameWay, doubled, Simple}
 use Rattle.mesh.proofs.CornerLaws.{not-none}
+use Rattle.mesh.specs.Tables.{Corners}
+use Rattle.mesh.specs.Circulation.{Paired}
 
 -- a twin starts where its half-edge ends
 abbrev pub Joins : ℕ → (ℕ → ℕ) → (ℕ → ℕ) → Type 0

@@ -16,11 +16,11 @@ use borrow.Author.Tests.{ltb-true, ltb-false}
 use Rattle.finite.proofs.FoldLaws.{bool-cases, lt-suc-cases}
 use Rattle.finite.proofs.Counting.{at-least, sum-ones}
 use Rattle.mesh.specs.Limits.{noTwin}
-use Rattle.mesh.specs.Corner.{Corners}
-use Rattle.mesh.specs.HalfEdge.{Paired}
-use Rattle.mesh.specs.Fan.{around, backAround, iterate, Turn, Circulated}
+use Rattle.mesh.specs.Fan.{around, iterate}
 use Rattle.mesh.proofs.CirculationLaws.{Turning, iterate-in, iterate-add, reach, step-injective, turning}
 use Rattle.mesh.proofs.TurnLaws.{On}
+use Rattle.mesh.specs.Tables.{Corners}
+use Rattle.mesh.specs.Circulation.{Paired, backAround, Turn, Circulated}
 
 pub record Walk (n : ℕ) (s : ℕ → ℕ) (o m : ℕ) : Type 0 where
   pub some : 0 < m

@@ -11,10 +11,8 @@
 --   edges at n v     E: "E counts unordered pairs of vertices joined by a side", of the vertices below v
 --   boundaries at n  B: "B counts rim sides"
 --   Simple n at      no half-edge occurs twice the same way round: `doubled at n` is false
---   Paired n tw      the twins tw come in pairs, as those of a mesh without refusal 7 do
 use mathlib.Core.Path.{_≡_}
 use mathlib.Core.Bool.{Bool, not, _&&_, _||_}
-use mathlib.Core.Logic.{_⊎_}
 use mathlib.Core.Option.{Option·getD}
 use Prim.Native.Nat.{ℕ, _<_}
 use lib.Dec.{eqb}
@@ -52,6 +50,3 @@ boundaries at n = countBelow (boundary at n) n
 
 abbrev pub Simple : ℕ → (ℕ → ℕ) → Type 0
 Simple n at = (c d : ℕ) → c < n → d < n → at c ≡ at d → at (next c) ≡ at (next d) → c ≡ d
-
-pub record Paired (n : ℕ) (tw : ℕ → ℕ) : Type 0 where
-  pub pairs : (c : ℕ) → c < n → (tw c ≡ noTwin) ⊎ ((tw c < n) × (tw (tw c) ≡ c))

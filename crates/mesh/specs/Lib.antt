@@ -7,4 +7,6 @@ pub mod IndexedMesh
 pub mod Refusal
 pub mod Answer
 pub mod WellFormed
-pub mod Private
+pub mod Tables
+pub mod Phases
+pub mod Circulation

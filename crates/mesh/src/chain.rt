@@ -12,7 +12,7 @@ ghost use Rattle.finite.specs.Filled.{filled};
 ghost use Rattle.mesh.specs.Limits.{maxVertices, noTwin};
 ghost use Rattle.mesh.specs.Corner.{next};
 ghost use Rattle.mesh.specs.HalfEdge.{runs, twin, doubled, Simple};
-ghost use Rattle.mesh.specs.Private.{Holds, vertexOf, latest, Chained, Indices};
+ghost use Rattle.mesh.specs.Tables.{Holds, vertexOf, latest, Chained, Indices};
 
 // The last half-edge below c that runs from p to q, plus 1, and 0 for none, along the chain of p's corners below c from start on.
 fn find(faces: &[u16], n: usize, link: &[u16], c: usize, p: usize, start: u16, q: u16) -> u16

@@ -5,7 +5,7 @@ ghost use Prim.Native.Nat.{_≤_};
 ghost use lib.Dec.{ltb};
 ghost use lib.ListN.{length};
 ghost use Rattle.finite.specs.Fold.{indicator, countBelow};
-ghost use Rattle.mesh.specs.Private.{twinOf};
+ghost use Rattle.mesh.specs.Tables.{twinOf};
 
 // 1 for true, 0 for false.
 fn bit(b: bool) -> usize

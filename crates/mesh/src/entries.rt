@@ -13,7 +13,7 @@ ghost use Rattle.finite.specs.Fold.{anyBelow};
 ghost use Rattle.mesh.specs.Limits.{maxCoordinate, cornerTag};
 ghost use Rattle.mesh.specs.Corner.{turn};
 ghost use Rattle.mesh.specs.Refusal.{off, sizesOff};
-ghost use Rattle.mesh.specs.Private.{vertexOf, Indices};
+ghost use Rattle.mesh.specs.Tables.{vertexOf, Indices};
 
 // Whether x is off the range from low to high.
 pub(crate) fn off_range(low: usize, high: usize, x: usize) -> bool

@@ -10,10 +10,10 @@ ghost use lib.Dec.{eqb};
 ghost use lib.ListN.{length};
 ghost use Rattle.finite.specs.Fold.{anyBelow};
 ghost use Rattle.mesh.specs.Limits.{maxVertices};
-ghost use Rattle.mesh.specs.Corner.{Corners};
-ghost use Rattle.mesh.specs.HalfEdge.{twin, Paired, Simple};
-ghost use Rattle.mesh.specs.Fan.{valence, around, backAround, fan, Circulated};
-ghost use Rattle.mesh.specs.Private.{Holds, vertexOf, twinOf, latest, Indices};
+ghost use Rattle.mesh.specs.HalfEdge.{twin, Simple};
+ghost use Rattle.mesh.specs.Fan.{valence, around, fan};
+ghost use Rattle.mesh.specs.Tables.{Corners, Holds, vertexOf, twinOf, latest, Indices};
+ghost use Rattle.mesh.specs.Circulation.{Paired, backAround, Circulated};
 
 // "No twin", where a corner is wanted.
 const NO_CORNER: usize = Mesh::NO_TWIN as usize;

@@ -20,14 +20,15 @@ ghost use Prim.Native.Nat.{_*_, _≤_};
 ghost use lib.Dec.{eqb, ltb};
 ghost use lib.IntN.{ℤ};
 ghost use lib.ListN.{length};
-ghost use Rattle.finite.specs.Table.{row, firstMet};
+ghost use Rattle.finite.specs.Table.{row, firstMet, refusalOf};
 ghost use Rattle.mesh.specs.Limits.{maxVertices, maxFaces};
 ghost use Rattle.mesh.specs.HalfEdge.{twin, edges, boundaries, Simple};
 ghost use Rattle.mesh.specs.IndexedMesh.{indexed};
 ghost use Rattle.mesh.specs.WellFormed.{Sized};
 ghost use Rattle.mesh.specs.Refusal.{lateRows};
 ghost use Rattle.mesh.specs.Answer.{given};
-ghost use Rattle.mesh.specs.Private.{refusalOf, Holds, vertexOf, latest, Indices, EntriesMet, EarlyMet, FansMet, Counted};
+ghost use Rattle.mesh.specs.Tables.{Holds, vertexOf, latest, Indices, Counted};
+ghost use Rattle.mesh.specs.Phases.{EntriesMet, EarlyMet, FansMet};
 
 // Causes 3 to 7, of lists that have the lengths of the sizes. Where none is met, head and link are the chains of all corners afterwards;
 // they come in zeroed.

@@ -12,7 +12,7 @@ ghost use Rattle.mesh.specs.Limits.{maxVertices, cornerTag};
 ghost use Rattle.mesh.specs.HalfEdge.{twin};
 ghost use Rattle.mesh.specs.Fan.{valence, onBoundary};
 ghost use Rattle.mesh.specs.Refusal.{valenceBad};
-ghost use Rattle.mesh.specs.Private.{Holds, vertexOf, Indices};
+ghost use Rattle.mesh.specs.Tables.{Holds, vertexOf, Indices};
 
 // Counts the corners at each vertex, over a table of zeros.
 pub(crate) fn count_corners(faces: &[u16], n: usize, valences: &mut [u16])

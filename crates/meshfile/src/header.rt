@@ -7,10 +7,9 @@ ghost use mathlib.Core.Bool.{_||_};
 ghost use Prim.Native.Nat.{_*_, _≤_};
 ghost use lib.Dec.{ltb};
 ghost use lib.ListN.{length};
-ghost use Rattle.finite.specs.Table.{firstMet};
+ghost use Rattle.finite.specs.Table.{firstMet, refusalOf};
 ghost use Rattle.mesh.specs.Limits.{maxVertices, maxFaces};
 ghost use Rattle.mesh.specs.Refusal.{off};
-ghost use Rattle.mesh.specs.Private.{refusalOf};
 ghost use Rattle.meshfile.specs.File.{vertices, faces, steps, fileRows};
 
 // Whether x is off the range from low to high.

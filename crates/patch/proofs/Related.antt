@@ -14,7 +14,7 @@ use lib.Dec.{eqb}
 use lib.IntN.{ℤ, pos, _+ℤ_, _*ℤ_}
 use borrow.Author.Tests.{eqb-true, not-false}
 use Rattle.finite.specs.Fold.{foldBelow, gather}
-use Rattle.mesh.specs.Corner.{turn, next, prev, Corners}
+use Rattle.mesh.specs.Corner.{turn, next, prev}
 use Rattle.mesh.specs.HalfEdge.{twin}
 use Rattle.mesh.specs.Fan.{valence}
 use Rattle.mesh.specs.IndexedMesh.{IndexedMesh, corners, at}
@@ -23,6 +23,7 @@ use Rattle.mesh.proofs.CornerLaws.{turn-below, next-below, prev-below, next-pre
 use Rattle.mesh.proofs.TwinLaws.{twin-ends}
 use Rattle.mesh.proofs.BoundaryLaws.{boundary-vertex}
 use Rattle.mesh.proofs.AcceptedLaws.{accepted-corners}
+use Rattle.mesh.specs.Tables.{Corners}
 use Rattle.patch.specs.Mask.{Fraction, innerMask, edgeMask, boundaryEdgeMask, smoothCornerMask, boundaryCornerMask, vertexMask}
 use Rattle.patch.specs.Point.{View, x, faces, inside, weight, sharp, ringTerm, sharpSum, ringSum, fixed}
 use Rattle.patch.specs.Point.{cornerPoint, innerPoint, edgePoint, alongPoint, beforePoint, Kind, corner, along, before, inner, point}

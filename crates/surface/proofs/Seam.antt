@@ -6,10 +6,11 @@ use native.Mathlib.Nat.{mod-lt}
 use native.Mathlib.Omega.{arith}
 use borrow.Author.Tests.{ne-eqb}
 use Rattle.mesh.specs.Limits.{noTwin}
-use Rattle.mesh.specs.Corner.{next, Corners}
+use Rattle.mesh.specs.Corner.{next}
 use Rattle.mesh.specs.HalfEdge.{twin, boundary, Simple}
 use Rattle.mesh.proofs.CornerLaws.{prev-next, not-none, turn-none, turn-first}
 use Rattle.mesh.proofs.TwinLaws.{twin-ends, twin-twin}
+use Rattle.mesh.specs.Tables.{Corners}
 use Rattle.sample.proofs.SampleLaws.{rounded-edge-flip}
 use Rattle.patch.specs.Point.{View, sharp, cornerPoint, edgePoint, alongPoint, beforePoint, point}
 use Rattle.patch.specs.Patch.{owner, kind, patchPoint, units, control}

@@ -7,12 +7,13 @@ use native.Mathlib.Nat.{suc-add, not-suc-le-zero}
 use native.Mathlib.Omega.{arith}
 use Rattle.finite.proofs.AnyAll.{same-test}
 use Rattle.mesh.specs.Limits.{noTwin}
-use Rattle.mesh.specs.Corner.{Corners}
 use Rattle.mesh.specs.HalfEdge.{twin, Simple}
-use Rattle.mesh.specs.Fan.{valence, backAround, iterate, fanBy, fan, Turn}
+use Rattle.mesh.specs.Fan.{valence, iterate, fanBy, fan}
 use Rattle.mesh.proofs.CirculationLaws.{Turning, Keeps, iterate-in}
 use Rattle.mesh.proofs.TurnLaws.{turn-at}
 use Rattle.mesh.proofs.FanLaws.{fanBy-means, means-fanBy, fan-turning, fan-keeps}
+use Rattle.mesh.specs.Tables.{Corners}
+use Rattle.mesh.specs.Circulation.{backAround, Turn}
 
 -- steps on and back change places
 turning-back : {n : ℕ} {s b : ℕ → ℕ} → Turning n s b → Turning n b s

@@ -10,11 +10,12 @@ use native.Mathlib.Omega.{arith}
 use Rattle.finite.proofs.FoldLaws.{fold-ext}
 use Rattle.finite.proofs.AnyAll.{any-monoid, all-monoid}
 use Rattle.mesh.specs.Limits.{noTwin}
-use Rattle.mesh.specs.Corner.{Corners}
 use Rattle.mesh.specs.HalfEdge.{twin}
-use Rattle.mesh.specs.Fan.{valence, around, backAround, iterate, fanBy, fan}
+use Rattle.mesh.specs.Fan.{valence, around, iterate, fanBy, fan}
 use Rattle.mesh.proofs.CornerLaws.{not-none}
 use Rattle.mesh.proofs.CirculationLaws.{around-in, around-out, back-none, back-some, back-out}
+use Rattle.mesh.specs.Tables.{Corners}
+use Rattle.mesh.specs.Circulation.{backAround}
 use Rattle.symmetry.proofs.Sense.{Sense, same, reversed, entering, origin, entering-below, origin-below}
 use Rattle.symmetry.proofs.Iso.{Sound, Iso, Moved, moved-same, entering-moves, twin-moves}
 use Rattle.symmetry.proofs.VertexMoves.{gather-moves, valence-moves}

@@ -12,10 +12,11 @@ use borrow.Author.Tests.{ne-eqb}
 use Rattle.finite.specs.Permutation.{Permutation}
 use Rattle.finite.proofs.PermutationLaws.{to-injective, to-same}
 use Rattle.mesh.specs.Limits.{noTwin}
-use Rattle.mesh.specs.Corner.{turn, next, across, prev, Corners}
+use Rattle.mesh.specs.Corner.{turn, next, across, prev}
 use Rattle.mesh.specs.HalfEdge.{twin, boundary, Simple}
 use Rattle.mesh.proofs.CornerLaws.{not-none, turn-none, turn-suc}
 use Rattle.mesh.proofs.TwinLaws.{twin-cases, twin-is}
+use Rattle.mesh.specs.Tables.{Corners}
 use Rattle.symmetry.proofs.Sense.{Sense, same, turned, ahead, behind, turned-none, turned-suc, turned-across, turned-behind, turned-below}
 use Rattle.symmetry.proofs.Sense.{leaving, entering, origin, target, origin-leaving, leaving-origin, origin-entering, target-origin}
 use Rattle.symmetry.proofs.Sense.{leaving-below, entering-below, origin-below, target-below, Opposite, opposite, opposite-same, simple-in}

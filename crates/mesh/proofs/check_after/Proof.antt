@@ -12,9 +12,9 @@ use lib.Dec.{eqb}
 use lib.ListN.{length, getD, getD-replicate}
 use borrow.Author.Tests.{ltb-false}
 use borrow.Author.Needs.{needs}
-use Rattle.finite.specs.Table.{Row, firstMet}
+use Rattle.finite.specs.Table.{Row, firstMet, refusalOf}
 use Rattle.finite.proofs.FilledLaws.{filled-at, filled-again}
-use Rattle.finite.proofs.TableLaws.{none-met}
+use Rattle.finite.proofs.TableLaws.{none-met, refusal-some}
 use Rattle.mesh.specs.declared.model.Checked.the-variants.{Accepted}
 use Rattle.mesh.specs.declared.model.Mesh.{Mesh}
 use Rattle.mesh.specs.Limits.{maxVertices}
@@ -22,10 +22,10 @@ use Rattle.mesh.specs.HalfEdge.{twin}
 use Rattle.mesh.specs.IndexedMesh.{IndexedMesh, indexed, corners, at}
 use Rattle.mesh.specs.Refusal.{earlyRows, lateRows}
 use Rattle.mesh.specs.Answer.{checked, twinsShort, lentRows, given}
-use Rattle.mesh.specs.Private.{refusalOf, Holds, Chained}
-use Rattle.mesh.proofs.PhaseLaws.{Passed, early-passed, refusal-some, answer-early, twins-early, answer-late, twins-late, answer-accepted, twins-accepted}
+use Rattle.mesh.proofs.PhaseLaws.{Passed, early-passed, answer-early, twins-early, answer-late, twins-late, answer-accepted, twins-accepted}
 use Rattle.mesh.proofs.check_after.Statement.{statement}
 use Rattle.mesh.proofs.check_after.Tie as tie
+use Rattle.mesh.specs.Tables.{Holds, Chained}
 
 -- ---- at the entry: the mesh that was passed, the list that was lent for its twins, and the call's own rows
 module _ (s : tie.Start) where

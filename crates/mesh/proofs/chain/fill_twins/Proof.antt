@@ -8,9 +8,9 @@ use borrow.Author.Needs.{needs}
 use Rattle.finite.proofs.FilledLaws.{filled-start, filled-more, filled-all}
 use Rattle.finite.specs.Filled.{filled}
 use Rattle.mesh.specs.HalfEdge.{twin}
-use Rattle.mesh.specs.Private.{vertexOf}
 use Rattle.mesh.proofs.chain.fill_twins.Statement.{statement}
 use Rattle.mesh.proofs.chain.fill_twins.Tie as tie
+use Rattle.mesh.specs.Tables.{vertexOf}
 
 abbrev Inv-loop : tie.InvT-loop
 Inv-loop faces n head link twins₀ c₀ twins c = (c ≤ n) × (length twins ≡ length twins₀) × (twins ≡ filled (twin (vertexOf faces) n) c twins₀)

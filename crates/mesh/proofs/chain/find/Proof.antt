@@ -6,12 +6,12 @@ use native.Mathlib.Omega.{arith}
 use lib.Dec.{eqb}
 use lib.ListN.{length, getD}
 use Rattle.mesh.specs.Corner.{next}
-use Rattle.mesh.specs.Private.{vertexOf, latest}
 use Rattle.mesh.proofs.ChainLaws.{latest-le, Walked, walked-start, walked-found, walked-none, walked-more}
 use Rattle.mesh.proofs.SizeLaws.{indices-corners}
 use Rattle.mesh.proofs.CornerLaws.{next-below}
 use Rattle.mesh.proofs.chain.find.Statement.{statement}
 use Rattle.mesh.proofs.chain.find.Tie as tie
+use Rattle.mesh.specs.Tables.{vertexOf, latest}
 
 abbrev Inv-loop : tie.InvT-loop
 Inv-loop faces n link c p start q u₀ u = Walked (vertexOf faces) p q c u

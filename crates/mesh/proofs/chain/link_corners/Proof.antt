@@ -13,10 +13,10 @@ use Rattle.finite.proofs.AnyAll.{any-start, any-more, any-found, any-not}
 use Rattle.mesh.specs.Limits.{maxVertices}
 use Rattle.mesh.specs.Corner.{next}
 use Rattle.mesh.specs.HalfEdge.{runs}
-use Rattle.mesh.specs.Private.{vertexOf, latest, Chained}
 use Rattle.mesh.proofs.ChainLaws.{chained-start, chained-more, doubled-earlier}
 use Rattle.mesh.proofs.chain.link_corners.Statement.{statement}
 use Rattle.mesh.proofs.chain.link_corners.Tie as tie
+use Rattle.mesh.specs.Tables.{vertexOf, latest, Chained}
 
 abbrev Inv-loop : tie.InvT-loop
 Inv-loop faces n head₀ link₀ c₀ head link c =

@@ -6,10 +6,10 @@ use native.Mathlib.Omega.{arith}
 use native.Mathlib.Nat.{le-of-lt}
 use lib.Dec.{eqb}
 use Rattle.mesh.specs.HalfEdge.{runs}
-use Rattle.mesh.specs.Private.{vertexOf, latest}
 use Rattle.mesh.proofs.ChainLaws.{latest-any}
 use Rattle.mesh.proofs.chain.occurs_before.Statement.{statement}
 use Rattle.mesh.proofs.chain.occurs_before.Tie as tie
+use Rattle.mesh.specs.Tables.{vertexOf, latest}
 
 mul-wide : tie.Need-mul-wide
 mul-wide c = omega arith

@@ -6,12 +6,12 @@ use native.Mathlib.Omega.{arith}
 use Rattle.mesh.specs.Limits.{maxVertices}
 use Rattle.mesh.specs.Corner.{next}
 use Rattle.mesh.specs.HalfEdge.{runs}
-use Rattle.mesh.specs.Private.{vertexOf, latest}
 use Rattle.mesh.proofs.ChainLaws.{twin-none, twin-found}
 use Rattle.mesh.proofs.SizeLaws.{indices-corners}
 use Rattle.mesh.proofs.CornerLaws.{next-below}
 use Rattle.mesh.proofs.chain.twin_of.Statement.{statement}
 use Rattle.mesh.proofs.chain.twin_of.Tie as tie
+use Rattle.mesh.specs.Tables.{vertexOf, latest}
 
 -- the end of half-edge c has a place in the table of heads
 inside : (c : tie.After-wide) → c .wide .result < maxVertices

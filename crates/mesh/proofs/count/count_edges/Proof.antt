@@ -9,9 +9,9 @@ use lib.Dec.{ltb}
 use borrow.Author.Needs.{needs}
 use Rattle.finite.proofs.Counting.{count-start, count-bit, count-all, count-le, indicator-le}
 use Rattle.finite.specs.Fold.{countBelow}
-use Rattle.mesh.specs.Private.{twinOf}
 use Rattle.mesh.proofs.count.count_edges.Statement.{statement}
 use Rattle.mesh.proofs.count.count_edges.Tie as tie
+use Rattle.mesh.specs.Tables.{twinOf}
 
 -- half-edge d comes before its twin
 abbrev leads : List ℕ → ℕ → Bool

@@ -9,9 +9,9 @@ use borrow.Author.Needs.{needs}
 use borrow.Author.Tests.{le-leb, lt-leb}
 use Rattle.finite.specs.Fold.{anyBelow}
 use Rattle.finite.proofs.AnyAll.{any-start, any-more, any-found, any-not}
-use Rattle.mesh.specs.Private.{vertexOf}
 use Rattle.mesh.proofs.entries.any_vertex_off.Statement.{statement}
 use Rattle.mesh.proofs.entries.any_vertex_off.Tie as tie
+use Rattle.mesh.specs.Tables.{vertexOf}
 
 abbrev Inv-loop : tie.InvT-loop
 Inv-loop faces n v c₀ c = (c ≤ n) × (anyBelow (λ d. leb v (vertexOf faces d)) c ≡ false)

@@ -9,9 +9,9 @@ use borrow.Author.Needs.{needs}
 use Rattle.finite.specs.Fold.{anyBelow}
 use Rattle.finite.proofs.AnyAll.{any-start, any-more, any-found, any-not}
 use Rattle.mesh.specs.Corner.{turn}
-use Rattle.mesh.specs.Private.{vertexOf}
 use Rattle.mesh.proofs.entries.any_vertex_twice.Statement.{statement}
 use Rattle.mesh.proofs.entries.any_vertex_twice.Tie as tie
+use Rattle.mesh.specs.Tables.{vertexOf}
 
 abbrev Inv-loop : tie.InvT-loop
 Inv-loop faces n c₀ c = (c ≤ n) × (anyBelow (λ d. anyBelow (λ i. eqb (vertexOf faces (turn (suc i) d)) (vertexOf faces d)) 3) c ≡ false)

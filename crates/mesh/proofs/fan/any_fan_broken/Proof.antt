@@ -8,10 +8,10 @@ use borrow.Author.Needs.{needs}
 use Rattle.finite.specs.Fold.{anyBelow}
 use Rattle.finite.proofs.AnyAll.{any-start, any-more, any-found, any-not}
 use Rattle.mesh.specs.Fan.{fan}
-use Rattle.mesh.specs.Private.{vertexOf}
 use Rattle.mesh.proofs.ChainLaws.{latest-corner}
 use Rattle.mesh.proofs.fan.any_fan_broken.Statement.{statement}
 use Rattle.mesh.proofs.fan.any_fan_broken.Tie as tie
+use Rattle.mesh.specs.Tables.{vertexOf}
 
 abbrev Inv-loop : tie.InvT-loop
 Inv-loop faces n v twins valences head p₀ p = (p ≤ v) × (anyBelow (λ q. not (fan (vertexOf faces) n q)) p ≡ false)

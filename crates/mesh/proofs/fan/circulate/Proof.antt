@@ -2,10 +2,10 @@
 use Prim.Native.Nat.{_-_}
 use native.Mathlib.Omega.{arith}
 use borrow.Author.Needs.{needs}
-use Rattle.mesh.specs.Private.{twinOf}
 use Rattle.mesh.proofs.WalkLaws.{Onward, Backward, onward-start, onward-in, onward-more, onward-less, onward-end, backward-start, backward-in, backward-more, backward-less, backward-end}
 use Rattle.mesh.proofs.fan.circulate.Statement.{statement}
 use Rattle.mesh.proofs.fan.circulate.Tie as tie
+use Rattle.mesh.specs.Tables.{twinOf}
 
 abbrev Inv-loop : tie.InvT-loop
 Inv-loop twins n start met₀ on₀ met on = Onward n (twinOf twins) start met on

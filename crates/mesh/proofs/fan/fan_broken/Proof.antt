@@ -6,12 +6,12 @@ use native.Mathlib.Omega.{arith}
 use lib.Dec.{eqb}
 use lib.ListN.{getD}
 use Rattle.mesh.specs.Limits.{maxVertices}
-use Rattle.mesh.specs.Private.{vertexOf, twinOf, twinOf}
 use Rattle.mesh.proofs.FanLaws.{table-fan}
 use Rattle.mesh.proofs.TwinLaws.{twin-paired, paired-ext}
 use Rattle.mesh.proofs.SizeLaws.{indices-corners}
 use Rattle.mesh.proofs.fan.fan_broken.Statement.{statement}
 use Rattle.mesh.proofs.fan.fan_broken.Tie as tie
+use Rattle.mesh.specs.Tables.{vertexOf, twinOf}
 
 mul-wide : tie.Need-mul-wide
 mul-wide c = omega arith

@@ -4,11 +4,11 @@ use Prim.Native.Nat.{ℕ, _+_, _*_, _-_}
 use native.Mathlib.Omega.{arith}
 use lib.Dec.{ltb}
 use Rattle.finite.proofs.Counting.{count-le}
-use Rattle.mesh.specs.Private.{twinOf, vertexOf}
 use Rattle.mesh.specs.HalfEdge.{boundaries}
 use Rattle.mesh.proofs.PhaseLaws.{edges-table, edges-left}
 use Rattle.mesh.proofs.phases.accepted.Statement.{statement}
 use Rattle.mesh.proofs.phases.accepted.Tie as tie
+use Rattle.mesh.specs.Tables.{twinOf, vertexOf}
 
 -- the boundary half-edges are what the edges leave over
 left : (c : tie.After-count-edges) → 4 * c .before .before .before .args .f + boundaries (vertexOf (c .before .before .before .args .faces .now)) (4 * c .before .before .before .args .f) ≡ 2 * c .count-edges .result

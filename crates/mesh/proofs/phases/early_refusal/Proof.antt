@@ -6,13 +6,11 @@ use mathlib.Core.Option.{none}
 use Prim.Native.Nat.{ℕ}
 use native.Mathlib.Nat.{suc-ne-zero}
 use lib.ListN.{length}
-use Rattle.finite.specs.Table.{Row, firstMet}
-use Rattle.finite.proofs.TableLaws.{met-here, skipped, some-append, none-append}
+use Rattle.finite.specs.Table.{Row, firstMet, refusalOf}
+use Rattle.finite.proofs.TableLaws.{met-here, skipped, some-append, none-append, refusal-some}
 use Rattle.mesh.specs.IndexedMesh.{IndexedMesh, indexed}
 use Rattle.mesh.specs.Refusal.{sizesOff, entryRows}
-use Rattle.mesh.specs.Private.{refusalOf}
 use Rattle.mesh.proofs.SizeLaws.{sizes-false}
-use Rattle.mesh.proofs.PhaseLaws.{refusal-some}
 use Rattle.mesh.proofs.phases.early_refusal.Statement.{statement}
 use Rattle.mesh.proofs.phases.early_refusal.Tie as tie
 

@@ -11,11 +11,11 @@ use Rattle.finite.proofs.TableLaws.{From, all-rows, row-met, row-passed}
 use Rattle.mesh.specs.IndexedMesh.{IndexedMesh, indexed}
 use Rattle.mesh.specs.Refusal.{coordinateOff, tagOff, vertexOff, vertexTwice, halfEdgeTwice, entryRows}
 use Rattle.mesh.specs.WellFormed.{Sized}
-use Rattle.mesh.specs.Private.{Indices}
 use Rattle.mesh.proofs.PhaseLaws.{sized-indices}
 use Rattle.mesh.proofs.AcceptedLaws.{vertex-false}
 use Rattle.mesh.proofs.phases.entry_refusal.Statement.{statement}
 use Rattle.mesh.proofs.phases.entry_refusal.Tie as tie
+use Rattle.mesh.specs.Tables.{Indices}
 
 -- ---- at the entry: the mesh that was passed
 abbrev mesh : tie.Start → IndexedMesh

@@ -11,11 +11,11 @@ use Rattle.finite.specs.Table.{row}
 use Rattle.finite.proofs.TableLaws.{From, all-rows, row-met, row-passed}
 use Rattle.mesh.specs.Limits.{maxVertices}
 use Rattle.mesh.specs.Refusal.{vertexUnused, fanBroken, valenceOff, fanRows}
-use Rattle.mesh.specs.Private.{vertexOf}
 use Rattle.mesh.proofs.PhaseLaws.{unused-table, valence-table}
 use Rattle.mesh.proofs.AcceptedLaws.{unused-false}
 use Rattle.mesh.proofs.phases.fan_refusal.Statement.{statement}
 use Rattle.mesh.proofs.phases.fan_refusal.Tie as tie
+use Rattle.mesh.specs.Tables.{vertexOf}
 
 -- ---- at the entry: the vertices of the corners, and how many there are
 module _ (s : tie.Start) where

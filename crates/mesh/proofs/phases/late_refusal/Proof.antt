@@ -9,15 +9,15 @@ use native.Mathlib.Omega.{arith}
 use lib.IntN.{ℤ}
 use lib.ListN.{getD-replicate}
 use borrow.Author.Needs.{needs}
-use Rattle.finite.specs.Table.{firstMet}
-use Rattle.finite.proofs.TableLaws.{met-here, skipped, some-append, none-append}
+use Rattle.finite.specs.Table.{firstMet, refusalOf}
+use Rattle.finite.proofs.TableLaws.{met-here, skipped, some-append, none-append, refusal-some}
 use Rattle.mesh.specs.Limits.{maxVertices}
 use Rattle.mesh.specs.IndexedMesh.{IndexedMesh, indexed}
 use Rattle.mesh.specs.Refusal.{innerTagged, fanRows, vertexRows}
-use Rattle.mesh.specs.Private.{refusalOf, vertexOf}
-use Rattle.mesh.proofs.PhaseLaws.{refusal-some, tagged-table}
+use Rattle.mesh.proofs.PhaseLaws.{tagged-table}
 use Rattle.mesh.proofs.phases.late_refusal.Statement.{statement}
 use Rattle.mesh.proofs.phases.late_refusal.Tie as tie
+use Rattle.mesh.specs.Tables.{vertexOf}
 
 -- ---- at the entry: the mesh that was passed, with any positions, and its corners
 module _ (s : tie.Start) where

@@ -12,9 +12,9 @@ use Rattle.finite.proofs.Counting.{sum-monoid, count-le}
 use Rattle.finite.specs.Fold.{gather}
 use Rattle.mesh.specs.Fan.{valence}
 use Rattle.mesh.specs.Limits.{maxVertices}
-use Rattle.mesh.specs.Private.{vertexOf}
 use Rattle.mesh.proofs.vertex.count_corners.Statement.{statement}
 use Rattle.mesh.proofs.vertex.count_corners.Tie as tie
+use Rattle.mesh.specs.Tables.{vertexOf}
 
 abbrev Inv-loop : tie.InvT-loop
 Inv-loop faces n valences₀ c₀ valences c = (c ≤ n) × (length valences ≡ length valences₀) × Gathered 0 _+_ (vertexOf faces) (λ d. 1) c maxVertices valences

@@ -14,9 +14,9 @@ use Rattle.finite.specs.Fold.{gather}
 use Rattle.mesh.specs.HalfEdge.{boundary}
 use Rattle.mesh.specs.Limits.{noTwin, maxVertices}
 use Rattle.mesh.specs.Fan.{onBoundary}
-use Rattle.mesh.specs.Private.{vertexOf}
 use Rattle.mesh.proofs.vertex.mark_boundary.Statement.{statement}
 use Rattle.mesh.proofs.vertex.mark_boundary.Tie as tie
+use Rattle.mesh.specs.Tables.{vertexOf}
 
 abbrev Inv-loop : tie.InvT-loop
 Inv-loop faces n twins on-boundary₀ c₀ on-boundary c = (c ≤ n) × (length on-boundary ≡ length on-boundary₀) × Gathered false _||_ (vertexOf faces) (boundary (vertexOf faces) n) c maxVertices on-boundary

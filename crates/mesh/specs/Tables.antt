@@ -1,38 +1,29 @@
--- What only the contracts of private functions cite: the tables that the code keeps while it checks a mesh.
+-- Lists as tables, for the contracts of private functions: what the lists of a mesh say of its corners, and the tables that the code keeps.
 --
---   refusalOf r       a refusal as the private functions hand it on: its number, 0 for none
+--   Corners n         n corners fill whole faces, and their numbers stay below `noTwin`
 --   vertexOf faces c, twinOf twins c   the vertex of corner c, the twin of half-edge c, as the lists have them
 --   Holds z xs k g    each place p below k of the list xs holds g p
 --   latest p n        one more than the greatest number below n that has p; 0 for none
 --   Chained at c head link   the corners below c, chained by vertex from the last to the first: `head` has the last
 --                     corner at each vertex, `link` the corner at the same vertex before each corner, both plus 1, 0 for none
 --   Indices faces n   the first n numbers of the face list are whole faces, and their vertices have places in the tables
---   EntriesMet M head link r   r is the first cause from 3 to 7 that M meets, and where it meets none, head and link are its chains
---   EarlyMet M own head link r   the same for all causes that are checked before the twins are written, with the call's own row met as `own` says
---   FansMet at n v boundary r   r is the first cause from 8 to 10 that the corners meet, and where they meet none, `boundary` tells the vertices of
---                     the boundary
 --   Counted faces twins v f   what the counts of a mesh of v vertices and f faces rest on, with its twins
 use mathlib.Core.Path.{_≡_}
-use mathlib.Core.Bool.{Bool, false, cond}
+use mathlib.Core.Bool.{Bool, cond}
 use mathlib.Core.List.{List}
-use mathlib.Core.Option.{Option, none, some}
 use Prim.Native.Nat.{ℕ, zero, suc, _*_, _%_, _≤_, _<_}
 use lib.Dec.{eqb}
 use lib.ListN.{length, getD}
-use Rattle.mesh.specs.Limits.{maxVertices, maxFaces}
+use Rattle.mesh.specs.Limits.{maxVertices, maxFaces, noTwin}
 use Rattle.mesh.specs.Corner.{next}
-use Rattle.finite.specs.Table.{Row, firstMet}
 use Rattle.mesh.specs.HalfEdge.{twin, Simple}
-use Rattle.mesh.specs.Fan.{onBoundary}
-use Rattle.mesh.specs.IndexedMesh.{IndexedMesh, corners, at}
-use Rattle.mesh.specs.Refusal.{entryRows, earlyRows, fanRows}
+
+pub record Corners (n : ℕ) : Type 0 where
+  pub whole : n % 4 ≡ 0
+  pub fits : n < noTwin
 
 abbrev pub Holds : {A : Type 0} → A → List A → ℕ → (ℕ → A) → Type 0
 Holds z xs k g = (p : ℕ) → p < k → getD xs p z ≡ g p
-
-abbrev pub refusalOf : ℕ → Option ℕ
-refusalOf zero = none
-refusalOf (suc k) = some (suc k)
 
 abbrev pub vertexOf : List ℕ → ℕ → ℕ
 vertexOf faces c = getD faces c 0
@@ -61,15 +52,3 @@ pub record Counted (faces twins : List ℕ) (v f : ℕ) : Type 0 where
   pub ends : (c : ℕ) → c < 4 * f → vertexOf faces (next c) ≡ vertexOf faces c → ⊥
   pub twins-listed : 4 * f ≤ length twins
   pub twins-are : Holds 0 twins (4 * f) (twin (vertexOf faces) (4 * f))
-
-pub record EntriesMet (M : IndexedMesh) (head link : List ℕ) (r : ℕ) : Type 0 where
-  pub first : firstMet (entryRows M) ≡ refusalOf r
-  pub chained : r ≡ 0 → Chained (at M) (corners M) head link
-
-pub record EarlyMet (M : IndexedMesh) (own : ℕ) (head link : List ℕ) (r : ℕ) : Type 0 where
-  pub first : (rows : List Row) → firstMet rows ≡ refusalOf own → firstMet (earlyRows M rows) ≡ refusalOf r
-  pub chained : r ≡ 0 → Chained (at M) (corners M) head link
-
-pub record FansMet (at : ℕ → ℕ) (n v : ℕ) (boundary : List Bool) (r : ℕ) : Type 0 where
-  pub first : firstMet (fanRows at n v) ≡ refusalOf r
-  pub marked : r ≡ 0 → Holds false boundary maxVertices (onBoundary at n)
