@@ -3,7 +3,7 @@
 use mathlib.Core.Path.{_≡_, refl, ap, ap₂, subst}
 use mathlib.Core.Bool.{false}
 use mathlib.Core.List.{List, [], _∷_, map}
-use Prim.Native.Nat.{ℕ, zero, suc, _+_, _-_, _*_, _/_, _%_, _≤_, _<_}
+use Prim.Native.Nat.{ℕ, zero, suc, _+_, _*_, _/_, _%_, _≤_, _<_}
 use native.Mathlib.Nat.{not-suc-le-zero}
 use native.Mathlib.Omega.{arith}
 use lib.Dec.{eqb, ltb}
@@ -56,8 +56,8 @@ edge-seen S c d w a b e h g = rw (e, h .here-is, h .next-is, h .prev-is, g .acro
 
 -- ---- the two tables of a patch
 -- the corner of a face that owns a point is one of its corners
-pub owner-listed : {positions points : List ℤ} {faces twins weights : List ℕ} → Source positions faces twins weights points → (g m c : ℕ) → 4 * g + 4 ≤ length faces → c ≡ turn m (4 * g)
-    → c < length faces
+pub owner-listed : {positions points : List ℤ} {faces twins weights : List ℕ} → Source positions faces twins weights points
+    → (g m c : ℕ) → 4 * g + 4 ≤ length faces → c ≡ turn m (4 * g) → c < length faces
 owner-listed t g m c l e = rw e (turn-below (t .placed 0 (omega arith) .corners) m (4 * g) (omega arith))
 
 -- number 3m + k of a patch is coordinate k of its point m

@@ -144,7 +144,8 @@ module _ {R : ℕ → ℤ → ℤ → Type 0} (L : Linear R) where
     along-related : (c : ℕ) → c < corners M → Related R (alongPoint S c) (alongPoint S' c)
     unfolding alongPoint sharp
     along-related c l =
-        either (sharp (shape M) c) (λ _. boundary-edge-mask (at-corner c l) (at-turn 1 c l)) (λ e. edge-related c (twin (at M) (corners M) c) l (twin-below (shape M) c e))
+        either (sharp (shape M) c) (λ _. boundary-edge-mask (at-corner c l) (at-turn 1 c l))
+        (λ e. edge-related c (twin (at M) (corners M) c) l (twin-below (shape M) c e))
 
     before-related : (c : ℕ) → c < corners M → Related R (beforePoint S c) (beforePoint S' c)
     unfolding beforePoint sharp

@@ -1,5 +1,4 @@
 -- `ring_term` meets its contract: it is made of the values of the face, seen from the corner.
-use mathlib.Core.Path.{_∙_}
 use mir.Syntax.{w64}
 use borrow.Author.Needs.{needs}
 use Rattle.patch.proofs.SumLaws.{read-back}
