@@ -52,7 +52,7 @@ fn corner_weight(inside: bool, valence: u16) -> u16
     if inside {
         return valence;
     }
-    2 * valence
+    valence + valence
 }
 
 // Writes the weight of each corner.
