@@ -17,8 +17,8 @@ use Rattle.finite.proofs.FilledLaws.{filled-start, filled-more}
 use Rattle.mesh.specs.Limits.{noTwin}
 use Rattle.mesh.specs.Corner.{turn}
 use Rattle.mesh.specs.HalfEdge.{boundary}
-use Rattle.mesh.specs.Private.{vertexOf, twinOf}
 use Rattle.mesh.proofs.CornerLaws.{turn-below}
+use Rattle.mesh.specs.Tables.{vertexOf, twinOf}
 use Rattle.patch.specs.Mask.{Fraction, innerMask, edgeMask}
 use Rattle.patch.specs.Point.{View, weight, sharp, ringTerm, innerPoint, edgePoint}
 use Rattle.patch.specs.Patch.{owner, kind}

@@ -13,15 +13,17 @@ use Rattle.finite.proofs.FoldLaws.{fold-ext, fold-op, fold-only}
 use Rattle.finite.proofs.AnyAll.{and-true}
 use Rattle.finite.proofs.Gather.{gather-along}
 use Rattle.finite.proofs.IntegerSum.{sumℤ-monoid}
-use Rattle.mesh.specs.Corner.{next, across, prev, Corners}
+use Rattle.mesh.specs.Corner.{next, across, prev}
 use Rattle.mesh.specs.HalfEdge.{twin, boundary, Simple}
-use Rattle.mesh.specs.Fan.{valence, onBoundary, around, backAround, iterate, fan, Turn}
+use Rattle.mesh.specs.Fan.{valence, onBoundary, around, iterate, fan}
 use Rattle.mesh.proofs.CornerLaws.{next-below, not-none}
 use Rattle.mesh.proofs.TwinLaws.{twin-cases, twin-ends}
 use Rattle.mesh.proofs.CirculationLaws.{around-in, back-some}
 use Rattle.mesh.proofs.TurnLaws.{turn-first, turn-at}
 use Rattle.mesh.proofs.FanLaws.{fan-turning, fan-keeps, fan-means}
 use Rattle.mesh.proofs.BoundaryLaws.{One, BoundaryVertex, inner-vertex}
+use Rattle.mesh.specs.Tables.{Corners}
+use Rattle.mesh.specs.Circulation.{backAround, Turn}
 use Rattle.patch.specs.Point.{Shape, View, x, sharp, sumAt, sharpSum, ringSum}
 
 -- a half-edge that is not sharp has a twin

@@ -13,15 +13,15 @@ use borrow.Author.Tests.{eqb-true, eqb-false, not-false}
 use Rattle.integer.proofs.Laws.{abs-+}
 use Rattle.finite.proofs.FoldLaws.{bool-cases}
 use Rattle.mesh.specs.Limits.{maxVertices, maxCoordinate, maxValence}
-use Rattle.mesh.specs.Corner.{turn, next, prev, across, Corners}
+use Rattle.mesh.specs.Corner.{turn, next, prev, across}
 use Rattle.mesh.specs.HalfEdge.{boundary}
 use Rattle.mesh.specs.Fan.{onBoundary}
 use Rattle.mesh.specs.IndexedMesh.{IndexedMesh, corners, at, tag}
 use Rattle.mesh.specs.WellFormed.{WellFormed}
-use Rattle.mesh.specs.Private.{Holds, Indices}
 use Rattle.mesh.proofs.CornerLaws.{turn-below}
 use Rattle.mesh.proofs.BoundaryLaws.{boundary-vertex}
 use Rattle.mesh.proofs.AcceptedLaws.{accepted-corners}
+use Rattle.mesh.specs.Tables.{Corners, Holds, Indices}
 use Rattle.patch.specs.Point.{Shape, View, x, ringTerm, sharpTerm, faces, inside, weight, sharp, sharpSum, ringSum, fixed, cornerPoint}
 use Rattle.patch.specs.Patch.{shape, view}
 use Rattle.patch.specs.Private.{shapeOf, seen, Coordinates, cornerFrom}

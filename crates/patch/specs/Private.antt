@@ -24,10 +24,10 @@ use lib.Dec.{eqb}
 use lib.IntN.{ℤ, pos, natAbs}
 use lib.ListN.{length, getD}
 use Rattle.mesh.specs.Limits.{maxVertices, maxCoordinate, cornerTag, noTwin}
-use Rattle.mesh.specs.Corner.{turn, next, across, prev, Corners}
+use Rattle.mesh.specs.Corner.{turn, next, across, prev}
 use Rattle.mesh.specs.HalfEdge.{twin}
 use Rattle.mesh.specs.IndexedMesh.{IndexedMesh, corners}
-use Rattle.mesh.specs.Private.{Holds, vertexOf, twinOf}
+use Rattle.mesh.specs.Tables.{Corners, Holds, vertexOf, twinOf}
 use Rattle.patch.specs.Mask.{Fraction, smoothCornerMask, boundaryCornerMask, vertexMask}
 use Rattle.patch.specs.Point.{Shape, View, Kind, corner, along, before, inner, x, faces, inside, weight, sharpSum, ringSum, cornerPoint, innerPoint, alongPoint, beforePoint}
 use Rattle.patch.specs.Patch.{owner, kind, shape, view, units}

@@ -10,7 +10,7 @@ ghost use Prim.Native.Nat.{_+_, _*_, _≤_, _<_};
 ghost use lib.IntN.{pos, natAbs, _+ℤ_, _*ℤ_};
 ghost use lib.ListN.{length, getD, set};
 ghost use Rattle.mesh.specs.Limits.{maxVertices, maxCoordinate};
-ghost use Rattle.mesh.specs.Private.{Holds, Indices};
+ghost use Rattle.mesh.specs.Tables.{Holds, Indices};
 ghost use Rattle.patch.specs.Point.{sharpTerm, ringTerm};
 ghost use Rattle.patch.specs.Private.{seen, Coordinates, Twins, Sums};
 

@@ -5,7 +5,7 @@ ghost use Prim.Native.Nat.{_+_, _*_, _<_};
 ghost use lib.IntN.{pos};
 ghost use lib.ListN.{length, getD};
 ghost use Rattle.mesh.specs.Corner.{turn};
-ghost use Rattle.mesh.specs.Private.{vertexOf};
+ghost use Rattle.mesh.specs.Tables.{vertexOf};
 ghost use Rattle.patch.specs.Private.{seen, Coordinates, SeenFrom, boundaryIn, sharpIn};
 
 // One coordinate of the four vertices of a face, seen from a corner: of its own vertex, of the next, the one across and the previous.

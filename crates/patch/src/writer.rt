@@ -9,8 +9,8 @@ ghost use Prim.Native.Nat.{ℕ, _+_, _*_, _≤_, _<_};
 ghost use lib.IntN.{pos};
 ghost use lib.ListN.{length, getD};
 ghost use Rattle.finite.specs.Filled.{listBelow, filled};
-ghost use Rattle.mesh.specs.Private.{vertexOf};
 ghost use Rattle.patch.specs.Private.{Source, kindOf, pointFrom, numberFrom};
+ghost use Rattle.mesh.specs.Tables.{vertexOf};
 
 // The four points of its face that each corner owns.
 pub enum Kind {

@@ -11,7 +11,7 @@ use Rattle.finite.proofs.Gather.{Gathered, gathered-none, gathered-more}
 use Rattle.finite.proofs.Counting.{sum-monoid}
 use Rattle.mesh.specs.Limits.{maxVertices}
 use Rattle.mesh.specs.Fan.{valence, onBoundary}
-use Rattle.mesh.specs.Private.{vertexOf}
+use Rattle.mesh.specs.Tables.{vertexOf}
 use Rattle.patch.specs.Private.{boundaryIn}
 use Rattle.patch.proofs.SumLaws.{gather-ext, gather-few, indicator-few, count-none}
 use Rattle.patch.proofs.FacePointLaws.{boundary-in}

@@ -7,7 +7,7 @@ use lib.ListN.{length, length-set}
 use Rattle.finite.specs.Filled.{filled}
 use Rattle.finite.proofs.FilledLaws.{filled-start, filled-more, filled-all}
 use Rattle.mesh.specs.Limits.{maxVertices}
-use Rattle.mesh.specs.Private.{vertexOf}
+use Rattle.mesh.specs.Tables.{vertexOf}
 use Rattle.patch.specs.Point.{Shape, weight}
 use Rattle.patch.specs.Private.{shapeOf}
 use Rattle.patch.proofs.SumLaws.{valence-few}

@@ -4,8 +4,8 @@ use Prim.Native.Nat.{ℕ, _<_}
 use lib.ListN.{length}
 use borrow.Author.Needs.{needs}
 use Rattle.mesh.specs.Corner.{prev}
-use Rattle.mesh.specs.Private.{twinOf}
 use Rattle.mesh.proofs.CornerLaws.{prev-below}
+use Rattle.mesh.specs.Tables.{twinOf}
 use Rattle.patch.specs.Point.{View, sharp, edgePoint, beforePoint}
 use Rattle.patch.specs.Private.{seen, shapeOf, sharpIn}
 use Rattle.patch.proofs.MaskLaws.{stored-is}

@@ -10,7 +10,7 @@ use lib.ListN.{length, getD}
 use borrow.Author.Needs.{needs}
 use Rattle.finite.proofs.FilledLaws.{filled-at}
 use Rattle.mesh.specs.IndexedMesh.{IndexedMesh, indexed, corners}
-use Rattle.mesh.specs.Private.{Holds}
+use Rattle.mesh.specs.Tables.{Holds}
 use Rattle.patch.specs.Point.{weight, cornerPoint}
 use Rattle.patch.specs.Patch.{shape, view, units}
 use Rattle.patch.specs.Private.{shapeOf}

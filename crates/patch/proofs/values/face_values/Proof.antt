@@ -7,8 +7,8 @@ use mir.Syntax.{w64}
 use borrow.Author.Needs.{needs}
 use Rattle.mesh.specs.Limits.{maxCoordinate}
 use Rattle.mesh.specs.Corner.{turn}
-use Rattle.mesh.specs.Private.{vertexOf}
 use Rattle.mesh.proofs.CornerLaws.{turn-below}
+use Rattle.mesh.specs.Tables.{vertexOf}
 use Rattle.patch.specs.Point.{View, x}
 use Rattle.patch.specs.Private.{seen}
 use Rattle.patch.proofs.SumLaws.{read-back}
