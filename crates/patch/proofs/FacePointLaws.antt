@@ -1,13 +1,13 @@
--- What the points of a patch are read from: the listed twins tell which half-edges are sharp, the values of the faces at a corner make its points,
+-- What the points of a patch are read from: the listed twins tell which half-edges are sharp, the values of the faces at a corner make its points and its ring term,
 -- two tables tell which point of which corner each of the sixteen is, and three coordinates are a point.
 use mathlib.Core.Path.{_≡_, refl, ap, ap₂, subst}
 use mathlib.Core.Bool.{false}
 use mathlib.Core.List.{List, [], _∷_, map}
-use Prim.Native.Nat.{ℕ, zero, suc, _+_, _-_, _*_, _/_, _%_, _≤_, _<_}
+use Prim.Native.Nat.{ℕ, zero, suc, _+_, _*_, _/_, _%_, _≤_, _<_}
 use native.Mathlib.Nat.{not-suc-le-zero}
 use native.Mathlib.Omega.{arith}
 use lib.Dec.{eqb, ltb}
-use lib.IntN.{ℤ}
+use lib.IntN.{ℤ, pos, _+ℤ_, _*ℤ_}
 use lib.ListN.{length, getD, set}
 use borrow.Author.Tests.{ltb-true}
 use Rattle.finite.specs.Fold.{foldBelow}
@@ -20,11 +20,12 @@ use Rattle.mesh.specs.HalfEdge.{boundary}
 use Rattle.mesh.proofs.CornerLaws.{turn-below}
 use Rattle.mesh.specs.Tables.{vertexOf, twinOf}
 use Rattle.patch.specs.Mask.{Fraction, innerMask, edgeMask}
-use Rattle.patch.specs.Point.{View, weight, sharp, innerPoint, edgePoint}
+use Rattle.patch.specs.Point.{View, weight, sharp, ringTerm, innerPoint, edgePoint}
 use Rattle.patch.specs.Patch.{owner, kind}
 use Rattle.patch.specs.Private.{shapeOf, SeenFrom, Made, boundaryIn, sharpIn, Twins, Source, pointFrom, numberFrom}
 use Rattle.patch.specs.declared.fraction.Fraction as code
 use Rattle.patch.specs.declared.values.FaceValues.{FaceValues}
+use Rattle.patch.proofs.MaskLaws.{stored, stored-is}
 use Rattle.patch.proofs.NeighbourLaws.{twin-below}
 
 -- ---- twins
@@ -54,10 +55,16 @@ pub edge-seen : (S : View) (c d w : ℕ) (a b : FaceValues) → w ≡ weight (S 
 unfolding edgePoint
 edge-seen S c d w a b e h g = rw (e, h .here-is, h .next-is, h .prev-is, g .across-is, h .across-is, g .prev-is)
 
+pub ring-term-seen : (S : View) (c : ℕ) (a : FaceValues) → SeenFrom S c a
+    → pos 2 *ℤ stored (a .next) +ℤ pos 2 *ℤ stored (a .prev) +ℤ stored (a .across) ≡ ringTerm S c
+ring-term-seen S c a h =
+    let s = h .small in
+    rw (stored-is _ _ (s .next) (h .next-is), stored-is _ _ (s .prev) (h .prev-is), stored-is _ _ (s .across) (h .across-is))
+
 -- ---- the two tables of a patch
 -- the corner of a face that owns a point is one of its corners
-pub owner-listed : {positions points : List ℤ} {faces twins weights : List ℕ} → Source positions faces twins weights points → (g m c : ℕ) → 4 * g + 4 ≤ length faces → c ≡ turn m (4 * g)
-    → c < length faces
+pub owner-listed : {positions points : List ℤ} {faces twins weights : List ℕ} → Source positions faces twins weights points
+    → (g m c : ℕ) → 4 * g + 4 ≤ length faces → c ≡ turn m (4 * g) → c < length faces
 owner-listed t g m c l e = rw e (turn-below (t .placed 0 (omega arith) .corners) m (4 * g) (omega arith))
 
 -- number 3m + k of a patch is coordinate k of its point m

@@ -76,7 +76,8 @@ pub stored-is : (z y : ℤ) → natAbs z ≤ maxCoordinate → z ≡ y → store
 stored-is z y l e = exact-stored (one z) l (omega arith) ∙ e
 
 -- a numerator, stored as z, and a divisor
-pub made-of : (num z : ℤ) (den : ℕ) → z ≡ num → 0 < den → natAbs num ≤ maxCoordinate * den → Made (record { num = num; den = den }) (record { num = z; den = den })
+pub made-of : (num z : ℤ) (den : ℕ) → z ≡ num → 0 < den → natAbs num ≤ maxCoordinate * den
+    → Made (record { num = num; den = den }) (record { num = z; den = den })
 made-of num z den e p l = record { is = rw e; within = record { positive = p; small = rw e l } }
 
 pub made : (e : Sum) → Coordinates e → (den : ℕ) → weights e ≡ den → 0 < den → den ≤ 1024

@@ -38,7 +38,7 @@ module _ {M : IndexedMesh} (a : WellFormed M) {weights : List ℕ} {points : Lis
   -- a point from the tables is the point of the mesh
   point-from : (k c : ℕ) (q : Kind) → k < 3 → c < corners M → pointFrom (M .positions) (M .indices) points k c q ≡ units (point (view M k) c q)
   unfolding pointFrom point alongPoint beforePoint innerPoint edgePoint weight sharp
-  point-from k c corner h l = t .points-are (at M c) k (a .named c l) h
+  point-from k c corner h l = t .points-are k h (at M c) (a .named c l)
   point-from k c along h l = rw whole
   point-from k c before h l = rw whole
   point-from k c inner h l = rw whole

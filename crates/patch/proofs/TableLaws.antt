@@ -1,6 +1,6 @@
 -- The tables of an accepted mesh: what their entries are made of, the sizes of these, and the corner point from them.
 use mathlib.Core.Path.{_≡_, _∙_}
-use mathlib.Core.Bool.{Bool, false, cond, _||_}
+use mathlib.Core.Bool.{Bool, false, cond}
 use mathlib.Core.List.{List}
 use Prim.Native.Nat.{ℕ, _+_, _*_, _≤_, _<_}
 use native.Mathlib.Nat.{lt-of-lt-of-le}
@@ -12,7 +12,7 @@ use lib.Seq.{getD-set-same, getD-set-other}
 use borrow.Author.Tests.{eqb-true, eqb-false, not-false}
 use Rattle.integer.proofs.Laws.{abs-+}
 use Rattle.finite.proofs.FoldLaws.{bool-cases}
-use Rattle.mesh.specs.Limits.{maxVertices, maxCoordinate, maxValence, cornerTag}
+use Rattle.mesh.specs.Limits.{maxVertices, maxCoordinate, maxValence}
 use Rattle.mesh.specs.Corner.{turn, next, prev, across}
 use Rattle.mesh.specs.HalfEdge.{boundary}
 use Rattle.mesh.specs.Fan.{onBoundary}
@@ -22,10 +22,9 @@ use Rattle.mesh.proofs.CornerLaws.{turn-below}
 use Rattle.mesh.proofs.BoundaryLaws.{boundary-vertex}
 use Rattle.mesh.proofs.AcceptedLaws.{accepted-corners}
 use Rattle.mesh.specs.Tables.{Corners, Holds, Indices}
-use Rattle.patch.specs.Mask.{smoothCornerMask, boundaryCornerMask, vertexMask}
 use Rattle.patch.specs.Point.{Shape, View, x, ringTerm, sharpTerm, faces, inside, weight, sharp, sharpSum, ringSum, fixed, cornerPoint}
 use Rattle.patch.specs.Patch.{shape, view}
-use Rattle.patch.specs.Private.{shapeOf, seen, Coordinates}
+use Rattle.patch.specs.Private.{shapeOf, seen, Coordinates, cornerFrom}
 use Rattle.patch.proofs.MaskLaws.{one, term, _⊞_, size}
 use Rattle.patch.proofs.NeighbourLaws.{sharp-neighbours}
 use Rattle.patch.proofs.SumLaws.{cond-size, gather-size}
@@ -142,7 +141,7 @@ weight-entries G c p i m hp hi hm = rw (hi, hm, hp)
 
 pub corner-entries : (M : IndexedMesh) (p k : ℕ) (i : Bool) (n : ℕ) (z r s : ℤ)
     → i ≡ inside (shape M) p → n ≡ faces (shape M) p → z ≡ view M k .value p → r ≡ ringSum (view M k) p → s ≡ sharpSum (view M k) p
-    → cond i (smoothCornerMask n z r) (cond (eqb (tag M p) cornerTag || eqb n 1) (vertexMask z) (boundaryCornerMask z s)) ≡ cornerPoint (view M k) p
+    → cornerFrom i (tag M p) n z r s ≡ cornerPoint (view M k) p
 unfolding cornerPoint fixed
 corner-entries M p k i n z r s hi hn hz hr hs = rw (hi, hn, hz, hr, hs)
 

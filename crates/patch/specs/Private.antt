@@ -8,26 +8,27 @@
 --   Twins faces twins  the twins of all the half-edges are listed
 --   Counts G valences leaving   the faces of each vertex, and whether it is inside: no boundary half-edge leaves it
 --   Sums S ring sharp  the two sums at each vertex
---   Tables M weights points   the weight of each corner of the mesh M, and the corner point of each vertex, in units:
---                      coordinate k of vertex p at place 3p + k
+--   cornerFrom ..      the corner point of a vertex, inside or not, of its tag, its number of faces, its coordinate and its two sums
+--   CornersAre M k points   coordinate k of the corner point of each vertex p of the mesh M, in units, stands at place 3p + k
+--   Tables M weights points   the weight of each corner of the mesh M, and the corner point of each vertex
 --   Weights faces weights   the weights of all the corners are listed, and at most 32
 --   Source ..          all that a patch is written from: the lists of the mesh, its twins, and the tables of weights and corner points
 --   kindOf q           the kind of point, for each case of the code's enum `Kind`
 --   pointFrom .. k c q   coordinate k of the point of kind q at corner c, in units: a corner point is looked up in the table `points`
 --   numberFrom .. g i  number i of the 48 of face g, likewise
 use mathlib.Core.Path.{_≡_}
-use mathlib.Core.Bool.{Bool}
+use mathlib.Core.Bool.{Bool, cond, _||_}
 use mathlib.Core.List.{List}
 use Prim.Native.Nat.{ℕ, _+_, _*_, _/_, _%_, _≤_, _<_}
 use lib.Dec.{eqb}
 use lib.IntN.{ℤ, pos, natAbs}
 use lib.ListN.{length, getD}
-use Rattle.mesh.specs.Limits.{maxVertices, maxCoordinate, noTwin}
+use Rattle.mesh.specs.Limits.{maxVertices, maxCoordinate, cornerTag, noTwin}
 use Rattle.mesh.specs.Corner.{turn, next, across, prev}
 use Rattle.mesh.specs.HalfEdge.{twin}
-use Rattle.mesh.specs.IndexedMesh.{IndexedMesh, corners, at}
+use Rattle.mesh.specs.IndexedMesh.{IndexedMesh, corners}
 use Rattle.mesh.specs.Tables.{Corners, Holds, vertexOf, twinOf}
-use Rattle.patch.specs.Mask.{Fraction}
+use Rattle.patch.specs.Mask.{Fraction, smoothCornerMask, boundaryCornerMask, vertexMask}
 use Rattle.patch.specs.Point.{Shape, View, Kind, corner, along, before, inner, x, faces, inside, weight, sharpSum, ringSum, cornerPoint, innerPoint, alongPoint, beforePoint}
 use Rattle.patch.specs.Patch.{owner, kind, shape, view, units}
 use Rattle.patch.specs.declared.fraction.Fraction as code
@@ -81,16 +82,25 @@ pub record Twins (faces twins : List ℕ) : Type 0 where
   pub are : Holds 0 twins (length faces) (twin (vertexOf faces) (length faces))
 
 pub record Counts (G : Shape) (valences leaving : List ℕ) : Type 0 where
+  pub valences-listed : maxVertices ≤ length valences
   pub valences-are : Holds 0 valences maxVertices (faces G)
+  pub leaving-listed : maxVertices ≤ length leaving
   pub inside-are : (p : ℕ) → p < maxVertices → eqb (getD leaving p 0) 0 ≡ inside G p
 
 pub record Sums (S : View) (ring sharp : List ℤ) : Type 0 where
   pub ring-are : Holds (pos 0) ring maxVertices (ringSum S)
   pub sharp-are : Holds (pos 0) sharp maxVertices (sharpSum S)
 
+abbrev pub cornerFrom : Bool → ℕ → ℕ → ℤ → ℤ → ℤ → Fraction
+cornerFrom inside tag n p ring sharp =
+    cond inside (smoothCornerMask n p ring) (cond (eqb tag cornerTag || eqb n 1) (vertexMask p) (boundaryCornerMask p sharp))
+
+abbrev pub CornersAre : IndexedMesh → ℕ → List ℤ → Type 0
+CornersAre M k points = (p : ℕ) → p < M .vertices → getD points (3 * p + k) (pos 0) ≡ units (cornerPoint (view M k) p)
+
 pub record Tables (M : IndexedMesh) (weights : List ℕ) (points : List ℤ) : Type 0 where
   pub weights-are : Holds 0 weights (corners M) (weight (shape M))
-  pub points-are : (p k : ℕ) → p < M .vertices → k < 3 → getD points (3 * p + k) (pos 0) ≡ units (cornerPoint (view M k) p)
+  pub points-are : (k : ℕ) → k < 3 → CornersAre M k points
 
 pub record Weights (faces weights : List ℕ) : Type 0 where
   pub listed : length faces ≤ length weights

@@ -2,13 +2,13 @@
 use crate::fraction::Fraction;
 use mesh::model::Mesh;
 ghost use mathlib.Core.Path.{_≡_};
-ghost use mathlib.Core.Bool.{false, cond, _||_};
+ghost use mathlib.Core.Bool.{false, _||_};
 ghost use Prim.Native.Nat.{_*_, _≤_, _<_};
 ghost use lib.Dec.{eqb};
 ghost use lib.IntN.{natAbs};
 ghost use Rattle.mesh.specs.Limits.{maxCoordinate, maxValence, cornerTag};
 ghost use Rattle.patch.specs.Mask.{smoothCornerMask, boundaryCornerMask, vertexMask};
-ghost use Rattle.patch.specs.Private.{Made};
+ghost use Rattle.patch.specs.Private.{Made, cornerFrom};
 
 // The corner point of an inner vertex with n faces.
 fn smooth_corner(n: u32, p: i64, s: i64) -> Fraction
@@ -61,7 +61,7 @@ pub(crate) fn corner_point(
 ) -> Fraction
     requires { ⌜ (0 < faces) × (faces ≤ maxValence) × (natAbs p ≤ maxCoordinate) × (natAbs ring ≤ 5 * maxCoordinate * faces) ⌝ }
     requires { ⌜ (inside ≡ false → natAbs sharp ≤ 2 * maxCoordinate) ⌝ }
-    ensures { λ r. ⌜ Made (cond inside (smoothCornerMask faces p ring) (cond (eqb tag cornerTag || eqb faces 1) (vertexMask p) (boundaryCornerMask p sharp))) r ⌝ }
+    ensures { λ r. ⌜ Made (cornerFrom inside tag faces p ring sharp) r ⌝ }
 {
     if inside {
         return smooth_corner(faces as u32, p, ring);

@@ -52,13 +52,13 @@ fn corner_weight(inside: bool, valence: u16) -> u16
     if inside {
         return valence;
     }
-    2 * valence
+    valence + valence
 }
 
 // Writes the weight of each corner.
 pub(crate) fn fill_weights(faces: &[u16], valences: &[u16], leaving: &[u16], weights: &mut [u16])
     requires { ⌜ Indices (now faces) (length (now faces)) × Counts (shapeOf (now faces)) (now valences) (now leaving) ⌝ }
-    requires { ⌜ (maxVertices ≤ length (now valences)) × (maxVertices ≤ length (now leaving)) × (length (now faces) ≤ length (now weights)) ⌝ }
+    requires { ⌜ length (now faces) ≤ length (now weights) ⌝ }
     ensures { λ _. ⌜ now (weights .exit) ≡ filled (weight (shapeOf (now (faces .entry)))) (length (now (faces .entry))) (now (weights .entry)) ⌝ }
 {
     for c in 0..faces.len() {

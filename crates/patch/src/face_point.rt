@@ -84,7 +84,8 @@ fn before_point(
 
 // The inner point at corner c.
 pub(crate) fn inner_points(positions: &[i32], faces: &[u16], weights: &[u16], c: usize) -> [i32; 3]
-    requires { ⌜ ((k : ℕ) → k < 3 → Coordinates (now positions) (now faces) k) × Weights (now faces) (now weights) × (c < length (now faces)) ⌝ }
+    requires { ⌜ ((k : ℕ) → k < 3 → Coordinates (now positions) (now faces) k) × (c < length (now faces)) ⌝ }
+    requires { ⌜ Weights (now faces) (now weights) ⌝ }
     ensures { λ r. ⌜ r ≡ listBelow (λ k. units (innerPoint (seen (now (positions .entry)) (now (faces .entry)) k) c)) 3 ⌝ }
 {
     point_in_units(
@@ -102,7 +103,8 @@ pub(crate) fn along_points(
     weights: &[u16],
     c: usize,
 ) -> [i32; 3]
-    requires { ⌜ ((k : ℕ) → k < 3 → Coordinates (now positions) (now faces) k) × Weights (now faces) (now weights) × Twins (now faces) (now twins) × (c < length (now faces)) ⌝ }
+    requires { ⌜ ((k : ℕ) → k < 3 → Coordinates (now positions) (now faces) k) × (c < length (now faces)) ⌝ }
+    requires { ⌜ Weights (now faces) (now weights) × Twins (now faces) (now twins) ⌝ }
     ensures { λ r. ⌜ r ≡ listBelow (λ k. units (alongPoint (seen (now (positions .entry)) (now (faces .entry)) k) c)) 3 ⌝ }
 {
     point_in_units(
@@ -120,7 +122,8 @@ pub(crate) fn before_points(
     weights: &[u16],
     c: usize,
 ) -> [i32; 3]
-    requires { ⌜ ((k : ℕ) → k < 3 → Coordinates (now positions) (now faces) k) × Weights (now faces) (now weights) × Twins (now faces) (now twins) × (c < length (now faces)) ⌝ }
+    requires { ⌜ ((k : ℕ) → k < 3 → Coordinates (now positions) (now faces) k) × (c < length (now faces)) ⌝ }
+    requires { ⌜ Weights (now faces) (now weights) × Twins (now faces) (now twins) ⌝ }
     ensures { λ r. ⌜ r ≡ listBelow (λ k. units (beforePoint (seen (now (positions .entry)) (now (faces .entry)) k) c)) 3 ⌝ }
 {
     point_in_units(

@@ -1,5 +1,4 @@
 // The two sums over the corners at each vertex, of one coordinate: over its ring, and over its sharp edges.
-use crate::values::FaceValues;
 use crate::values::face_values;
 use crate::values::is_boundary;
 use crate::values::is_sharp;
@@ -13,7 +12,7 @@ ghost use lib.ListN.{length, getD, set};
 ghost use Rattle.mesh.specs.Limits.{maxVertices, maxCoordinate};
 ghost use Rattle.mesh.specs.Tables.{Holds, Indices};
 ghost use Rattle.patch.specs.Point.{sharpTerm, ringTerm};
-ghost use Rattle.patch.specs.Private.{seen, Coordinates, Small, Twins, Sums};
+ghost use Rattle.patch.specs.Private.{seen, Coordinates, Twins, Sums};
 
 // The sum of two numbers.
 fn plus(a: i64, b: i64) -> i64
@@ -32,11 +31,11 @@ fn add_at(sums: &mut [i64], p: usize, x: i64)
 }
 
 // Twice the two neighbours of a corner, and the vertex across.
-fn ring_of(a: FaceValues) -> i64
-    requires { ⌜ Small a ⌝ }
-    ensures { λ r. ⌜ r ≡ pos 2 *ℤ a .next +ℤ pos 2 *ℤ a .prev +ℤ a .across ⌝ }
+fn ring_of(next: i64, prev: i64, across: i64) -> i64
+    requires { ⌜ (natAbs next ≤ maxCoordinate) × (natAbs prev ≤ maxCoordinate) × (natAbs across ≤ maxCoordinate) ⌝ }
+    ensures { λ r. ⌜ r ≡ pos 2 *ℤ next +ℤ pos 2 *ℤ prev +ℤ across ⌝ }
 {
-    2 * a.next + 2 * a.prev + a.across
+    2 * next + 2 * prev + across
 }
 
 // The term of corner c in the ring sum, of coordinate k.
@@ -44,7 +43,8 @@ fn ring_term(positions: &[i32], faces: &[u16], k: usize, c: usize) -> i64
     requires { ⌜ Coordinates (now positions) (now faces) k × (c < length (now faces)) ⌝ }
     ensures { λ r. ⌜ r ≡ ringTerm (seen (now (positions .entry)) (now (faces .entry)) k) c ⌝ }
 {
-    ring_of(face_values(positions, faces, k, c))
+    let a = face_values(positions, faces, k, c);
+    ring_of(a.next, a.prev, a.across)
 }
 
 // A number where b holds, else 0.

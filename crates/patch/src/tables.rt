@@ -13,9 +13,7 @@ ghost use lib.ListN.{length, getD};
 ghost use Rattle.mesh.specs.Limits.{maxVertices};
 ghost use Rattle.mesh.specs.IndexedMesh.{indexed};
 ghost use Rattle.mesh.specs.WellFormed.{WellFormed};
-ghost use Rattle.patch.specs.Point.{cornerPoint};
-ghost use Rattle.patch.specs.Patch.{view, units};
-ghost use Rattle.patch.specs.Private.{shapeOf, Twins, Counts, Tables};
+ghost use Rattle.patch.specs.Private.{shapeOf, Twins, Counts, CornersAre, Tables};
 
 // Writes coordinate k of the corner points.
 fn fill_coordinate(
@@ -30,9 +28,9 @@ fn fill_coordinate(
     k: usize,
     points: &mut [i32],
 )
-    requires { ⌜ WellFormed (indexed v f (now positions) (now tags) (now faces)) × Twins (now faces) (now twins) × Counts (shapeOf (now faces)) (now valences) (now leaving) ⌝ }
-    requires { ⌜ (maxVertices ≤ length (now valences)) × (maxVertices ≤ length (now leaving)) × (k < 3) × (3 * v ≤ length (now points)) ⌝ }
-    ensures { λ _. ⌜ ((p : ℕ) → p < v → getD (now (points .exit)) (3 * p + k) (pos 0) ≡ units (cornerPoint (view (indexed v f (now (positions .entry)) (now (tags .entry)) (now (faces .entry))) k) p)) ⌝ }
+    requires { ⌜ WellFormed (indexed v f (now positions) (now tags) (now faces)) × (k < 3) × (3 * v ≤ length (now points)) ⌝ }
+    requires { ⌜ Twins (now faces) (now twins) × Counts (shapeOf (now faces)) (now valences) (now leaving) ⌝ }
+    ensures { λ _. ⌜ CornersAre (indexed v f (now (positions .entry)) (now (tags .entry)) (now (faces .entry))) k (now (points .exit)) ⌝ }
     ensures { λ _. ⌜ ((p j : ℕ) → j < 3 → (j ≡ k → ⊥) → getD (now (points .exit)) (3 * p + j) (pos 0) ≡ getD (now (points .entry)) (3 * p + j) (pos 0)) ⌝ }
 {
     let mut ring = [0i64; Mesh::MAX_VERTICES];

@@ -1,5 +1,5 @@
 -- `count_faces` meets its contract: each place has the counts of the corners passed at its vertex, and no count of 1024 corners overflows.
-use mathlib.Core.Path.{_≡_, refl, sym, ap, _∙_}
+use mathlib.Core.Path.{_≡_, refl, ap, _∙_}
 use Prim.Native.Nat.{ℕ, _+_, _-_, _<_, _≤_}
 use native.Mathlib.Nat.{le-antisymm}
 use native.Mathlib.Numerals.{add-one-le, add-one-dec}
@@ -50,6 +50,12 @@ module _ (w : tie.After-wide Inv-loop μ-loop) where
   named : p < maxVertices
   named = rw (w .wide .ensures) (start .pre .0 .0 .named (head .loop .c) below)
 
+  valence-placed : p < length (head .loop .valences)
+  valence-placed = omega (arith, named, start .pre .1 .0 .0, head .loop .inv .1)
+
+  leaving-placed : p < length (head .loop .leaving)
+  leaving-placed = omega (arith, named, start .pre .1 .0 .1, head .loop .inv .2)
+
   few : head .loop .c < 1024
   few = omega (arith, below, start .pre .0 .0 .few)
 
@@ -71,7 +77,9 @@ placed c = first c .before .before
 loop-holds : tie.Need-loop-holds Inv-loop μ-loop
 loop-holds c =
     let s = entry c in
-    (omega arith, refl, refl, gathered-none 0 _+_ _ _ _ (s .args .valences .now) (s .pre .1 .1 .0), gathered-none 0 _+_ _ _ _ (s .args .leaving .now) (s .pre .1 .1 .1))
+    let valences = gathered-none 0 _+_ _ _ _ (s .args .valences .now) (s .pre .1 .1 .0) in
+    let leaving = gathered-none 0 _+_ _ _ _ (s .args .leaving .now) (s .pre .1 .1 .1) in
+    (omega arith, refl, refl, valences, leaving)
 
 mul-wide : tie.Need-mul-wide Inv-loop μ-loop
 mul-wide c = omega arith
@@ -85,8 +93,7 @@ wide-requires c κs = tt
 count-at-requires : tie.Need-count-at-requires Inv-loop μ-loop
 count-at-requires c κs =
     let w = c .before in
-    let s = start w in
-    (omega (arith, named w, s .pre .1 .0 .0, head w .loop .inv .1), omega (arith, valence-small w, few w))
+    (valence-placed w, omega (arith, valence-small w, few w))
 
 is-boundary-requires : tie.Need-is-boundary-requires Inv-loop μ-loop
 is-boundary-requires c κs = let w = placed c in omega (arith, below w, start w .pre .0 .1 .listed)
@@ -102,9 +109,8 @@ added c = c .one-if .ensures ∙ ap indicator (c .before .is-boundary .ensures)
 count-at-requires-2 : tie.Need-count-at-requires-2 Inv-loop μ-loop
 count-at-requires-2 c κs =
     let w = placed (c .before .before) in
-    let s = start w in
     let one : c .one-if .result ≤ 1 = rw (c .one-if .ensures) (indicator-few (c .before .is-boundary .result)) in
-    (omega (arith, named w, s .pre .1 .0 .1, head w .loop .inv .2), omega (arith, leaving-small w, few w))
+    (leaving-placed w, omega (arith, leaving-small w, few w))
 
 -- the end of a turn
 module _ (c : tie.After-slice-known4 Inv-loop μ-loop) where
@@ -124,15 +130,14 @@ loop-again : tie.Need-loop-again Inv-loop μ-loop
 loop-again c =
     let t = told c in
     let w = placed t in
-    let l = head w .loop in
-    let s = start w in (
+    let l = head w .loop in (
       add-one-le (below w),
       first t .count-at .kept .0 ∙ l .inv .1,
       second c .count-at2 .kept .0 ∙ l .inv .2,
       rw (first t .count-at .ensures)
-          (gathered-more sum-monoid (at w) (λ d. 1) maxVertices (l .c) (p w) _ (l .valences) (omega (arith, named w, s .pre .1 .0 .0, l .inv .1)) (w .wide .ensures) refl (l .inv .3)),
+          (gathered-more sum-monoid (at w) (λ d. 1) maxVertices (l .c) (p w) _ (l .valences) (valence-placed w) (w .wide .ensures) refl (l .inv .3)),
       rw (second c .count-at2 .ensures)
-          (gathered-more sum-monoid (at w) _ maxVertices (l .c) (p w) _ (l .leaving) (omega (arith, named w, s .pre .1 .0 .1, l .inv .2)) (w .wide .ensures)
+          (gathered-more sum-monoid (at w) _ maxVertices (l .c) (p w) _ (l .leaving) (leaving-placed w) (w .wide .ensures)
           (ap (λ (n : ℕ). getD (l .leaving) (p w) 0 + n) (added (second c .before))) (l .inv .4)),
     )
 
@@ -151,6 +156,8 @@ returns c =
     let n : ℕ = length (s .args .faces .now) in
     let all : l .c ≡ n = le-antisymm (l .inv .0) (c .loop-test .left) in
     record {
+      valences-listed = rw (l .inv .1) (s .pre .1 .0 .0);
+      leaving-listed = rw (l .inv .2) (s .pre .1 .0 .1);
       valences-are = λ p h. l .inv .3 p h ∙ ap (λ (m : ℕ). gather 0 _+_ at (λ d. 1) m p) all;
       inside-are = λ p h.
           ap (λ (m : ℕ). eqb m 0)

@@ -1,7 +1,6 @@
 -- `fill_weights` meets its contract: the tables have the faces of the corner's vertex, and whether it is inside, which make its weight.
-use mathlib.Core.Path.{_≡_, refl, ap, _∙_}
+use mathlib.Core.Path.{_≡_, refl, _∙_}
 use Prim.Native.Nat.{ℕ, _-_, _<_, _≤_}
-use native.Mathlib.Nat.{le-antisymm}
 use native.Mathlib.Numerals.{add-one-le, add-one-dec}
 use native.Mathlib.Omega.{arith}
 use lib.ListN.{length, length-set}
@@ -9,7 +8,7 @@ use Rattle.finite.specs.Filled.{filled}
 use Rattle.finite.proofs.FilledLaws.{filled-start, filled-more, filled-all}
 use Rattle.mesh.specs.Limits.{maxVertices}
 use Rattle.mesh.specs.Tables.{vertexOf}
-use Rattle.patch.specs.Point.{weight}
+use Rattle.patch.specs.Point.{Shape, weight}
 use Rattle.patch.specs.Private.{shapeOf}
 use Rattle.patch.proofs.SumLaws.{valence-few}
 use Rattle.patch.proofs.TableLaws.{weight-entries}
@@ -59,13 +58,13 @@ mul-corner-weight : tie.Need-mul-corner-weight Inv-loop μ-loop
 mul-corner-weight c = omega (arith, named c)
 
 shared-slice-read-corner-weight : tie.Need-shared-slice-read-corner-weight Inv-loop μ-loop
-shared-slice-read-corner-weight c = omega (arith, named (c .before), start (c .before) .pre .1 .1)
+shared-slice-read-corner-weight c = omega (arith, named (c .before), start (c .before) .pre .0 .1 .leaving-listed)
 
 mul-corner-weight-2 : tie.Need-mul-corner-weight-2 Inv-loop μ-loop
 mul-corner-weight-2 c = omega (arith, named (c .before))
 
 shared-slice-read-corner-weight-2 : tie.Need-shared-slice-read-corner-weight-2 Inv-loop μ-loop
-shared-slice-read-corner-weight-2 c = let w = c .before .before in omega (arith, named w, start w .pre .1 .0)
+shared-slice-read-corner-weight-2 c = let w = c .before .before in omega (arith, named w, start w .pre .0 .1 .valences-listed)
 
 corner-weight-requires : tie.Need-corner-weight-requires Inv-loop μ-loop
 corner-weight-requires c κs =
@@ -82,7 +81,7 @@ mul-weights : tie.Need-mul-weights Inv-loop μ-loop
 mul-weights c = let w = placed c in omega (arith, below w, start w .pre .0 .0 .few)
 
 slice-write-weights : tie.Need-slice-write-weights Inv-loop μ-loop
-slice-write-weights c = let w = placed c in omega (arith, below w, start w .pre .1 .2, head w .loop .inv .1)
+slice-write-weights c = let w = placed c in omega (arith, below w, start w .pre .1, head w .loop .inv .1)
 
 add-c : tie.Need-add-c Inv-loop μ-loop
 add-c c = let w = placed c in omega (arith, below w, start w .pre .0 .0 .few)
@@ -95,12 +94,13 @@ loop-again c =
     let w = placed c in
     let l = head w .loop in
     let s = start w in
+    let G : Shape = shapeOf (s .args .faces .now) in
     let counts = s .pre .0 .1 in (
       add-one-le (below w),
       length-set (l .weights) (l .c) _ ∙ l .inv .1,
-      filled-more (weight (shapeOf (s .args .faces .now))) (l .c) _ (s .args .weights .now) (l .weights) (omega (arith, below w, s .pre .1 .2)) (l .inv .2)
+      filled-more (weight G) (l .c) _ (s .args .weights .now) (l .weights) (omega (arith, below w, s .pre .1)) (l .inv .2)
           (c .corner-weight .ensures
-          ∙ weight-entries (shapeOf (s .args .faces .now)) (l .c) (p w) _ _ (w .wide .ensures) (counts .inside-are (p w) (named w)) (counts .valences-are (p w) (named w))),
+          ∙ weight-entries G (l .c) (p w) _ _ (w .wide .ensures) (counts .inside-are (p w) (named w)) (counts .valences-are (p w) (named w))),
     )
 
 same-length : tie.Need-same-length Inv-loop μ-loop

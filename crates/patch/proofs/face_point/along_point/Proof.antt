@@ -1,9 +1,8 @@
 -- `along_point` meets its contract: the listed twin tells whether the half-edge takes the boundary rule, and is the twin that the edge point names.
-use mathlib.Core.Path.{_≡_, sym, ap, _∙_}
-use Prim.Native.Nat.{ℕ}
+use mathlib.Core.Path.{_≡_, sym, _∙_}
 use borrow.Author.Needs.{needs}
-use Rattle.patch.specs.Point.{View, sharp, edgePoint, alongPoint}
-use Rattle.patch.specs.Private.{seen, shapeOf}
+use Rattle.patch.specs.Point.{sharp, alongPoint}
+use Rattle.patch.specs.Private.{shapeOf}
 use Rattle.patch.proofs.MaskLaws.{stored-is}
 use Rattle.patch.proofs.FacePointLaws.{sharp-in, twin-listed}
 use Rattle.patch.proofs.face_point.along_point.Statement.{statement}
@@ -13,9 +12,6 @@ use Rattle.patch.proofs.face_point.along_point.Tie as tie
 module _ (t : tie.After-is-sharp) where
   abbrev start : tie.Start
   start = t .before .before .before .before
-
-  abbrev S : View
-  S = seen (start .args .positions .now) (start .args .faces .now) (start .args .k)
 
   tested : sharp (shapeOf (start .args .faces .now)) (start .args .c) ≡ t .is-sharp .result
   tested = sym (t .is-sharp .ensures ∙ sharp-in (start .pre .2) (start .args .c) (start .pre .3))

@@ -7,16 +7,19 @@ use Rattle.mesh.specs.Corner.{prev}
 use Rattle.mesh.proofs.CornerLaws.{prev-below}
 use Rattle.mesh.specs.Tables.{twinOf}
 use Rattle.patch.specs.Point.{View, sharp, edgePoint, beforePoint}
-use Rattle.patch.specs.Private.{seen, shapeOf, sharpIn, Made}
+use Rattle.patch.specs.Private.{seen, shapeOf, sharpIn}
 use Rattle.patch.proofs.MaskLaws.{stored-is}
 use Rattle.patch.proofs.FacePointLaws.{made-is, sharp-in, twin-listed}
 use Rattle.patch.proofs.face_point.before_point.Statement.{statement}
 use Rattle.patch.proofs.face_point.before_point.Tie as tie
 
+abbrev entry : tie.After-turned → tie.Start
+entry c = c .before .before .before .before
+
 -- the half-edge before c, and the answer of the test
 module _ (t : tie.After-is-sharp) where
   abbrev start : tie.Start
-  start = t .before .before .before .before .before
+  start = entry (t .before)
 
   abbrev S : View
   S = seen (start .args .positions .now) (start .args .faces .now) (start .args .k)

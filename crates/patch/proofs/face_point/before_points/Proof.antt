@@ -15,13 +15,13 @@ abbrev start₂ : tie.After-before-point2 → tie.Start
 start₂ c = start₁ (c .before)
 
 before-point-requires : tie.Need-before-point-requires
-before-point-requires c κs = let s = c .before .before .before in (s .pre .0 0 (omega arith), s .pre .1, s .pre .2, s .pre .3)
+before-point-requires c κs = let s = c .before .before .before in (s .pre .0 .0 0 (omega arith), s .pre .1 .0, s .pre .1 .1, s .pre .0 .1)
 
 before-point-requires-2 : tie.Need-before-point-requires-2
-before-point-requires-2 c κs = let s = start₁ c in (s .pre .0 1 (omega arith), s .pre .1, s .pre .2, s .pre .3)
+before-point-requires-2 c κs = let s = start₁ c in (s .pre .0 .0 1 (omega arith), s .pre .1 .0, s .pre .1 .1, s .pre .0 .1)
 
 before-point-requires-3 : tie.Need-before-point-requires-3
-before-point-requires-3 c κs = let s = start₂ c in (s .pre .0 2 (omega arith), s .pre .1, s .pre .2, s .pre .3)
+before-point-requires-3 c κs = let s = start₂ c in (s .pre .0 .0 2 (omega arith), s .pre .1 .0, s .pre .1 .1, s .pre .0 .1)
 
 point-in-units-requires : tie.Need-point-in-units-requires
 point-in-units-requires c κs = search needs
@@ -31,7 +31,8 @@ returns c =
     let z = c .before in
     let y = z .before in
     let x = y .before in
-    c .point-in-units .ensures ∙ list-of-three _ (ap units (x .before-point .ensures .is)) (ap units (y .before-point2 .ensures .is)) (ap units (z .before-point3 .ensures .is))
+    c .point-in-units .ensures
+    ∙ list-of-three _ (ap units (x .before-point .ensures .is)) (ap units (y .before-point2 .ensures .is)) (ap units (z .before-point3 .ensures .is))
 
 pub before-points-spec : {M : Type 1} → statement M
 before-points-spec =

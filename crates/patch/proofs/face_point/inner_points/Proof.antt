@@ -15,13 +15,13 @@ abbrev start₂ : tie.After-inner-point2 → tie.Start
 start₂ c = start₁ (c .before)
 
 inner-point-requires : tie.Need-inner-point-requires
-inner-point-requires c κs = let s = c .before .before in (s .pre .0 0 (omega arith), s .pre .1, s .pre .2)
+inner-point-requires c κs = let s = c .before .before in (s .pre .0 .0 0 (omega arith), s .pre .1, s .pre .0 .1)
 
 inner-point-requires-2 : tie.Need-inner-point-requires-2
-inner-point-requires-2 c κs = let s = start₁ c in (s .pre .0 1 (omega arith), s .pre .1, s .pre .2)
+inner-point-requires-2 c κs = let s = start₁ c in (s .pre .0 .0 1 (omega arith), s .pre .1, s .pre .0 .1)
 
 inner-point-requires-3 : tie.Need-inner-point-requires-3
-inner-point-requires-3 c κs = let s = start₂ c in (s .pre .0 2 (omega arith), s .pre .1, s .pre .2)
+inner-point-requires-3 c κs = let s = start₂ c in (s .pre .0 .0 2 (omega arith), s .pre .1, s .pre .0 .1)
 
 point-in-units-requires : tie.Need-point-in-units-requires
 point-in-units-requires c κs = search needs
@@ -31,7 +31,8 @@ returns c =
     let z = c .before in
     let y = z .before in
     let x = y .before in
-    c .point-in-units .ensures ∙ list-of-three _ (ap units (x .inner-point .ensures .is)) (ap units (y .inner-point2 .ensures .is)) (ap units (z .inner-point3 .ensures .is))
+    c .point-in-units .ensures
+    ∙ list-of-three _ (ap units (x .inner-point .ensures .is)) (ap units (y .inner-point2 .ensures .is)) (ap units (z .inner-point3 .ensures .is))
 
 pub inner-points-spec : {M : Type 1} → statement M
 inner-points-spec =

@@ -92,11 +92,13 @@ loop-less c = omega arith
 
 loop-again : tie.Need-loop-again Inv-loop μ-loop
 loop-again c =
-    let l = c .before .before .before .before .before .before in
+    let t = c .before .before in
+    let l = t .before .before .before .before in
     let s = start l in
     let below : l .loop .g < s .args .f = omega arith in
-    let w = filled-stretch (patchNumber (mesh s)) _ (48 * l .loop .g) 48 (48 * (l .loop .g + 1)) (s .args .patches .now) (l .loop .patches) _ (omega arith) (omega (arith, s .pre .0 .1, below))
-    (λ j h. number-from (s .pre .0 .0) (l .loop .inv .3) (l .loop .g) j below h) (l .loop .inv .2) (c .before .write-patch .ensures) in
+    let w = filled-stretch (patchNumber (mesh s)) _ (48 * l .loop .g) 48 (48 * (l .loop .g + 1)) (s .args .patches .now) (l .loop .patches) _
+    (omega arith) (omega (arith, s .pre .0 .1, below)) (λ j h. number-from (s .pre .0 .0) (l .loop .inv .3) (l .loop .g) j below h)
+    (l .loop .inv .2) (c .before .write-patch .ensures) in
     (add-one-le below, w .0, w .1, l .loop .inv .3, l .loop .inv .4, l .loop .inv .5)
 
 same-length : tie.Need-same-length Inv-loop μ-loop

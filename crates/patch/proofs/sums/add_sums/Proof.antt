@@ -60,6 +60,12 @@ module _ (w : tie.After-wide Inv-loop μ-loop) where
   named : p < maxVertices
   named = rw (w .wide .ensures) (start .pre .0 .0 .named (head .loop .c) below)
 
+  ring-placed : p < length (head .loop .ring)
+  ring-placed = omega (arith, named, start .pre .1 .0 .0, head .loop .inv .1)
+
+  sharp-placed : p < length (head .loop .sharp)
+  sharp-placed = omega (arith, named, start .pre .1 .0 .1, head .loop .inv .2)
+
   few : head .loop .c < 1024
   few = omega (arith, below, start .pre .0 .0 .few)
 
@@ -94,7 +100,9 @@ module _ (c : tie.After-sharp-term Inv-loop μ-loop) where
 loop-holds : tie.Need-loop-holds Inv-loop μ-loop
 loop-holds c =
     let s = c .before .before in
-    (omega arith, refl, refl, gathered-none (pos 0) _+ℤ_ _ _ _ (s .args .ring .now) (s .pre .1 .1 .0), gathered-none (pos 0) _+ℤ_ _ _ _ (s .args .sharp .now) (s .pre .1 .1 .1))
+    let ring = gathered-none (pos 0) _+ℤ_ _ _ _ (s .args .ring .now) (s .pre .1 .1 .0) in
+    let sharp = gathered-none (pos 0) _+ℤ_ _ _ _ (s .args .sharp .now) (s .pre .1 .1 .1) in
+    (omega arith, refl, refl, ring, sharp)
 
 mul-wide : tie.Need-mul-wide Inv-loop μ-loop
 mul-wide c = omega arith
@@ -111,11 +119,7 @@ ring-term-requires c κs = let w = c .before in (start w .pre .0 .2, below w)
 add-at-requires : tie.Need-add-at-requires Inv-loop μ-loop
 add-at-requires c κs =
     let w = placed c in
-    let s = start w in
-    let l = head w .loop in (
-      omega (arith, named w, s .pre .1 .0 .0, l .inv .1),
-      rw (ring-read c) (omega (arith, ring-small w, few w, ring-term-small s (l .c) (below w))),
-    )
+    (ring-placed w, rw (ring-read c) (omega (arith, ring-small w, few w, ring-term-small (start w) (head w .loop .c) (below w))))
 
 sharp-term-requires : tie.Need-sharp-term-requires Inv-loop μ-loop
 sharp-term-requires c κs = let w = placed (before c) in let s = start w in (s .pre .0 .2, s .pre .0 .1, below w)
@@ -123,11 +127,7 @@ sharp-term-requires c κs = let w = placed (before c) in let s = start w in (s .
 add-at-requires-2 : tie.Need-add-at-requires-2 Inv-loop μ-loop
 add-at-requires-2 c κs =
     let w = placed (ring c) in
-    let s = start w in
-    let l = head w .loop in (
-      omega (arith, named w, s .pre .1 .0 .1, l .inv .2),
-      rw (sharp-read c) (omega (arith, sharp-small w, few w, sharp-term-small s (l .c) (below w))),
-    )
+    (sharp-placed w, rw (sharp-read c) (omega (arith, sharp-small w, few w, sharp-term-small (start w) (head w .loop .c) (below w))))
 
 -- the end of a turn
 module _ (c : tie.After-sharp Inv-loop μ-loop) where
@@ -153,10 +153,10 @@ loop-again c =
       first .add-at .kept .0 ∙ l .inv .1,
       c .before .add-at2 .kept .0 ∙ l .inv .2,
       rw (first .add-at .ensures)
-          (gathered-more sumℤ-monoid (at s) (ringTerm (S s)) maxVertices (l .c) (p w) _ (l .ring) (omega (arith, named w, s .pre .1 .0 .0, l .inv .1)) (w .wide .ensures)
+          (gathered-more sumℤ-monoid (at s) (ringTerm (S s)) maxVertices (l .c) (p w) _ (l .ring) (ring-placed w) (w .wide .ensures)
           (ap (λ (z : ℤ). getD (l .ring) (p w) (pos 0) +ℤ z) (ring-read (ring (sharp c)))) (l .inv .3)),
       rw (c .before .add-at2 .ensures)
-          (gathered-more sumℤ-monoid (at s) (sharpTerm (S s)) maxVertices (l .c) (p w) _ (l .sharp) (omega (arith, named w, s .pre .1 .0 .1, l .inv .2)) (w .wide .ensures)
+          (gathered-more sumℤ-monoid (at s) (sharpTerm (S s)) maxVertices (l .c) (p w) _ (l .sharp) (sharp-placed w) (w .wide .ensures)
           (ap (λ (z : ℤ). getD (l .sharp) (p w) (pos 0) +ℤ z) (sharp-read (sharp c))) (l .inv .4)),
     )
 

@@ -3,8 +3,12 @@ use mathlib.Core.Path.{_∙_}
 use mir.Syntax.{w64}
 use borrow.Author.Needs.{needs}
 use Rattle.patch.proofs.SumLaws.{read-back}
+use Rattle.patch.proofs.FacePointLaws.{ring-term-seen}
 use Rattle.patch.proofs.sums.ring_term.Statement.{statement}
 use Rattle.patch.proofs.sums.ring_term.Tie as tie
+
+abbrev viewed : tie.After-ring-of → tie.After-face-values
+viewed c = c .before .before .before .before
 
 face-values-requires : tie.Need-face-values-requires
 face-values-requires c κs = search needs
@@ -14,8 +18,9 @@ ring-of-requires c κs = search needs
 
 returns : tie.Need-returns
 returns c =
-    let a = c .before .face-values .ensures in
-    read-back w64 (c .ring-of .ok) (rw (a .next-is, a .prev-is, a .across-is) at (c .ring-of .ensures))
+    let v = viewed c in
+    let s = v .before .before in
+    read-back w64 (c .ring-of .ok) (c .ring-of .ensures ∙ ring-term-seen _ (s .args .c) (v .face-values .result) (v .face-values .ensures))
 
 pub ring-term-spec : {M : Type 1} → statement M
 ring-term-spec = tie.close (tie.spec face-values-requires ring-of-requires returns)

@@ -1,7 +1,7 @@
 -- `sharp_term` meets its contract: the twins tell which half-edges are sharp, and the values are those of the face, seen from the corner.
 use mathlib.Core.Path.{_≡_, ap, ap₂, _∙_}
 use mathlib.Core.Bool.{Bool, cond}
-use Prim.Native.Nat.{ℕ, _<_}
+use Prim.Native.Nat.{_<_}
 use native.Mathlib.Omega.{arith}
 use lib.IntN.{ℤ, pos}
 use lib.ListN.{length}
@@ -83,12 +83,14 @@ value-if-requires-2 c κs = search needs
 plus-requires : tie.Need-plus-requires
 plus-requires c κs =
     let s = start c in
+    let d = s .args .c in
     let placed = s .pre .0 in
+    let G = S c .shape in
     rw (leaving c, entering c)
     (omega (
       arith,
-      cond-size (sharp (S c .shape) (s .args .c)) (x (S c) (next (s .args .c))) maxCoordinate (placed .small (next (s .args .c)) (next-below (placed .corners) (s .args .c) (s .pre .2))),
-      cond-size (boundary (S c .shape .at) (S c .shape .n) (prev (s .args .c))) (x (S c) (prev (s .args .c))) maxCoordinate (placed .small (prev (s .args .c)) (below c)),
+      cond-size (sharp G d) (x (S c) (next d)) maxCoordinate (placed .small (next d) (next-below (placed .corners) d (s .pre .2))),
+      cond-size (boundary (G .at) (G .n) (prev d)) (x (S c) (prev d)) maxCoordinate (placed .small (prev d) (below c)),
     ))
 
 returns : tie.Need-returns

@@ -83,10 +83,10 @@ module _ (c : tie.After-corner-point-arg2 Inv-loop μ-loop) where
   value-read = read-back w64 (valued .coordinate .ok) (valued .coordinate .ensures)
 
   faces-read : getD (start head .args .valences .now) (p head) 0 ≡ faces (S head .shape) (p head)
-  faces-read = start head .pre .0 .2 .valences-are (p head) (few turn) ∙ faces-seen (mesh head) (accepted-whole (accepted head)) (p head)
+  faces-read = start head .pre .1 .1 .valences-are (p head) (few turn) ∙ faces-seen (mesh head) (accepted-whole (accepted head)) (p head)
 
   inside-read : eqb (getD (start head .args .leaving .now) (p head) 0) 0 ≡ inside (S head .shape) (p head)
-  inside-read = start head .pre .0 .2 .inside-are (p head) (few turn) ∙ inside-seen (mesh head) (accepted-whole (accepted head)) (p head)
+  inside-read = start head .pre .1 .1 .inside-are (p head) (few turn) ∙ inside-seen (mesh head) (accepted-whole (accepted head)) (p head)
 
   ring-read : toZ w64 (ofZ w64 (getD (summed head .add-sums .last .1 .1 .1 .1 .0) (p head) (pos 0))) ≡ ringSum (S head) (p head)
   ring-read =
@@ -108,7 +108,7 @@ add-sums-requires : tie.Need-add-sums-requires Inv-loop μ-loop
 add-sums-requires c κs =
     let s = made (c .before) in
     let a = s .pre .0 .0 in
-    ((accepted-indices a, s .pre .0 .1, accepted-coordinates a (s .args .k) (s .pre .1 .2)), ((omega arith, omega arith), (same-all (pos 0), same-all (pos 0))))
+    ((accepted-indices a, s .pre .1 .0, accepted-coordinates a (s .args .k) (s .pre .0 .1)), ((omega arith, omega arith), (same-all (pos 0), same-all (pos 0))))
 
 loop-holds : tie.Need-loop-holds Inv-loop μ-loop
 loop-holds c = (omega arith, refl, (λ q l. absurd (not-suc-le-zero l)), λ q j l n. refl)
@@ -117,16 +117,16 @@ mul-i : tie.Need-mul-i Inv-loop μ-loop
 mul-i c = omega (arith, few c)
 
 add-i : tie.Need-add-i Inv-loop μ-loop
-add-i c = omega (arith, few c, start (c .before) .pre .1 .2)
+add-i c = omega (arith, few c, start (c .before) .pre .0 .1)
 
 coordinate-requires : tie.Need-coordinate-requires Inv-loop μ-loop
-coordinate-requires c κs = omega (arith, below c, start (c .before) .pre .1 .2, accepted (c .before) .sized .positions-are)
+coordinate-requires c κs = omega (arith, below c, start (c .before) .pre .0 .1, accepted (c .before) .sized .positions-are)
 
 mul-corner-point : tie.Need-mul-corner-point Inv-loop μ-loop
 mul-corner-point c = omega (arith, few (c .before))
 
 shared-slice-read-corner-point : tie.Need-shared-slice-read-corner-point Inv-loop μ-loop
-shared-slice-read-corner-point c = let t = c .before .before in omega (arith, few t, start (t .before) .pre .1 .1)
+shared-slice-read-corner-point c = let t = c .before .before in omega (arith, few t, start (t .before) .pre .1 .1 .leaving-listed)
 
 shared-slice-read-corner-point-2 : tie.Need-shared-slice-read-corner-point-2 Inv-loop μ-loop
 shared-slice-read-corner-point-2 c = let t = c .before .before .before in omega (arith, below t, accepted (t .before) .sized .tags-are)
@@ -135,7 +135,7 @@ mul-corner-point-2 : tie.Need-mul-corner-point-2 Inv-loop μ-loop
 mul-corner-point-2 c = omega (arith, few (c .before .before .before))
 
 shared-slice-read-corner-point-3 : tie.Need-shared-slice-read-corner-point-3 Inv-loop μ-loop
-shared-slice-read-corner-point-3 c = let t = c .before .before .before .before in omega (arith, few t, start (t .before) .pre .1 .0)
+shared-slice-read-corner-point-3 c = let t = c .before .before .before .before in omega (arith, few t, start (t .before) .pre .1 .1 .valences-listed)
 
 mul-corner-point-3 : tie.Need-mul-corner-point-3 Inv-loop μ-loop
 mul-corner-point-3 c = omega (arith, few (c .before .before .before .before))
@@ -157,7 +157,7 @@ corner-point-requires : tie.Need-corner-point-requires Inv-loop μ-loop
 corner-point-requires c κs =
     let l = head c in
     let k = start l .args .k in
-    let axis = start l .pre .1 .2 in (
+    let axis = start l .pre .0 .1 in (
       corner-asked (accepted l) k axis (p l) (below (turn c)) _ _ _ (faces-read c) (value-read c) (ring-read c),
       λ e. rw (sharp-read c) (sharp-size (accepted l) k axis (p l) (below (turn c)) (sym (inside-read c) ∙ e)),
     )
@@ -179,10 +179,10 @@ module _ (c : tie.After-in-units Inv-loop μ-loop) where
       (inside-read asked) (faces-read asked) (value-read asked) (ring-read asked) (sharp-read asked)))
 
   stored : 3 * p (head asked) + start (head asked) .args .k < length (head asked .loop .points)
-  stored = let s = start (head asked) in omega (arith, below (turn asked), s .pre .1 .2, s .pre .1 .3, head asked .loop .inv .1)
+  stored = let s = start (head asked) in omega (arith, below (turn asked), s .pre .0 .1, s .pre .0 .2, head asked .loop .inv .1)
 
 mul-t40 : tie.Need-mul-t40 Inv-loop μ-loop
-mul-t40 c = omega (arith, few (turn (asked c)), start (head (asked c)) .pre .1 .2)
+mul-t40 c = omega (arith, few (turn (asked c)), start (head (asked c)) .pre .0 .1)
 
 slice-set-from-points : tie.Need-slice-set-from-points Inv-loop μ-loop
 slice-set-from-points c = stored c
@@ -198,7 +198,7 @@ loop-again c =
     let w = asked c in
     let l = head w in
     let k = start l .args .k in
-    let axis = start l .pre .1 .2 in (
+    let axis = start l .pre .0 .1 in (
       add-one-le (below (turn w)),
       length-set (l .loop .points) (3 * p l + k) _ ∙ l .loop .inv .1,
       strided-more k (p l) _ (l .loop .points) axis (λ q. units (cornerPoint (S l) q)) (stored c) (written c) (l .loop .inv .2),

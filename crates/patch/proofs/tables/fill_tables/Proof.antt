@@ -9,7 +9,6 @@ use lib.IntN.{pos}
 use lib.ListN.{length, getD}
 use borrow.Author.Needs.{needs}
 use Rattle.finite.proofs.FilledLaws.{filled-at}
-use Rattle.mesh.specs.Limits.{maxVertices}
 use Rattle.mesh.specs.IndexedMesh.{IndexedMesh, indexed, corners}
 use Rattle.mesh.specs.Tables.{Holds}
 use Rattle.patch.specs.Point.{weight, cornerPoint}
@@ -48,12 +47,6 @@ module _ (c : tie.After-fill-weights-arg Inv-loop μ-loop) where
   abbrev start : tie.Start Inv-loop μ-loop
   start = made (counted .before)
 
-  valences-long : maxVertices ≤ length (counted .count-faces .last .1 .1 .0)
-  valences-long = omega (arith, counted .count-faces .kept .1 .1 .0)
-
-  leaving-long : maxVertices ≤ length (counted .count-faces .last .1 .1 .1 .0)
-  leaving-long = omega (arith, counted .count-faces .kept .1 .1 .1 .0)
-
 -- after they were written
 weights-are : (c : tie.After-fill-weights Inv-loop μ-loop)
     → Holds 0 (c .fill-weights .last .1 .1 .1 .0) (corners (mesh (start (c .before)))) (weight (shape (mesh (start (c .before)))))
@@ -84,7 +77,7 @@ slice-aggregate-fill-weights-2 c = search needs
 fill-weights-requires : tie.Need-fill-weights-requires Inv-loop μ-loop
 fill-weights-requires c κs =
     let s = start c in
-    ((accepted-indices (s .pre .0 .0), counted c .count-faces .ensures), (valences-long c, leaving-long c, s .pre .1 .0))
+    ((accepted-indices (s .pre .0 .0), counted c .count-faces .ensures), s .pre .1 .0)
 
 loop-holds : tie.Need-loop-holds Inv-loop μ-loop
 loop-holds c = (omega arith, refl, λ p j l b. absurd (not-suc-le-zero b))
@@ -108,8 +101,8 @@ fill-coordinate-requires c κs =
     let l = turn .before in
     let t = weighed l .before in
     let s = start t in (
-      (s .pre .0 .0, s .pre .0 .1, counted t .count-faces .ensures),
-      (valences-long t, leaving-long t, turn .loop-test .taken, omega (arith, s .pre .1 .1, s .pre .0 .0 .sized .vertices-high, l .loop .inv .1)),
+      (s .pre .0 .0, turn .loop-test .taken, omega (arith, s .pre .1 .1, s .pre .0 .0 .sized .vertices-high, l .loop .inv .1)),
+      (s .pre .0 .1, counted t .count-faces .ensures),
     )
 
 -- the end of a turn
@@ -146,7 +139,7 @@ same-length-2 c = c .before .loop .inv .1
 returns : tie.Need-returns Inv-loop μ-loop
 returns c =
     let l = c .before in
-    record { weights-are = weights-are (weighed l); points-are = λ p k h b. l .loop .inv .2 p k h (omega (arith, b, c .loop-test .left)) }
+    record { weights-are = weights-are (weighed l); points-are = λ k b p h. l .loop .inv .2 p k h (omega (arith, b, c .loop-test .left)) }
 
 pub fill-tables-spec : {M : Type 1} → statement M
 fill-tables-spec =

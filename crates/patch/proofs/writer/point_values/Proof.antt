@@ -14,19 +14,19 @@ enum-told-2 : tie.Need-enum-told-2
 enum-told-2 c = search needs
 
 along-points-requires : tie.Need-along-points-requires
-along-points-requires c κs = let s = c .before .before .before .before .before in (s .pre .0 .placed, s .pre .0 .weighed, s .pre .0 .twinned, s .pre .1)
+along-points-requires c κs = let s = c .before .before .before .before .before in ((s .pre .0 .placed, s .pre .1), (s .pre .0 .weighed, s .pre .0 .twinned))
 
 enum-told-3 : tie.Need-enum-told-3
 enum-told-3 c = search needs
 
 before-points-requires : tie.Need-before-points-requires
-before-points-requires c κs = let s = c .before .before .before .before .before in (s .pre .0 .placed, s .pre .0 .weighed, s .pre .0 .twinned, s .pre .1)
+before-points-requires c κs = let s = c .before .before .before .before .before in ((s .pre .0 .placed, s .pre .1), (s .pre .0 .weighed, s .pre .0 .twinned))
 
 enum-told-4 : tie.Need-enum-told-4
 enum-told-4 c = search needs
 
 inner-points-requires : tie.Need-inner-points-requires
-inner-points-requires c κs = let s = c .before .before .before .before .before in (s .pre .0 .placed, s .pre .0 .weighed, s .pre .1)
+inner-points-requires c κs = let s = c .before .before .before .before .before in ((s .pre .0 .placed, s .pre .1), s .pre .0 .weighed)
 
 returns : tie.Need-returns
 unfolding pointFrom
