@@ -22,7 +22,7 @@ use Rattle.patch.specs.Mask.{innerMask, edgeMask, boundaryEdgeMask, smoothCorne
 use Rattle.patch.specs.Point as Point
 use Rattle.patch.specs.Point.{sharp, sharpSum, ringSum, fixed, cornerPoint, innerPoint, edgePoint, alongPoint, beforePoint, point}
 use Rattle.patch.specs.Patch.{owner, kind, patchPoint, patchNumber, patchesAfter}
-use Rattle.examples.specs.Meshes.{square, cube, pillow, doubledFace, bowTie, strip, openFanOfEight, openFanOfNine}
+use Rattle.examples.specs.Meshes.{square, cube, pillow, doubledFace, bowTie, strip, tagged, openFanOfEight, openFanOfNine}
 
 -- an example: what is computed, and what is stated
 pub record Example : Type 0 where
@@ -68,7 +68,8 @@ xyz x y z = pos x ∷ pos y ∷ pos z ∷ []
 -- Those of document 01 that it marks P, in its order: the square's control points and samples; the cube's counts, corner point,
 -- interior point and edge point at (24,24,24); the roundings of 1/2, 3/2, 5/2, -1/2, -3/2; faces 0 1 2 3 and 3 2 1 0, where every n
 -- is 2; the same face twice; two faces with one vertex in common and no half-edge. Then, beyond the document, two faces side by
--- side with boundary vertices of two faces, and open fans of eight and nine faces.
+-- side with boundary vertices of two faces, the square as an accepted mesh, the strip with a boundary vertex tagged 1 and 2, the cube with a
+-- tagged vertex, and open fans of eight and nine faces.
 pub examples : List Example
 examples =
     example (control square 0 1 0) (xyz 1792 0 0)
@@ -93,6 +94,11 @@ examples =
     ∷ example (control strip 0 3 1) (xyz 2304 768 256)
     ∷ example (control strip 0 3 0) (xyz 2304 0 384)
     ∷ example (control strip 1 1 1) (xyz 3072 768 512)
+    ∷ example (checked square) (pos 4 ∷ pos 1 ∷ pos 4 ∷ pos 4 ∷ [])
+    ∷ example (checked (tagged strip (0 ∷ 1 ∷ 0 ∷ 0 ∷ 0 ∷ 0 ∷ []))) (pos 6 ∷ pos 2 ∷ pos 7 ∷ pos 6 ∷ [])
+    ∷ example (control (tagged strip (0 ∷ 1 ∷ 0 ∷ 0 ∷ 0 ∷ 0 ∷ [])) 0 3 0) (xyz 2304 0 0)
+    ∷ example (checked (tagged strip (0 ∷ 2 ∷ 0 ∷ 0 ∷ 0 ∷ 0 ∷ []))) (pos 4 ∷ [])
+    ∷ example (checked (tagged cube (0 ∷ 0 ∷ 0 ∷ 0 ∷ 0 ∷ 0 ∷ 0 ∷ 1 ∷ []))) (pos 11 ∷ [])
     ∷ example (checked openFanOfEight) (pos 18 ∷ pos 8 ∷ pos 25 ∷ pos 18 ∷ [])
     ∷ example (checked openFanOfNine) (pos 10 ∷ [])
     ∷ []

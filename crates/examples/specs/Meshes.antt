@@ -49,6 +49,10 @@ strip =
     ∷ pos 18 ∷ pos 9 ∷ pos 0 ∷ pos 9 ∷ pos 9 ∷ pos 0 ∷ pos 0 ∷ pos 9 ∷ pos 0 ∷ [])
     (replicate 6 0) (0 ∷ 1 ∷ 4 ∷ 5 ∷ 1 ∷ 2 ∷ 3 ∷ 4 ∷ [])
 
+-- a mesh with tags of its own
+abbrev pub tagged : IndexedMesh → List ℕ → IndexedMesh
+tagged M tags = indexed (M .vertices) (M .faces) (M .positions) tags (M .indices)
+
 -- an open fan about vertex 0: each face has the centre, a spoke, an outer vertex and the next spoke
 abbrev pub openFanOfEight : IndexedMesh
 openFanOfEight = collapsed 18 8 (0 ∷ 1 ∷ 10 ∷ 2 ∷ 0 ∷ 2 ∷ 11 ∷ 3 ∷ 0 ∷ 3 ∷ 12 ∷ 4 ∷ 0 ∷ 4 ∷ 13 ∷ 5 ∷ 0 ∷ 5 ∷ 14 ∷ 6 ∷ 0 ∷ 6 ∷ 15 ∷ 7 ∷ 0 ∷ 7 ∷ 16 ∷ 8 ∷ 0 ∷ 8 ∷ 17 ∷ 9 ∷ [])
