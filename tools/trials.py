@@ -196,6 +196,11 @@ def with_renumbered(name, trial):
 # ---- Document 01, read once more.
 
 
+def doubles(sample):
+    """The reading of a sample: the bits of each coordinate over 256, which a double has exactly."""
+    return ["reading"] + [struct.pack(">d", x / 256).hex() for x in sample]
+
+
 def spaced(*lists):
     return " ".join(str(x) for words in lists for x in words)
 
@@ -253,7 +258,7 @@ class PatchAnswer(MeshAnswer, PatchReading):
         lines += [spaced([""], after[at : min(at + PATCH, CLEAR)]) for at in range(0, min(len(after), CLEAR), PATCH)]
         for samples in self.samples:
             sums = two_sums(x for sample in samples.values() for x in sample)
-            lines.append(spaced([" samples"], sums, samples[t.n // 2, t.n // 2], ["reading exact"]))
+            lines.append(spaced([" samples"], sums, samples[t.n // 2, t.n // 2], doubles(samples[t.n // 2, t.n // 2])))
         return "\n".join(lines)
 
 
@@ -287,7 +292,8 @@ class SampleAnswer:
         if causes:
             return f"refused {causes[0]} reading refused {causes[0]}"
         # A fraction is rounded to the nearest whole number, halves to the even one.
-        return " ".join(str(round(x)) for x in self.exact()) + " reading exact"
+        sample = [round(x) for x in self.exact()]
+        return spaced(sample, doubles(sample)).lstrip()
 
 
 # ---- The trials of the mesh check.

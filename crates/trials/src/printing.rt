@@ -1,7 +1,6 @@
 // The parts of a trial's line, on standard output.
 use libc::STDOUT_FILENO;
 use mesh::model::Checked;
-use sample::model::Micrometres;
 use sample::model::Reading;
 use sample::model::Sampled;
 
@@ -114,26 +113,24 @@ pub(crate) fn print_sampled(answer: Sampled) {
     }
 }
 
-// Whether three doubles are exactly what the sample call answers, over 256.
-fn is_exact(m: Micrometres, answer: Sampled) -> bool {
-    match answer {
-        Sampled::At(p) => {
-            (m.x * 256.0 == p.x as f64) & (m.y * 256.0 == p.y as f64) & (m.z * 256.0 == p.z as f64)
-        }
-        Sampled::Refused(_) => false,
+// A blank and a double, as the sixteen hexadecimal digits of its bits; `nan` for what is no number.
+fn print_double(x: f64) {
+    if x == x {
+        print_text(b" ");
+        io::print_hex(STDOUT_FILENO, f64::to_bits(x), 16);
+    } else {
+        print_text(b" nan");
     }
 }
 
-// The answer of the reading, held against that of the sample call.
-pub(crate) fn print_reading(reading: Reading, answer: Sampled) {
+// The answer of the reading: its three doubles, or the refusal.
+pub(crate) fn print_reading(reading: Reading) {
     print_text(b" reading");
     match reading {
         Reading::At(m) => {
-            if is_exact(m, answer) {
-                print_text(b" exact");
-            } else {
-                print_text(b" differs");
-            }
+            print_double(m.x);
+            print_double(m.y);
+            print_double(m.z);
         }
         Reading::Refused(n) => print_refusal(n),
     }

@@ -1,10 +1,7 @@
 // A trial of the sample call and of the reading. Its line goes on
 //
-//     X Y Z reading exact             of a sample that the reading has exactly
+//     X Y Z reading A B C             of a sample, and the bits of the three doubles of its reading, sixteen hexadecimal digits each
 //     refused N reading refused N     of a refused one
-//
-// `exact` says that each of the three doubles times 256 is the coordinate of the sample, and `differs` that one is not, or that the
-// reading has numbers and the sample call refuses.
 use crate::printing::print_reading;
 use crate::printing::print_sampled;
 use crate::reading::PLACES;
@@ -19,9 +16,8 @@ const NUMBERS_AT: usize = 34;
 
 // Both calls at one place, with their answers printed.
 pub(crate) fn print_answers(patches: &[i32], f: usize, n: usize, a: usize, b: usize) {
-    let answer = sample::sample(patches, f, n, a, b);
-    print_sampled(answer);
-    print_reading(sample::reading(patches, f, n, a, b), answer);
+    print_sampled(sample::sample(patches, f, n, a, b));
+    print_reading(sample::reading(patches, f, n, a, b));
 }
 
 // The trial with a list for its patch numbers: reads them, and runs both calls.
