@@ -4,8 +4,8 @@ use libc::STDOUT_FILENO;
 use mesh::model::Mesh;
 use meshfile::model::Opened;
 use meshfile::model::Tessellation;
-use meshfile::text::LINE_PLACES;
 use sample::model::Sampled;
+use text::LINE_PLACES;
 ghost use mathlib.Core.Path.{_≡_};
 ghost use Prim.Native.Nat.{_≤_};
 ghost use lib.ListN.{length};
@@ -43,7 +43,7 @@ fn put_sample(
         return at;
     };
     let from = room(out, at);
-    from + meshfile::text::sample_line(f, a, b, p.x, p.y, p.z, &mut out[from..])
+    from + text::sample_line(f, a, b, p.x, p.y, p.z, &mut out[from..])
 }
 
 // The lines of the samples of face f with one b.
@@ -87,7 +87,7 @@ fn put_tessellation(t: Tessellation, patches: &[i32], out: &mut [u8]) -> usize
     ensures { λ r. ⌜ r ≤ length (now (out .entry)) ⌝ }
 {
     let m = t.mesh;
-    let at = meshfile::text::counts_line(m.vertices, m.faces, m.edges, m.boundary, out);
+    let at = text::counts_line(m.vertices, m.faces, m.edges, m.boundary, out);
     put_faces(patches, m.faces, t.steps, out, at)
 }
 
@@ -97,7 +97,7 @@ fn put_answer(answer: Opened, patches: &[i32], out: &mut [u8]) -> usize
 {
     match answer {
         Opened::Ready(t) => put_tessellation(t, patches, out),
-        Opened::Refused(k) => meshfile::text::refusal_line(k, out),
+        Opened::Refused(k) => text::refusal_line(k, out),
     }
 }
 

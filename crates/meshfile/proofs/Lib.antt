@@ -2,4 +2,3 @@
 pub mod ByteLaws
 pub mod FileLaws
 pub mod OpenLaws
-pub mod TextLaws

@@ -1,7 +1,5 @@
--- The file and the printed lines of document 01, section "File and printing".
+-- The file of document 01, section "File and printing".
 pub mod Bytes
 pub mod File
 pub mod Answer
 pub mod Private
-pub mod Text
-pub mod Put

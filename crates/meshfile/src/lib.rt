@@ -1,9 +1,8 @@
-//! The file of document 01: what it holds, its refusals, its patches, and the text of the lines that are printed.
+//! The file of document 01: what it holds, its refusals, and its patches.
 mod bytes;
 mod header;
 pub mod model;
 mod tessellate;
-pub mod text;
 
 use crate::bytes::fill_bytes;
 use crate::bytes::fill_i32s;

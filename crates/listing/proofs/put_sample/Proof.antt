@@ -2,7 +2,7 @@
 use Prim.Native.Nat.{_+_, _≤_}
 use native.Mathlib.Omega.{arith}
 use lib.ListN.{length, length-take, length-drop}
-use Rattle.meshfile.proofs.TextLaws.{printed-within}
+use Rattle.text.proofs.TextLaws.{printed-within}
 use borrow.Author.Needs.{needs}
 use Rattle.listing.proofs.put_sample.Statement.{statement}
 use Rattle.listing.proofs.put_sample.Tie as tie

@@ -1,7 +1,7 @@
 -- `put_tessellation` is safe: the line of the counts ends within the buffer.
 use Prim.Native.Nat.{_-_}
 use native.Mathlib.Omega.{arith}
-use Rattle.meshfile.proofs.TextLaws.{printed-within}
+use Rattle.text.proofs.TextLaws.{printed-within}
 use borrow.Author.Needs.{needs}
 use Rattle.listing.proofs.put_tessellation.Statement.{statement}
 use Rattle.listing.proofs.put_tessellation.Tie as tie

@@ -2,8 +2,8 @@
 use mathlib.Core.Path.{refl}
 use native.Mathlib.Omega.{arith}
 use lib.ListN.{length-set}
-use Rattle.meshfile.proofs.text.put_refused.Statement.{statement}
-use Rattle.meshfile.proofs.text.put_refused.Tie as tie
+use Rattle.text.proofs.put_refused.Statement.{statement}
+use Rattle.text.proofs.put_refused.Tie as tie
 
 slice-write-line : tie.Need-slice-write-line
 slice-write-line c = omega arith

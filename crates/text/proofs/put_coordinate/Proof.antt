@@ -2,11 +2,11 @@
 use native.Mathlib.Omega.{arith}
 use lib.ListN.{length-set}
 use mir.Facts.{toZ-ofZ}
-use Rattle.meshfile.specs.Text.{text}
-use Rattle.meshfile.specs.Put.{Put}
-use Rattle.meshfile.proofs.TextLaws.{text-length, put-length, put-field}
-use Rattle.meshfile.proofs.text.put_coordinate.Statement.{statement}
-use Rattle.meshfile.proofs.text.put_coordinate.Tie as tie
+use Rattle.text.specs.Text.{text}
+use Rattle.text.specs.Put.{Put}
+use Rattle.text.proofs.TextLaws.{text-length, put-length, put-field}
+use Rattle.text.proofs.put_coordinate.Statement.{statement}
+use Rattle.text.proofs.put_coordinate.Tie as tie
 
 put-signed-requires : tie.Need-put-signed-requires
 put-signed-requires c κs = omega arith

@@ -8,12 +8,12 @@ use lib.Dec.{lit<}
 use lib.ListN.{length, length-set}
 use borrow.Fn.Kinds.{In}
 use borrow.Fn.PlainCycle.{Measures, is, falls, and}
-use Rattle.meshfile.proofs.TextLaws.{decimal-one, decimal-more, decimal-longer, put-length, put-one, put-field}
-use Rattle.meshfile.proofs.text.put_digits.Reads as put-digits
-use Rattle.meshfile.proofs.text.put_digits.Kinds as put-digits-kinds
-use Rattle.meshfile.proofs.text.+put_digits.Lts-put_digits as put-digits-lts
-use Rattle.meshfile.proofs.text.+put_digits.{statement}
-use Rattle.meshfile.proofs.text.+put_digits.Tie.{close}
+use Rattle.text.proofs.TextLaws.{decimal-one, decimal-more, decimal-longer, put-length, put-one, put-field}
+use Rattle.text.proofs.put_digits.Reads as put-digits
+use Rattle.text.proofs.put_digits.Kinds as put-digits-kinds
+use Rattle.text.proofs.+put_digits.Lts-put_digits as put-digits-lts
+use Rattle.text.proofs.+put_digits.{statement}
+use Rattle.text.proofs.+put_digits.Tie.{close}
 
 abbrev μ-put-digits : Measures 1 put-digits-kinds.ps ℕ
 μ-put-digits κs a = a .0

@@ -15,8 +15,8 @@ use mir.Syntax.{w32}
 use mir.Val.{SFits}
 use borrow.Author.Tests.{lt-ltb, le-ltb, ltb-true}
 use Rattle.integer.proofs.Cases.{cond-cases}
-use Rattle.meshfile.specs.Text.{digits, decimal, text, linePlaces, printedAfter, Printed}
-use Rattle.meshfile.specs.Put.{Put, field}
+use Rattle.text.specs.Text.{digits, decimal, text, linePlaces, printedAfter, Printed}
+use Rattle.text.specs.Put.{Put, field}
 
 -- ---- digits
 one-digit : (k n : ℕ) → n < 10 → digits (suc k) n ≡ (48 + n) ∷ []

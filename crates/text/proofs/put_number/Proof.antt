@@ -1,11 +1,11 @@
 -- `put_number` meets its contract: a number has at most 20 digits, and the byte is stored behind them.
 use native.Mathlib.Omega.{arith}
 use lib.ListN.{length-set}
-use Rattle.meshfile.specs.Text.{decimal}
-use Rattle.meshfile.specs.Put.{Put}
-use Rattle.meshfile.proofs.TextLaws.{decimal-length, put-length, put-field}
-use Rattle.meshfile.proofs.text.put_number.Statement.{statement}
-use Rattle.meshfile.proofs.text.put_number.Tie as tie
+use Rattle.text.specs.Text.{decimal}
+use Rattle.text.specs.Put.{Put}
+use Rattle.text.proofs.TextLaws.{decimal-length, put-length, put-field}
+use Rattle.text.proofs.put_number.Statement.{statement}
+use Rattle.text.proofs.put_number.Tie as tie
 
 put-digits-requires : tie.Need-put-digits-requires
 put-digits-requires c κs = let s = c .before .before in omega (arith, decimal-length (s .args .n), s .pre)

@@ -1,11 +1,11 @@
 -- `refusal_line` meets its contract: the number is stored behind the word and its blank.
 use native.Mathlib.Omega.{arith}
 use borrow.Author.Needs.{needs}
-use Rattle.meshfile.specs.Text.{refusalLine}
-use Rattle.meshfile.specs.Put.{refused}
-use Rattle.meshfile.proofs.TextLaws.{put-word, printed, unprinted}
-use Rattle.meshfile.proofs.text.refusal_line.Statement.{statement}
-use Rattle.meshfile.proofs.text.refusal_line.Tie as tie
+use Rattle.text.specs.Text.{refusalLine}
+use Rattle.text.specs.Put.{refused}
+use Rattle.text.proofs.TextLaws.{put-word, printed, unprinted}
+use Rattle.text.proofs.refusal_line.Statement.{statement}
+use Rattle.text.proofs.refusal_line.Tie as tie
 
 returns : tie.Need-returns
 returns c = unprinted _ _ (c .if1 .taken)

@@ -1,8 +1,8 @@
-// The printed lines, in ASCII.
+//! The text of the printed lines, in ASCII.
 ghost use Prim.Native.Nat.{_+_, _≤_};
 ghost use lib.ListN.{length};
-ghost use Rattle.meshfile.specs.Text.{decimal, text, countsLine, sampleLine, refusalLine, Printed};
-ghost use Rattle.meshfile.specs.Put.{Put, field, refused};
+ghost use Rattle.text.specs.Text.{decimal, text, countsLine, sampleLine, refusalLine, Printed};
+ghost use Rattle.text.specs.Put.{Put, field, refused};
 
 // The places that are enough for every line.
 pub const LINE_PLACES: usize = 128;
@@ -71,8 +71,11 @@ fn put_refused(line: &mut [u8])
 }
 
 // The line of an accepted mesh's counts V, F, E, B.
-// Returns: the length of the line, with its end.
-// Writes: the line to the front of `line`. Leaves alone: the places behind it; all places where there are fewer than 128, and returns 0.
+// Returns: the length of the line, with its end; 0 where `line` has fewer than 128 places.
+// Writes: the line to the front of `line`.
+// Leaves alone: the places behind it; all places where there are fewer than 128.
+// Refuses: nothing.
+// Units: none, the numbers stand in the line as they are passed.
 pub fn counts_line(v: usize, f: usize, e: usize, b: usize, line: &mut [u8]) -> usize
     ensures { λ r. ⌜ Printed (countsLine v f e b) (now (line .entry)) (now (line .exit)) r ⌝ }
 {
@@ -86,7 +89,7 @@ pub fn counts_line(v: usize, f: usize, e: usize, b: usize, line: &mut [u8]) -> u
 }
 
 // The line of a sample: face, a, b, x, y, z.
-// Returns, writes, leaves alone: as `counts_line`.
+// Returns, writes, leaves alone, refuses, units: as `counts_line`.
 pub fn sample_line(f: usize, a: usize, b: usize, x: i32, y: i32, z: i32, line: &mut [u8]) -> usize
     ensures { λ r. ⌜ Printed (sampleLine f a b x y z) (now (line .entry)) (now (line .exit)) r ⌝ }
 {
@@ -102,7 +105,7 @@ pub fn sample_line(f: usize, a: usize, b: usize, x: i32, y: i32, z: i32, line: &
 }
 
 // The line of a refusal.
-// Returns, writes, leaves alone: as `counts_line`.
+// Returns, writes, leaves alone, refuses, units: as `counts_line`.
 pub fn refusal_line(k: u8, line: &mut [u8]) -> usize
     ensures { λ r. ⌜ Printed (refusalLine k) (now (line .entry)) (now (line .exit)) r ⌝ }
 {

@@ -1,10 +1,10 @@
 -- `counts_line` meets its contract: the four numbers are stored one behind the other, each with the byte behind it.
 use native.Mathlib.Omega.{arith}
 use borrow.Author.Needs.{needs}
-use Rattle.meshfile.specs.Text.{decimal, countsLine}
-use Rattle.meshfile.proofs.TextLaws.{put-word, printed, unprinted}
-use Rattle.meshfile.proofs.text.counts_line.Statement.{statement}
-use Rattle.meshfile.proofs.text.counts_line.Tie as tie
+use Rattle.text.specs.Text.{decimal, countsLine}
+use Rattle.text.proofs.TextLaws.{put-word, printed, unprinted}
+use Rattle.text.proofs.counts_line.Statement.{statement}
+use Rattle.text.proofs.counts_line.Tie as tie
 
 returns : tie.Need-returns
 returns c = unprinted _ _ (c .if1 .taken)

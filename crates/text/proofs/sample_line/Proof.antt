@@ -2,10 +2,10 @@
 use native.Mathlib.Omega.{arith}
 use borrow.Author.Needs.{needs}
 use mir.Facts.{toZ-ofZ}
-use Rattle.meshfile.specs.Text.{decimal, text, sampleLine}
-use Rattle.meshfile.proofs.TextLaws.{put-word, printed, unprinted}
-use Rattle.meshfile.proofs.text.sample_line.Statement.{statement}
-use Rattle.meshfile.proofs.text.sample_line.Tie as tie
+use Rattle.text.specs.Text.{decimal, text, sampleLine}
+use Rattle.text.proofs.TextLaws.{put-word, printed, unprinted}
+use Rattle.text.proofs.sample_line.Statement.{statement}
+use Rattle.text.proofs.sample_line.Tie as tie
 
 returns : tie.Need-returns
 returns c = unprinted _ _ (c .if1 .taken)
