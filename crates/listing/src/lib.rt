@@ -1,122 +1,66 @@
-//! The printed lines of a file, on standard output. The answer that is handed back is proved; what is printed is tested, as no
-//! contract can speak of standard output.
-use libc::STDOUT_FILENO;
+//! The whole text of a file, handed out in stretches of lines: pure, so that what is printed is proved up to the write call.
+pub mod model;
+mod samples;
+
+use crate::model::Stretch;
+use crate::samples::sample_lines;
 use mesh::model::Mesh;
 use meshfile::model::Opened;
 use meshfile::model::Tessellation;
-use sample::model::Sampled;
-use text::LINE_PLACES;
+use sample::model::Point;
 ghost use mathlib.Core.Path.{_≡_};
-ghost use Prim.Native.Nat.{_≤_};
-ghost use lib.ListN.{length};
-ghost use Rattle.meshfile.specs.Answer.{FileOpened};
+ghost use mathlib.Core.Bool.{cond};
+ghost use lib.Dec.{eqb};
+ghost use Rattle.finite.specs.Table.{result, refusal};
+ghost use Rattle.meshfile.specs.Answer.{opened};
+ghost use Rattle.listing.specs.Listing.{Stretched};
 
-// The places that the patches of the largest mesh take up: a list of so many is never too short.
-pub const PATCH_PLACES: usize = 48 * Mesh::MAX_FACES;
-
-// Returns the place of the next line: where it might not fit, the lines before it are written out first.
-fn room(out: &[u8], at: usize) -> usize
-    requires { ⌜ at ≤ length (now out) ⌝ }
-    ensures { λ r. ⌜ r ≤ length (now (out .entry)) ⌝ }
+// A stretch of the one line that comes next, of so many bytes; 0 where it had no room.
+fn one_line(length: usize) -> Stretch
+    ensures { λ r. ⌜ r ≡ record { line = cond (eqb length 0) 0 1; length = length } ⌝ }
 {
-    if out.len() - at < LINE_PLACES {
-        io::write_all(STDOUT_FILENO, &out[..at]);
-        return 0;
+    if length == 0 {
+        return Stretch { line: 0, length };
     }
-    at
+    Stretch { line: 1, length }
 }
 
-// Puts the line of one sample at a place or, where it might not fit, at the front. Returns the place behind it.
-fn put_sample(
-    patches: &[i32],
-    f: usize,
-    n: usize,
-    a: usize,
-    b: usize,
-    out: &mut [u8],
-    at: usize,
-) -> usize
-    requires { ⌜ at ≤ length (now out) ⌝ }
-    ensures { λ r. ⌜ r ≤ length (now (out .entry)) ⌝ }
+// The next stretch of a refused file: its one line.
+fn refusal_stretch(k: u8, patches: &[i32], line: usize, out: &mut [u8]) -> Stretch
+    ensures { λ r. ⌜ Stretched (refusal k) (now (patches .entry)) line (now (out .entry)) r (now (out .exit)) ⌝ }
 {
-    let Sampled::At(p) = sample::sample(patches, f, n, a, b) else {
-        return at;
-    };
-    let from = room(out, at);
-    from + text::sample_line(f, a, b, p.x, p.y, p.z, &mut out[from..])
-}
-
-// The lines of the samples of face f with one b.
-fn put_row(patches: &[i32], f: usize, n: usize, b: usize, out: &mut [u8], at: usize) -> usize
-    requires { ⌜ at ≤ length (now out) ⌝ }
-    ensures { λ r. ⌜ r ≤ length (now (out .entry)) ⌝ }
-{
-    let mut to = at;
-    for a in 0..=n {
-        to = put_sample(patches, f, n, a, b, out, to);
+    if line != 0 {
+        return Stretch { line, length: 0 };
     }
-    to
+    one_line(text::refusal_line(k, out))
 }
 
-// The lines of the samples of face f.
-fn put_face(patches: &[i32], f: usize, n: usize, out: &mut [u8], at: usize) -> usize
-    requires { ⌜ at ≤ length (now out) ⌝ }
-    ensures { λ r. ⌜ r ≤ length (now (out .entry)) ⌝ }
-{
-    let mut to = at;
-    for b in 0..=n {
-        to = put_row(patches, f, n, b, out, to);
-    }
-    to
-}
-
-// The lines of the samples of all faces.
-fn put_faces(patches: &[i32], faces: usize, n: usize, out: &mut [u8], at: usize) -> usize
-    requires { ⌜ at ≤ length (now out) ⌝ }
-    ensures { λ r. ⌜ r ≤ length (now (out .entry)) ⌝ }
-{
-    let mut to = at;
-    for f in 0..faces {
-        to = put_face(patches, f, n, out, to);
-    }
-    to
-}
-
-// The lines of an accepted mesh: its counts and its samples.
-fn put_tessellation(t: Tessellation, patches: &[i32], out: &mut [u8]) -> usize
-    ensures { λ r. ⌜ r ≤ length (now (out .entry)) ⌝ }
+// The next stretch of an accepted file: the counts, or lines of samples.
+fn mesh_stretch(t: Tessellation, patches: &[i32], line: usize, out: &mut [u8]) -> Stretch
+    ensures { λ r. ⌜ Stretched (result t) (now (patches .entry)) line (now (out .entry)) r (now (out .exit)) ⌝ }
 {
     let m = t.mesh;
-    let at = text::counts_line(m.vertices, m.faces, m.edges, m.boundary, out);
-    put_faces(patches, m.faces, t.steps, out, at)
+    if line == 0 {
+        return one_line(text::counts_line(m.vertices, m.faces, m.edges, m.boundary, out));
+    }
+    if Mesh::MAX_FACES < m.faces {
+        return Stretch { line, length: 0 };
+    }
+    if Point::MAX_STEPS < t.steps {
+        return Stretch { line, length: 0 };
+    }
+    sample_lines(t, patches, line, out)
 }
 
-// The lines of an answer.
-fn put_answer(answer: Opened, patches: &[i32], out: &mut [u8]) -> usize
-    ensures { λ r. ⌜ r ≤ length (now (out .entry)) ⌝ }
+// The next stretch of the text of a file, from the answer of opening it and the patch list that this left.
+// Returns: the number of the line that comes next, and how many bytes were written. At its end no line is left and no byte is written.
+// Writes: whole lines from `line` on to the front of out, as many as fit where each is given 128 places.
+// Leaves alone: the other places of out. Refuses: nothing; out with fewer than 128 places gets no line.
+pub fn stretch(answer: Opened, patches: &[i32], line: usize, out: &mut [u8]) -> Stretch
+    ensures { λ r. ⌜ Stretched (opened answer) (now (patches .entry)) line (now (out .entry)) r (now (out .exit)) ⌝ }
 {
     match answer {
-        Opened::Ready(t) => put_tessellation(t, patches, out),
-        Opened::Refused(k) => text::refusal_line(k, out),
+        Opened::Ready(t) => mesh_stretch(t, patches, line, out),
+        Opened::Refused(k) => refusal_stretch(k, patches, line, out),
     }
-}
-
-// Opens the file with a list for its patches, and prints its lines through a buffer.
-fn print_through(bytes: &[u8], patches: &mut [i32], out: &mut [u8]) -> Opened
-    ensures { λ r. ⌜ FileOpened (now (bytes .entry)) (now (patches .entry)) r (now (patches .exit)) ⌝ }
-{
-    let answer = meshfile::open(bytes, patches);
-    let end = put_answer(answer, patches, out);
-    io::write_all(STDOUT_FILENO, &out[..end]);
-    answer
-}
-
-// Prints the lines of a file: of an accepted mesh the counts and then, for each face, b from 0 and within it a from 0, the samples;
-// of any other the refusal alone.
-// Returns, writes, leaves alone, refuses: as `meshfile::open`.
-pub fn print(bytes: &[u8], patches: &mut [i32]) -> Opened
-    ensures { λ r. ⌜ FileOpened (now (bytes .entry)) (now (patches .entry)) r (now (patches .exit)) ⌝ }
-{
-    let mut out = io::large_buffer();
-    print_through(bytes, patches, &mut out)
 }

@@ -1,0 +1,3 @@
+-- The whole text of a file, and stretches of it.
+pub mod Listing
+pub mod Place

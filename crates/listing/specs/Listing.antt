@@ -1,0 +1,76 @@
+-- What is printed of a file: its whole text, line by line, and the stretches that it is handed out in.
+--
+--   joined f n             the texts f 0, f 1, .., f (n - 1), one behind the other
+--   lineOf answer f a b    the line of a sample. No sample of an accepted file is refused (surface/specs/Claim.antt, `answered`); of a refused one
+--                          it would be the refusal's
+--   faceText patches n f   the lines of face f: "b from 0 and within it a from 0"
+--   listing answer patches "the first line is V F E B; then, for each face, ..", from the answer of opening the file and the patch list that this
+--                          left; of a refused file "only one line"
+--   lineCount answer, lineAt answer patches i   how many lines that is, and line i. proofs/ListingLaws.antt: the lines, one behind the other, are
+--                          the listing
+--   Stored t before after r   the text t stands at the front of a list, which is as it was behind it; r is its length
+--   Printable answer       the sizes are those of an accepted mesh and its N
+--   Stretched answer patches line before r after   what was put into a buffer: the lines from `line` on, as many as `r .line` says, and at least one
+--                          where there is one and the buffer has room for it
+use mathlib.Core.Path.{_≡_}
+use mathlib.Core.List.{List, [], _++_}
+use Prim.Native.Nat.{ℕ, zero, suc, _+_, _-_, _*_, _/_, _%_, _≤_, _<_, max}
+use lib.IntN.{ℤ}
+use lib.ListN.{length, drop}
+use Rattle.finite.specs.Table.{Answer, result, refusal}
+use Rattle.mesh.specs.Limits.{maxFaces}
+use Rattle.sample.specs.Refusal.{maxSteps}
+use Rattle.sample.specs.Answer.{sampleAnswer}
+use Rattle.sample.specs.declared.model.Point.{Point}
+use Rattle.meshfile.specs.declared.model.Tessellation.{Tessellation}
+use Rattle.text.specs.Text.{countsLine, sampleLine, refusalLine, linePlaces}
+use Rattle.listing.specs.declared.model.Stretch.{Stretch}
+
+unfoldable pub joined : (ℕ → List ℕ) → ℕ → List ℕ
+joined f zero = []
+joined f (suc n) = joined f n ++ f n
+
+abbrev pub lineOf : Answer Point → ℕ → ℕ → ℕ → List ℕ
+lineOf (result p) f a b = sampleLine f a b (p .x) (p .y) (p .z)
+lineOf (refusal k) f a b = refusalLine k
+
+abbrev pub sampleText : List ℤ → ℕ → ℕ → ℕ → ℕ → List ℕ
+sampleText patches n f b a = lineOf (sampleAnswer patches f n a b) f a b
+
+abbrev pub faceText : List ℤ → ℕ → ℕ → List ℕ
+faceText patches n f = joined (λ b. joined (λ a. sampleText patches n f b a) (n + 1)) (n + 1)
+
+abbrev pub countsText : Tessellation → List ℕ
+countsText t = countsLine (t .mesh .vertices) (t .mesh .faces) (t .mesh .edges) (t .mesh .boundary)
+
+unfoldable pub listing : Answer Tessellation → List ℤ → List ℕ
+listing (result t) patches = countsText t ++ joined (faceText patches (t .steps)) (t .mesh .faces)
+listing (refusal k) patches = refusalLine k
+
+abbrev pub lineCount : Answer Tessellation → ℕ
+lineCount (result t) = 1 + t .mesh .faces * (t .steps + 1) * (t .steps + 1)
+lineCount (refusal k) = 1
+
+-- line i + 1 of an accepted file, for m = N + 1 samples along a side
+abbrev pub sampleTextAt : List ℤ → ℕ → ℕ → List ℕ
+sampleTextAt patches n i = sampleText patches n (i / (n + 1) / (n + 1)) (i / (n + 1) % (n + 1)) (i % (n + 1))
+
+abbrev pub lineAt : Answer Tessellation → List ℤ → ℕ → List ℕ
+lineAt (result t) patches zero = countsText t
+lineAt (result t) patches (suc i) = sampleTextAt patches (t .steps) i
+lineAt (refusal k) patches i = refusalLine k
+
+pub record Stored (t before after : List ℕ) (r : ℕ) : Type 0 where
+  pub length-is : r ≡ length t
+  pub fits : length t ≤ length before
+  pub list : after ≡ t ++ drop (length t) before
+
+abbrev pub Printable : Answer Tessellation → Type 0
+Printable (result t) = (t .mesh .faces ≤ maxFaces) × (t .steps ≤ maxSteps)
+Printable (refusal k) = Unit
+
+pub record Stretched (answer : Answer Tessellation) (patches : List ℤ) (line : ℕ) (before : List ℕ) (r : Stretch) (after : List ℕ) : Type 0 where
+  pub on : line ≤ r .line
+  pub within : r .line ≤ max line (lineCount answer)
+  pub stored : Stored (joined (λ j. lineAt answer patches (line + j)) (r .line - line)) before after (r .length)
+  pub some : Printable answer → line < lineCount answer → linePlaces ≤ length before → line < r .line
