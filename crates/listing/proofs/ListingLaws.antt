@@ -4,7 +4,7 @@ use mathlib.Core.Bool.{Bool, true, false, cond}
 use mathlib.Core.Logic.{⊎-elim}
 use mathlib.Core.List.{List, [], _∷_, _++_, append-assoc, append-nil}
 use Prim.Native.Nat.{ℕ, zero, suc, _+_, _-_, _*_, _/_, _%_, _≤_, _<_, max}
-use native.Mathlib.Nat.{mul-add-div-right, mul-add-mod-self-right, mod-eq-of-lt, div-eq-of-lt, add-mul, mul-le-mul, mul-le-mul-right, le-trans, eq-or-lt-of-le, le-max-left, le-max-right}
+use native.Mathlib.Nat.{mul-add-div-right, mul-add-mod-self-right, mod-eq-of-lt, div-eq-of-lt, add-mul, mul-le-mul, mul-le-mul-right, le-trans, eq-or-lt-of-le, le-max-left, le-max-right, max-le, le-refl}
 use native.Mathlib.Numerals.{add-one}
 use native.Mathlib.Omega.{arith}
 use lib.IntN.{ℤ}
@@ -295,6 +295,20 @@ going-end t {patches} {line} {before} {after} {p} {to} {at} some g stuck = recor
       (g .stored);
   some = λ _ more room. lt-unless (g .on) (λ e. stuck e more room);
 }
+
+-- ---- a loop over the stretches: where one has bytes, it leads on, and no further than to the end
+module _ {answer : Answer Tessellation} {patches : List ℤ} {line : ℕ} {before after : List ℕ} {r : Stretch} (s : Stretched answer patches line before r after) where
+  pub leads-on : (r .length ≡ 0 → ⊥) → line < r .line
+  unfolding joined
+  leads-on some =
+      lt-unless (s .on) (λ e.
+      some (s .stored .length-is ∙ ap (λ (k : ℕ). length (joined (λ j. lineAt answer patches (line + j)) k)) (let z : r .line - line ≡ 0 = omega (arith, e) in z)))
+
+  pub leads-within : line ≤ lineCount answer → r .line ≤ lineCount answer
+  leads-within l = le-trans (s .within) (max-le l (le-refl (lineCount answer)))
+
+  pub stretch-fits : r .length ≤ length before
+  stretch-fits = omega (arith, s .stored .length-is, s .stored .fits)
 
 -- ---- the stretches, one behind the other
 pub data Stretches (answer : Answer Tessellation) (patches : List ℤ) : ℕ → List ℕ → Type 0 where

@@ -1,27 +1,29 @@
-// Reads a file from standard input, to its end, and prints its lines on standard output.
+// Reads a file from standard input and prints its text on standard output; a read or a write that fails is told on standard error.
+use libc::STDERR_FILENO;
 use libc::STDIN_FILENO;
 
-// Reads some of what is left of standard input, and answers whether there was any.
-fn skip_some() -> bool {
-    let mut spare = io::large_buffer();
-    0 < io::read_full(STDIN_FILENO, &mut spare)
+// A line on standard error.
+fn complain(line: &[u8]) {
+    io::write_all(STDERR_FILENO, line);
 }
 
-// Reads standard input to its end, and keeps nothing. A proved loop has to end, so it counts its turns down, from a number that no run
-// uses up.
-fn skip_rest() {
-    let mut turns = u64::MAX;
-    while turns > 0 && skip_some() {
-        turns -= 1;
-    }
+// Whether a further read of standard input fails, as it does where the one before it failed, and not at the end of the file.
+fn read_fails() -> bool {
+    let mut spare = io::buffer();
+    libc::read(STDIN_FILENO, &mut spare) < 0
 }
 
-// The buffer has more places than the longest file has bytes. Of a file that fills it the rest is read and not kept: it has another
-// length than its sizes say all the same.
+// Of an input that is too long no more is read than shows it.
 fn main() {
-    let mut input = io::large_buffer();
+    let mut input = [0u8; printing::FILE_PLACES];
     let n = io::read_full(STDIN_FILENO, &mut input);
-    skip_rest();
-    let mut patches = [0i32; listing::PATCH_PLACES];
-    listing::print(&input[..n], &mut patches);
+    if n < printing::FILE_PLACES && read_fails() {
+        complain(b"tessellate: read failed, nothing is printed\n");
+        return;
+    }
+    let mut patches = [0i32; printing::PATCH_PLACES];
+    let printed = printing::print(&input[..n], &mut patches);
+    if !printed.whole {
+        complain(b"tessellate: write failed, the listing is incomplete\n");
+    }
 }

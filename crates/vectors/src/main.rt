@@ -7,14 +7,13 @@ fn print_text(text: &[u8]) {
     io::write_all(STDOUT_FILENO, text);
 }
 
-// The lines of an open file, which is closed. The buffer has more places than the longest file has bytes, so a file that fills it has
-// another length than its sizes say.
+// The lines of an open file, which is closed.
 fn print_file(fd: i32) {
-    let mut input = io::large_buffer();
+    let mut input = [0u8; printing::FILE_PLACES];
     let n = io::read_full(fd, &mut input);
     libc::close(fd);
-    let mut patches = [0i32; listing::PATCH_PLACES];
-    listing::print(&input[..n], &mut patches);
+    let mut patches = [0i32; printing::PATCH_PLACES];
+    printing::print(&input[..n], &mut patches);
 }
 
 // The name and the lines of the vector that argument i names.

@@ -1,0 +1,44 @@
+//! The text of a file, on standard output. The answer that is handed back is proved, and so is every stretch that is passed to the write call; that the
+//! writes come out in this order is the loop below, as no contract can speak of standard output.
+pub mod model;
+
+use crate::model::Printing;
+use libc::STDOUT_FILENO;
+use mesh::model::Mesh;
+use meshfile::model::Header;
+use meshfile::model::Opened;
+ghost use Rattle.meshfile.specs.Answer.{FileOpened};
+
+// The places that the patches of the largest mesh take up: a list of so many is never too short.
+pub const PATCH_PLACES: usize = 48 * Mesh::MAX_FACES;
+
+// One place more than the longest file has bytes: a file that fills a list of so many is too long.
+pub const FILE_PLACES: usize = Header::MAX_BYTES + 1;
+
+// Writes the stretches of the text one after the other, up to its end or to the first write that is not taken whole, and answers whether all were.
+fn write_stretches(answer: Opened, patches: &[i32], out: &mut [u8]) -> bool {
+    let mut line: usize = 0;
+    loop {
+        let next = listing::stretch(answer, patches, line, out);
+        let end = next.length;
+        if end == 0 {
+            return true;
+        }
+        if !io::write_all(STDOUT_FILENO, &out[..end]) {
+            return false;
+        }
+        line = next.line;
+    }
+}
+
+// Prints the text of a file: of an accepted mesh the counts and then, for each face, b from 0 and within it a from 0, the samples; of any other the
+// refusal alone. After a write that fails nothing more is written, so that what came out is the beginning of the text.
+// Returns: the answer of `meshfile::open`, and whether the text is whole. Writes, leaves alone, refuses: as `meshfile::open`.
+pub fn print(bytes: &[u8], patches: &mut [i32]) -> Printing
+    ensures { λ r. ⌜ FileOpened (now (bytes .entry)) (now (patches .entry)) (r .answer) (now (patches .exit)) ⌝ }
+{
+    let mut out = io::large_buffer();
+    let answer = meshfile::open(bytes, patches);
+    let whole = write_stretches(answer, patches, &mut out);
+    Printing { answer, whole }
+}
