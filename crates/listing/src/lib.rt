@@ -6,7 +6,6 @@ use meshfile::model::Opened;
 use meshfile::model::Tessellation;
 use sample::model::Sampled;
 use text::LINE_PLACES;
-ghost use mathlib.Core.Path.{_≡_};
 ghost use Prim.Native.Nat.{_≤_};
 ghost use lib.ListN.{length};
 ghost use Rattle.meshfile.specs.Answer.{FileOpened};

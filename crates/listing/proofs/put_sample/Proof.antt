@@ -34,17 +34,21 @@ part-sample-line-end c = search needs
 sample-line-requires : tie.Need-sample-line-requires
 sample-line-requires c κs = search needs
 
--- the line ends within the part that was lent
+-- ---- the way back: from the line to the place that was made for it, and to what was passed
+abbrev placed : tie.After-sample-line → tie.After-room
+placed c = let part : tie.After-sample-line-arg = c .before .before .before .before in part .before
+
+abbrev start : tie.After-room → tie.Start
+start c = let told : tie.After-known-told = c .before .before in let sampled : tie.After-sample = told .before .before .before in sampled .before .before
+
+-- ---- the line ends within the part that was lent
 module _ (c : tie.After-slice-known2) where
-  abbrev called : tie.After-room
-  called = c .before .before .before .before .before .before .before
+  abbrev put : tie.After-sample-line
+  put = c .before .before
 
-  abbrev start : tie.Start
-  start = called .before .before .before .before .before .before .before
-
-  within : called .room .result + c .before .before .sample-line .result ≤ length (start .args .out .now)
+  within : placed put .room .result + put .sample-line .result ≤ length (start (placed put) .args .out .now)
   within =
-      let line = c .before .before .sample-line in
+      let line = put .sample-line in
       omega (arith, simp (length-take, length-drop) at (printed-within (line .kept .1 .1 .1 .1 .1 .1 .0) (line .ensures)))
 
 add-result : tie.Need-add-result

@@ -9,7 +9,6 @@ use mir.Syntax.{w32}
 use mir.Val.{SFits, toZ, ofZ}
 use mir.Facts.{toZ-ofZ, fits-natAbs}
 use Rattle.integer.proofs.Rounding.{minus-one-minus, not-negative}
-use Rattle.text.specs.Text.{text}
 use Rattle.text.proofs.TextLaws.{text-negative, text-not-negative, text-length, put-length, put-one, put-then}
 use Rattle.text.proofs.put_signed.Statement.{statement}
 use Rattle.text.proofs.put_signed.Tie as tie
