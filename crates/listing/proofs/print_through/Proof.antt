@@ -1,5 +1,4 @@
 -- `print_through` meets its contract: the answer and the list are those of `open`, and what is written out ends within the buffer.
-use Prim.Native.Nat.{_-_}
 use native.Mathlib.Omega.{arith}
 use lib.ListN.{length-take}
 use borrow.Author.Needs.{needs}

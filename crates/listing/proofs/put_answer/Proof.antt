@@ -1,5 +1,4 @@
 -- `put_answer` is safe: each answer's lines end within the buffer.
-use Prim.Native.Nat.{_-_}
 use Rattle.text.proofs.TextLaws.{printed-within}
 use borrow.Author.Needs.{needs}
 use Rattle.listing.proofs.put_answer.Statement.{statement}

@@ -1,5 +1,4 @@
 -- `put_tessellation` is safe: the line of the counts ends within the buffer.
-use Prim.Native.Nat.{_-_}
 use native.Mathlib.Omega.{arith}
 use Rattle.text.proofs.TextLaws.{printed-within}
 use borrow.Author.Needs.{needs}

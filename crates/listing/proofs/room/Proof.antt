@@ -1,5 +1,4 @@
 -- `room` is safe: what is written out ends at the place that is given.
-use Prim.Native.Nat.{_-_}
 use native.Mathlib.Omega.{arith}
 use lib.ListN.{length-take}
 use borrow.Author.Needs.{needs}
