@@ -17,11 +17,10 @@ use lib.Ieee.{Float}
 use lib.ListN.{length, take, drop}
 use Rattle.finite.specs.Table.{Answer, result, refusal}
 use Rattle.mesh.specs.IndexedMesh.{IndexedMesh}
-use Rattle.mesh.specs.Answer.{checked, checkAnswer, checkTwins, faceCorners}
+use Rattle.mesh.specs.Answer.{checkAnswer, checkTwins, faceCorners}
 use Rattle.mesh.specs.declared.model.Mesh.{Mesh}
-use Rattle.mesh.specs.declared.model.Checked.{Checked}
 use Rattle.patch.specs.Answer.{patchAnswer, patchTwins, patchList}
-use Rattle.sample.specs.Answer.{Over256, sampleAnswer}
+use Rattle.sample.specs.Answer.{Over256}
 use Rattle.sample.specs.declared.model.Point.{Point}
 
 abbrev pub code : {A : Type 0} → Answer A → ℕ

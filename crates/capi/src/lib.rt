@@ -32,7 +32,9 @@ fn store_counts(
     edges: &mut usize,
     boundary: &mut usize,
 ) -> u8
-    ensures { λ r. ⌜ CountsStored (checked answer) (now (vertices .entry) ∷ (now (faces .entry) ∷ (now (edges .entry) ∷ (now (boundary .entry) ∷ [])))) r (now (vertices .exit) ∷ (now (faces .exit) ∷ (now (edges .exit) ∷ (now (boundary .exit) ∷ [])))) ⌝ }
+    ensures { λ r. ⌜ CountsStored (checked answer)
+        (now (vertices .entry) ∷ (now (faces .entry) ∷ (now (edges .entry) ∷ (now (boundary .entry) ∷ [])))) r
+        (now (vertices .exit) ∷ (now (faces .exit) ∷ (now (edges .exit) ∷ (now (boundary .exit) ∷ [])))) ⌝ }
 {
     match answer {
         Checked::Accepted(m) => {
@@ -64,7 +66,9 @@ pub extern "C" fn rusketja_check(
     edges: &mut usize,
     boundary: &mut usize,
 ) -> u8
-    ensures { λ r. ⌜ CheckStored (indexed v f (now (positions .entry)) (now (tags .entry)) (now (indices .entry))) (now (twins .entry)) (now (vertices .entry) ∷ (now (faces .entry) ∷ (now (edges .entry) ∷ (now (boundary .entry) ∷ [])))) r (now (twins .exit)) (now (vertices .exit) ∷ (now (faces .exit) ∷ (now (edges .exit) ∷ (now (boundary .exit) ∷ [])))) ⌝ }
+    ensures { λ r. ⌜ CheckStored (indexed v f (now (positions .entry)) (now (tags .entry)) (now (indices .entry))) (now (twins .entry))
+        (now (vertices .entry) ∷ (now (faces .entry) ∷ (now (edges .entry) ∷ (now (boundary .entry) ∷ [])))) r (now (twins .exit))
+        (now (vertices .exit) ∷ (now (faces .exit) ∷ (now (edges .exit) ∷ (now (boundary .exit) ∷ [])))) ⌝ }
 {
     let answer = mesh::check(v, f, positions, tags, indices, twins);
     store_counts(answer, vertices, faces, edges, boundary)
@@ -90,7 +94,9 @@ pub extern "C" fn rusketja_patches(
     edges: &mut usize,
     boundary: &mut usize,
 ) -> u8
-    ensures { λ r. ⌜ PatchesStored (indexed v f (now (positions .entry)) (now (tags .entry)) (now (indices .entry))) (now (twins .entry)) (now (patches .entry)) (now (vertices .entry) ∷ (now (faces .entry) ∷ (now (edges .entry) ∷ (now (boundary .entry) ∷ [])))) r (now (twins .exit)) (now (patches .exit)) (now (vertices .exit) ∷ (now (faces .exit) ∷ (now (edges .exit) ∷ (now (boundary .exit) ∷ [])))) ⌝ }
+    ensures { λ r. ⌜ PatchesStored (indexed v f (now (positions .entry)) (now (tags .entry)) (now (indices .entry))) (now (twins .entry)) (now (patches .entry))
+        (now (vertices .entry) ∷ (now (faces .entry) ∷ (now (edges .entry) ∷ (now (boundary .entry) ∷ [])))) r (now (twins .exit)) (now (patches .exit))
+        (now (vertices .exit) ∷ (now (faces .exit) ∷ (now (edges .exit) ∷ (now (boundary .exit) ∷ [])))) ⌝ }
 {
     let answer = patch::patches(v, f, positions, tags, indices, twins, patches);
     store_counts(answer, vertices, faces, edges, boundary)
@@ -111,7 +117,9 @@ pub extern "C" fn rusketja_sample(
     y: &mut i32,
     z: &mut i32,
 ) -> u8
-    ensures { λ r. ⌜ SampleStored (sampleAnswer (now (patches .entry)) f n a b) (now (x .entry) ∷ (now (y .entry) ∷ (now (z .entry) ∷ []))) r (now (x .exit) ∷ (now (y .exit) ∷ (now (z .exit) ∷ []))) ⌝ }
+    ensures { λ r. ⌜ SampleStored (sampleAnswer (now (patches .entry)) f n a b)
+        (now (x .entry) ∷ (now (y .entry) ∷ (now (z .entry) ∷ []))) r
+        (now (x .exit) ∷ (now (y .exit) ∷ (now (z .exit) ∷ []))) ⌝ }
 {
     match sample::sample(patches, f, n, a, b) {
         Sampled::At(p) => {
@@ -142,7 +150,9 @@ pub extern "C" fn rusketja_reading(
     y: &mut f64,
     z: &mut f64,
 ) -> u8
-    ensures { λ r. ⌜ ReadingStored (sampleAnswer (now (patches .entry)) f n a b) (now (x .entry)) (now (y .entry)) (now (z .entry)) r (now (x .exit)) (now (y .exit)) (now (z .exit)) ⌝ }
+    ensures { λ r. ⌜ ReadingStored (sampleAnswer (now (patches .entry)) f n a b)
+        (now (x .entry)) (now (y .entry)) (now (z .entry)) r
+        (now (x .exit)) (now (y .exit)) (now (z .exit)) ⌝ }
 {
     match sample::reading(patches, f, n, a, b) {
         Reading::At(p) => {

@@ -5,8 +5,8 @@ ghost use lib.Dec.{ltb};
 ghost use lib.IntN.{pos, negℤ, natAbs};
 ghost use Rattle.integer.specs.Nearest.{nearestℕ, nearest};
 
-// The magnitude of `num`: for a negative number one more than that of `num + 1`, since the smallest one has no negation.
-fn magnitude(num: i64) -> u64
+// Returns the magnitude of `num`, for every `num`: for a negative number one more than that of `num + 1`, since the smallest one has no negation.
+pub fn magnitude(num: i64) -> u64
     ensures { λ r. ⌜ r ≡ natAbs num ⌝ }
 {
     if num < 0 {

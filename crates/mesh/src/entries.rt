@@ -15,8 +15,8 @@ ghost use Rattle.mesh.specs.Corner.{turn};
 ghost use Rattle.mesh.specs.Refusal.{off, sizesOff};
 ghost use Rattle.mesh.specs.Tables.{vertexOf, Indices};
 
-// Whether x is off the range from low to high.
-pub(crate) fn off_range(low: usize, high: usize, x: usize) -> bool
+// Whether x is off the range from low to high. Writes: nothing. Refuses: nothing.
+pub fn off_range(low: usize, high: usize, x: usize) -> bool
     ensures { λ r. ⌜ r ≡ off low high x ⌝ }
 {
     if x < low {

@@ -2,7 +2,7 @@
 mod chain;
 mod corner;
 mod count;
-mod entries;
+pub mod entries;
 mod fan;
 pub mod model;
 mod phases;

@@ -17,7 +17,7 @@ use Rattle.finite.proofs.FilledLaws.{length-listBelow}
 use Rattle.mesh.specs.Limits.{minVertices, maxVertices, minFaces, maxFaces}
 use Rattle.mesh.specs.Refusal.{off}
 use Rattle.mesh.proofs.SizeLaws.{off-false}
-use Rattle.meshfile.specs.File.{vertices, faces, positionAt, tagAt, indexAt, headerShort, sizesOff, lengthOff, fileRows}
+use Rattle.meshfile.specs.File.{vertices, faces, positionAt, tagAt, indexAt, headerShort, headerOff, lengthOff, fileRows}
 use Rattle.meshfile.specs.declared.model.Header.{Header}
 use Rattle.meshfile.specs.declared.model.Decoded.the-variants.{Read, Refused}
 use Rattle.meshfile.specs.Answer.{headerOf, placesShort, decodeRefusal, FileDecoded}
@@ -30,21 +30,21 @@ module _ (b : List ℕ) where
 
   module _ (long : 6 ≤ length b) where
     pub rows-vertices : off minVertices maxVertices (vertices b) ≡ true → firstMet (fileRows b) ≡ some 1
-    unfolding headerShort sizesOff
+    unfolding headerShort headerOff
     rows-vertices e = rw (le-ltb (length b) 6 long, e)
 
     module _ (v : off minVertices maxVertices (vertices b) ≡ false) where
       pub rows-faces : off minFaces maxFaces (faces b) ≡ true → firstMet (fileRows b) ≡ some 1
-      unfolding headerShort sizesOff
+      unfolding headerShort headerOff
       rows-faces e = rw (le-ltb (length b) 6 long, v, e)
 
       module _ (f : off minFaces maxFaces (faces b) ≡ false) where
         pub rows-length : (length b ≡ 6 + 13 * vertices b + 8 * faces b → ⊥) → firstMet (fileRows b) ≡ some 15
-        unfolding headerShort sizesOff lengthOff
+        unfolding headerShort headerOff lengthOff
         rows-length e = rw (le-ltb (length b) 6 long, v, f, ne-eqb (length b) (6 + 13 * vertices b + 8 * faces b) e)
 
         pub rows-none : length b ≡ 6 + 13 * vertices b + 8 * faces b → firstMet (fileRows b) ≡ none
-        unfolding headerShort sizesOff lengthOff
+        unfolding headerShort headerOff lengthOff
         rows-none e = rw (le-ltb (length b) 6 long, v, f, eq-eqb (length b) (6 + 13 * vertices b + 8 * faces b) e)
 
 -- a file that meets none of them
@@ -56,10 +56,10 @@ pub record Whole (b : List ℕ) : Type 0 where
   pub length-is : length b ≡ 6 + 13 * vertices b + 8 * faces b
 
 pub file-whole : (b : List ℕ) → firstMet (fileRows b) ≡ none → Whole b
-unfolding sizesOff lengthOff
+unfolding headerOff lengthOff
 file-whole b e =
     let h₁ = none-met (headerShort b) 15 _ e in
-    let h₂ = none-met (sizesOff b) 1 _ (h₁ .1) in
+    let h₂ = none-met (headerOff b) 1 _ (h₁ .1) in
     let h₃ = none-met (lengthOff b) 15 none (h₂ .1) in
     let s = or-false (off minVertices maxVertices (vertices b)) (off minFaces maxFaces (faces b)) (h₂ .0) in
     let v = off-false minVertices maxVertices (vertices b) (s .0) in

@@ -1,6 +1,6 @@
 -- From the answers of decoding and of the mesh calls to that of opening a file.
 use mathlib.Core.Path.{_≡_, refl, sym, ap, _∙_, subst}
-use mathlib.Core.Bool.{true, false, _||_}
+use mathlib.Core.Bool.{true, false}
 use mathlib.Core.List.{List, [], _∷_, _++_}
 use mathlib.Core.Option.{Option, none, some}
 use Prim.Native.Nat.{ℕ, _-_, _*_, _≤_}
@@ -9,18 +9,17 @@ use lib.IntN.{ℤ}
 use lib.ListN.{length, take, length-append, length-replicate, replicate}
 use borrow.Author.Tests.{le-ltb}
 use Rattle.finite.specs.Filled.{listBelow, filled}
-use Rattle.finite.specs.Table.{row, firstMet, result, refusal, answerBy}
+use Rattle.finite.specs.Table.{Row, row, firstMet, result, refusal}
 use Rattle.finite.proofs.FilledLaws.{length-listBelow}
 use Rattle.finite.proofs.TableLaws.{skipped, orElse, orElse-none, some-append, none-append, append-none, result-none, refusal-met}
 use Rattle.mesh.specs.Limits.{maxVertices, maxFaces}
 use Rattle.mesh.specs.IndexedMesh.{IndexedMesh, indexed, corners}
 use Rattle.mesh.specs.Refusal.{earlyRows, lateRows}
 use Rattle.mesh.specs.WellFormed.{Sized}
-use Rattle.mesh.specs.Answer.{countsOf, meshRefusal, twinsShort}
+use Rattle.mesh.specs.Answer.{meshRefusal, twinsShort}
 use Rattle.mesh.proofs.AcceptedLaws.{sizes-none}
 use Rattle.mesh.proofs.PhaseLaws.{refusal-alike, refusal-split, refusal-own}
-use Rattle.patch.specs.Patch.{patchesAfter}
-use Rattle.patch.specs.Answer.{patchesShort, listsShort, patchRows}
+use Rattle.patch.specs.Answer.{patchesShort, patchRows}
 use Rattle.meshfile.specs.File.{vertices, faces, steps, positionAt, tagAt, indexAt, meshOf, fileRows}
 use Rattle.meshfile.specs.declared.model.Header.{Header}
 use Rattle.meshfile.specs.declared.model.Decoded.{Decoded}
@@ -30,26 +29,37 @@ use Rattle.meshfile.specs.Answer.{headerOf, decoded, stepsOff, placesSho
 use Rattle.meshfile.specs.Private.{tessellateRefusal, Tessellated}
 use Rattle.meshfile.proofs.FileLaws.{Whole, file-whole, decode-file, decode-read, take-filled}
 
+-- the sizes of a mesh and of its lists are in order
+abbrev pub MeshSized : IndexedMesh → Type 0
+MeshSized M = Sized (M .vertices) (M .faces) (length (M .positions)) (length (M .tags)) (length (M .indices))
+
+-- the rows that opening adds to those of the mesh: 2 for the patch list, 14 for N
+abbrev listRow : IndexedMesh → List ℤ → List Row
+listRow M d = row (patchesShort M d) 2 ∷ []
+
+abbrev stepsRow : ℕ → List Row
+stepsRow n = row (stepsOff n) 14 ∷ []
+
 -- ---- the mesh and its N
 module _ (M : IndexedMesh) (n : ℕ) (d : List ℤ) where
   pub refused-mesh : (k : ℕ) → tessellateRefusal M n d ≡ some k → Tessellated M n d (OpenRefused k) d
   refused-mesh k e = record { answer-is = rw e; patches-are = rw e }
 
   -- the patch list is too short
-  pub patches-short : Sized (M .vertices) (M .faces) (length (M .positions)) (length (M .tags)) (length (M .indices)) → patchesShort M d ≡ true → tessellateRefusal M n d ≡ some 2
-  patches-short s e = refusal-own M (row (patchesShort M d) 2 ∷ []) (row (stepsOff n) 14 ∷ []) (sizes-none s) (rw e)
+  pub patches-short : MeshSized M → patchesShort M d ≡ true → tessellateRefusal M n d ≡ some 2
+  patches-short s e = refusal-own M (listRow M d) (stepsRow n) (sizes-none s) (rw e)
 
   -- N is off its range
   pub steps-off : {k : ℕ} → patchesShort M d ≡ false → stepsOff n ≡ true → meshRefusal M [] (row true 14 ∷ []) ≡ some k → tessellateRefusal M n d ≡ some k
-  steps-off long off e = refusal-alike M (row (patchesShort M d) 2 ∷ []) [] (λ _. skipped 2 none long) (row (stepsOff n) 14 ∷ []) ∙ rw off e
+  steps-off long off e = refusal-alike M (listRow M d) [] (λ _. skipped 2 none long) (stepsRow n) ∙ rw off e
 
   -- N is in its range, and the list of twins that the code keeps is long enough for every mesh
   pub steps-on : M .faces ≤ maxFaces → stepsOff n ≡ false → tessellateRefusal M n d ≡ meshRefusal M (patchRows M (replicate (4 * maxFaces) 0) d) []
   steps-on few on =
-      refusal-split M (row (patchesShort M d) 2 ∷ []) (row (stepsOff n) 14 ∷ [])
-      ∙ ap (orElse (meshRefusal M (row (patchesShort M d) 2 ∷ []) [])) (skipped 14 none on)
-      ∙ orElse-none (meshRefusal M (row (patchesShort M d) 2 ∷ []) [])
-      ∙ sym (refusal-alike M (patchRows M (replicate (4 * maxFaces) 0) d) (row (patchesShort M d) 2 ∷ []) (λ _. rw twins-enough) [])
+      refusal-split M (listRow M d) (stepsRow n)
+      ∙ ap (orElse (meshRefusal M (listRow M d) [])) (skipped 14 none on)
+      ∙ orElse-none (meshRefusal M (listRow M d) [])
+      ∙ sym (refusal-alike M (patchRows M (replicate (4 * maxFaces) 0) d) (listRow M d) (λ _. rw twins-enough) [])
     where
       twins-enough : twinsShort M (replicate (4 * maxFaces) 0) ≡ false
       twins-enough = le-ltb (length (replicate {A = ℕ} (4 * maxFaces) 0)) (corners M) (omega (arith, few, length-replicate {A = ℕ} (4 * maxFaces) 0))
@@ -57,7 +67,10 @@ module _ (M : IndexedMesh) (n : ℕ) (d : List ℤ) where
 -- ---- what decoding into lists that are long enough for every file says of the file
 places-enough : (b : List ℕ) (p t i : ℕ) → 3 * maxVertices ≤ p → maxVertices ≤ t → 4 * maxFaces ≤ i → Whole b → placesShort b p t i ≡ false
 places-enough b p t i lp lt li w =
-    rw (le-ltb p (3 * vertices b) (omega (arith, w .vertices-high)), le-ltb t (vertices b) (omega (arith, w .vertices-high)), le-ltb i (4 * faces b) (omega (arith, w .faces-high)))
+    let positions = le-ltb p (3 * vertices b) (omega (arith, w .vertices-high)) in
+    let tags = le-ltb t (vertices b) (omega (arith, w .vertices-high)) in
+    let indices = le-ltb i (4 * faces b) (omega (arith, w .faces-high)) in
+    rw (positions, tags, indices)
 
 -- a file that was read, with the sizes that were handed on, and the lists afterwards
 pub record FileRead (b : List ℕ) (p : List ℤ) (t i : List ℕ) (h : Header) (p' : List ℤ) (t' i' : List ℕ) : Type 0 where
@@ -68,7 +81,8 @@ pub record FileRead (b : List ℕ) (p : List ℤ) (t i : List ℕ) (h : Header) 
   pub faces-are : i' ≡ filled (indexAt b) (4 * faces b) i
 
 module _ (b : List ℕ) (p : List ℤ) (t i : List ℕ) where
-  pub file-read : {r : Decoded} {h : Header} {p' : List ℤ} {t' i' : List ℕ} → decoded r ≡ result h → FileDecoded b p t i r p' t' i' → FileRead b p t i h p' t' i'
+  pub file-read : {r : Decoded} {h : Header} {p' : List ℤ} {t' i' : List ℕ}
+      → decoded r ≡ result h → FileDecoded b p t i r p' t' i' → FileRead b p t i h p' t' i'
   unfolding decodeRefusal
   file-read told s =
       let r = result-none (decodeRefusal b (length p) (length t) (length i)) (sym told ∙ s .answer-is) in
@@ -85,9 +99,12 @@ module _ (b : List ℕ) (p : List ℤ) (t i : List ℕ) where
       → decoded r ≡ refusal k → FileDecoded b p t i r p' t' i' → firstMet (fileRows b) ≡ some k
   file-turned-down {k = k} lp lt li told s =
       by-cases (firstMet (fileRows b))
-      (λ q. absurd (apart (sym met ∙ decode-read b (length p) (length t) (length i) q (places-enough b (length p) (length t) (length i) lp lt li (file-whole b q)))))
+      (λ q. absurd (apart (sym met ∙ decode-read b (length p) (length t) (length i) q (enough q))))
       (λ j q. q ∙ sym (decode-file b (length p) (length t) (length i) q) ∙ met)
     where
+      enough : firstMet (fileRows b) ≡ none → placesShort b (length p) (length t) (length i) ≡ false
+      enough q = places-enough b (length p) (length t) (length i) lp lt li (file-whole b q)
+
       met : decodeRefusal b (length p) (length t) (length i) ≡ some k
       met = refusal-met (headerOf b) (decodeRefusal b (length p) (length t) (length i)) (sym told ∙ s .answer-is)
 
@@ -98,20 +115,21 @@ module _ (b : List ℕ) (p : List ℤ) (t i : List ℕ) where
       by-cases none f g = f refl
       by-cases (some j) f g = g j refl
 
--- ---- opening
+-- ---- opening: the rows behind those of the file
+abbrev rowsAfter : List ℕ → List ℤ → List Row
+rowsAfter b d = earlyRows (meshOf b) (listRow (meshOf b) d) ++ (lateRows (meshOf b) ++ stepsRow (steps b))
+
 module _ (b : List ℕ) (d : List ℤ) where
   pub open-refused : {k : ℕ} → firstMet (fileRows b) ≡ some k → FileOpened b d (OpenRefused k) d
   unfolding openRefusal
   open-refused {k} e =
-      let m = meshOf b in
-      let met : openRefusal b d ≡ some k = some-append (fileRows b) (earlyRows m (row (patchesShort m d) 2 ∷ []) ++ (lateRows m ++ (row (stepsOff (steps b)) 14 ∷ []))) e in
+      let met : openRefusal b d ≡ some k = some-append (fileRows b) (rowsAfter b d) e in
       record { answer-is = rw met; patches-are = rw met }
 
   open-read : firstMet (fileRows b) ≡ none → {r : Opened} {d' : List ℤ} → Tessellated (meshOf b) (steps b) d r d' → FileOpened b d r d'
   unfolding openRefusal meshRefusal
   open-read e {r} {d'} s =
-      let m = meshOf b in
-      let same : openRefusal b d ≡ tessellateRefusal m (steps b) d = none-append (fileRows b) (earlyRows m (row (patchesShort m d) 2 ∷ []) ++ (lateRows m ++ (row (stepsOff (steps b)) 14 ∷ []))) e in
+      let same : openRefusal b d ≡ tessellateRefusal (meshOf b) (steps b) d = none-append (fileRows b) (rowsAfter b d) e in
       record { answer-is = rw same (s .answer-is); patches-are = rw same (s .patches-are) }
 
   pub open-mesh : firstMet (fileRows b) ≡ none → {M : IndexedMesh} {n : ℕ} → M ≡ meshOf b → n ≡ steps b
@@ -132,9 +150,12 @@ pub mesh-is : (b : List ℕ) {p p' : List ℤ} {t t' i i' : List ℕ} {h : Heade
     → indexed (h .vertices) (h .faces) (take (3 * h .vertices - 0) p') (take (h .vertices - 0) t') (take (4 * h .faces - 0) i') ≡ meshOf b
 unfolding meshOf
 mesh-is b {p} {p'} {t} {t'} {i} {i'} r =
-    rw (r .header-is, part-is (positionAt b) (3 * vertices b) p p' (r .positions-are), part-is (tagAt b) (vertices b) t t' (r .tags-are), part-is (indexAt b) (4 * faces b) i i' (r .faces-are))
+    let positions = part-is (positionAt b) (3 * vertices b) p p' (r .positions-are) in
+    let tags = part-is (tagAt b) (vertices b) t t' (r .tags-are) in
+    let indices = part-is (indexAt b) (4 * faces b) i i' (r .faces-are) in
+    rw (r .header-is, positions, tags, indices)
 
-pub whole-sized : (b : List ℕ) → Whole b → Sized (meshOf b .vertices) (meshOf b .faces) (length (meshOf b .positions)) (length (meshOf b .tags)) (length (meshOf b .indices))
+pub whole-sized : (b : List ℕ) → Whole b → MeshSized (meshOf b)
 unfolding meshOf
 whole-sized b w = record {
   vertices-low = w .vertices-low;

@@ -40,14 +40,17 @@ unfoldable pub meshOf : List ℕ → IndexedMesh
 meshOf b =
     indexed (vertices b) (faces b) (listBelow (positionAt b) (3 * vertices b)) (listBelow (tagAt b) (vertices b)) (listBelow (indexAt b) (4 * faces b))
 
+-- 15: "fewer than 6 bytes"
 unfoldable pub headerShort : List ℕ → Bool
 headerShort b = ltb (length b) 6
 
-unfoldable pub sizesOff : List ℕ → Bool
-sizesOff b = off minVertices maxVertices (vertices b) || off minFaces maxFaces (faces b)
+-- 1: V or F off its range
+unfoldable pub headerOff : List ℕ → Bool
+headerOff b = off minVertices maxVertices (vertices b) || off minFaces maxFaces (faces b)
 
+-- 15: "a length other than 6 + 13V + 8F"
 unfoldable pub lengthOff : List ℕ → Bool
 lengthOff b = not (eqb (length b) (6 + 13 * vertices b + 8 * faces b))
 
 abbrev pub fileRows : List ℕ → List Row
-fileRows b = row (headerShort b) 15 ∷ (row (sizesOff b) 1 ∷ (row (lengthOff b) 15 ∷ []))
+fileRows b = row (headerShort b) 15 ∷ (row (headerOff b) 1 ∷ (row (lengthOff b) 15 ∷ []))

@@ -1,6 +1,7 @@
 // The sizes of a file, and the refusals that look at the file by itself.
 use crate::bytes::size_at;
 use crate::model::Header;
+use mesh::entries::off_range;
 use mesh::model::Mesh;
 ghost use mathlib.Core.Path.{_≡_};
 ghost use mathlib.Core.Bool.{_||_};
@@ -9,18 +10,7 @@ ghost use lib.Dec.{ltb};
 ghost use lib.ListN.{length};
 ghost use Rattle.finite.specs.Table.{firstMet, refusalOf};
 ghost use Rattle.mesh.specs.Limits.{maxVertices, maxFaces};
-ghost use Rattle.mesh.specs.Refusal.{off};
 ghost use Rattle.meshfile.specs.File.{vertices, faces, steps, fileRows};
-
-// Whether x is off the range from low to high.
-pub(crate) fn off_range(low: usize, high: usize, x: usize) -> bool
-    ensures { λ r. ⌜ r ≡ off low high x ⌝ }
-{
-    if x < low {
-        return true;
-    }
-    high < x
-}
 
 // The number of the file's own refusal: 15 for fewer bytes than the sizes have, 1 for the sizes, 15 for the length; 0 for none.
 pub(crate) fn file_refusal(bytes: &[u8]) -> u8

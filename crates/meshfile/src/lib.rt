@@ -24,7 +24,9 @@ ghost use Rattle.meshfile.specs.Answer.{FileDecoded, FileOpened};
 // Refuses, in this order: 15 fewer than 6 bytes, 1 V or F off its range, 15 a length other than 6 + 13V + 8F, 2 a list that is too short.
 // Units: positions in micrometres.
 pub fn decode(bytes: &[u8], positions: &mut [i32], tags: &mut [u8], faces: &mut [u16]) -> Decoded
-    ensures { λ r. ⌜ FileDecoded (now (bytes .entry)) (now (positions .entry)) (now (tags .entry)) (now (faces .entry)) r (now (positions .exit)) (now (tags .exit)) (now (faces .exit)) ⌝ }
+    ensures { λ r. ⌜ FileDecoded (now (bytes .entry))
+        (now (positions .entry)) (now (tags .entry)) (now (faces .entry)) r
+        (now (positions .exit)) (now (tags .exit)) (now (faces .exit)) ⌝ }
 {
     let refusal = file_refusal(bytes);
     if refusal != 0 {

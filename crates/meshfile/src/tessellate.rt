@@ -1,7 +1,7 @@
 // The mesh of a file, checked and turned into patches.
-use crate::header::off_range;
 use crate::model::Opened;
 use crate::model::Tessellation;
+use mesh::entries::off_range;
 use mesh::model::Checked;
 use mesh::model::Mesh;
 use sample::model::Point;
@@ -37,7 +37,8 @@ pub(crate) fn tessellate(
     patches: &mut [i32],
 ) -> Opened
     requires { ⌜ Sized v f (length (now positions)) (length (now tags)) (length (now faces)) ⌝ }
-    ensures { λ r. ⌜ Tessellated (indexed v f (now (positions .entry)) (now (tags .entry)) (now (faces .entry))) n (now (patches .entry)) r (now (patches .exit)) ⌝ }
+    ensures { λ r. ⌜ Tessellated (indexed v f (now (positions .entry)) (now (tags .entry)) (now (faces .entry))) n
+        (now (patches .entry)) r (now (patches .exit)) ⌝ }
 {
     if patches.len() < 48 * f {
         return Opened::Refused(2);

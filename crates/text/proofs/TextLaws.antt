@@ -4,11 +4,10 @@ use mathlib.Core.Bool.{Bool, true, false, cond}
 use mathlib.Core.List.{List, [], _∷_, _++_}
 use Prim.Native.Nat.{ℕ, zero, suc, _+_, _/_, _%_, _^_, _≤_, _<_}
 use native.Mathlib.Nat.{add-zero, zero-add, div-lt-iff-lt-mul, pow-suc, lt-of-lt-of-le}
-use native.Mathlib.Numerals.{add-one}
 use native.Mathlib.Omega.{arith}
 use lib.Dec.{T, ltb, lit<, lit≤}
 use lib.IntN.{ℤ, pos, negsuc, natAbs}
-use lib.Signed.{ltZ, mag}
+use lib.Signed.{ltZ}
 use lib.ListN.{length, drop, set, length-append, length-drop}
 use lib.Seq.{sets, sets-eq, length-sets, append-snoc}
 use mir.Syntax.{w32}
@@ -64,9 +63,9 @@ decimal-short : (n : ℕ) → n ≤ 2 ^ 31 → length (decimal n) ≤ 10
 decimal-short n h = rw (spare 9 19 n (lit≤ tt) (omega arith)) (digits-length 10 n)
 
 -- ---- signed numbers
-pub text-negative : (z : ℤ) → ltZ z (pos 0) ≡ true → 45 ∷ decimal (mag z + 1) ≡ text z
+pub text-negative : (z : ℤ) → ltZ z (pos 0) ≡ true → 45 ∷ decimal (natAbs z) ≡ text z
 text-negative (pos n) t = absurd (omega (arith, ltb-true n 0 t))
-text-negative (negsuc n) t = ap (λ (m : ℕ). 45 ∷ decimal m) (add-one n)
+text-negative (negsuc n) t = refl
 
 pub text-not-negative : (z : ℤ) → ltZ z (pos 0) ≡ false → decimal (natAbs z) ≡ text z
 text-not-negative (pos n) t = refl

@@ -26,11 +26,12 @@ fn put_signed(z: i32, line: &mut [u8], at: usize) -> usize
     requires { ⌜ at + 11 ≤ length (now line) ⌝ }
     ensures { λ r. ⌜ Put (text z) at (now (line .entry)) (now (line .exit)) r ⌝ }
 {
+    let size = integer::magnitude(z as i64) as usize;
     if z < 0 {
         line[at] = b'-';
-        return put_digits((-1 - z) as usize + 1, line, at + 1);
+        return put_digits(size, line, at + 1);
     }
-    put_digits(z as usize, line, at)
+    put_digits(size, line, at)
 }
 
 // Stores a number and the byte behind it, and returns the place behind that.

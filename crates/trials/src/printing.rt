@@ -20,9 +20,9 @@ pub(crate) fn print_number(n: usize) {
     print_wide(n as u64);
 }
 
-// The magnitude of a number: for a negative one, one more than that of `n + 1`.
+// The magnitude of a number.
 pub(crate) fn magnitude(n: i32) -> u64 {
-    if n < 0 { (-1 - n) as u64 + 1 } else { n as u64 }
+    integer::magnitude(n as i64)
 }
 
 // A blank and a signed number.

@@ -1,12 +1,11 @@
 -- `rusketja_patches` meets its contract: the answer of the patch call is stored, and the two lists are as the patch call left them.
-use mathlib.Core.Path.{ap, _∙_}
-use mathlib.Core.List.{[], _∷_}
 use borrow.Author.Needs.{needs}
-use Rattle.finite.specs.Table.{Answer}
-use Rattle.mesh.specs.declared.model.Mesh.{Mesh}
-use Rattle.capi.specs.Answer.{code, counted}
 use Rattle.capi.proofs.rusketja_patches.Statement.{statement}
 use Rattle.capi.proofs.rusketja_patches.Tie as tie
+
+-- ---- the way back: from the counts that are stored to the patch call
+abbrev called : tie.After-store-counts-arg → tie.After-patches
+called c = c .before .before .before .before
 
 patches-requires : tie.Need-patches-requires
 patches-requires c κs = tt
@@ -22,13 +21,9 @@ same-length-2 c = search needs
 
 returns : tie.Need-returns
 returns c =
-    let written = c .before .before .before .before .before .before .before .before in
-    let s = written .before .before .before .before .before .before .args in
-    let answer = written .patches .ensures in
-    let lent = s .vertices .now ∷ (s .faces .now ∷ (s .edges .now ∷ (s .boundary .now ∷ []))) in
-    let kept = c .store-counts .ensures in
+    let answer = called (c .before .before .before .before) .patches .ensures in
     record {
-      stored = record { code-is = kept .code-is ∙ ap code (answer .answer-is); counts-are = kept .counts-are ∙ ap (λ (t : Answer Mesh). counted t lent) (answer .answer-is) };
+      stored = rw (answer .answer-is) at (c .store-counts .ensures);
       twins-are = answer .twins-are;
       patches-are = answer .patches-are;
     }

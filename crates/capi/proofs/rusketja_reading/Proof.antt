@@ -1,5 +1,5 @@
 -- `rusketja_reading` meets its contract: the three stores are those of the reading, and a refusal stores nothing.
-use mathlib.Core.Path.{_≡_, refl, subst}
+use mathlib.Core.Path.{refl, subst}
 use Prim.Native.Nat.{ℕ}
 use lib.Ieee.{Float}
 use borrow.Author.Needs.{needs}
@@ -38,13 +38,15 @@ returns : tie.Need-returns
 returns c =
     let told = c .before .before .before in
     let s = told .before in
-    read-at (answer s) _ (s .args .x .now) (s .args .y .now) (s .args .z .now) (subst (λ (r : Reading). Reads r (answer s)) (c .before .p .given .1) (told .reading .ensures))
+    let read = subst (λ (r : Reading). Reads r (answer s)) (c .before .p .given .1) (told .reading .ensures) in
+    read-at (answer s) _ (s .args .x .now) (s .args .y .now) (s .args .z .now) read
 
 returns-2 : tie.Need-returns-2
 returns-2 c =
     let told = c .before .before .before in
     let s = told .before in
-    read-refused (answer s) _ (s .args .x .now) (s .args .y .now) (s .args .z .now) (subst (λ (r : Reading). Reads r (answer s)) (c .before .k .given .1) (told .reading .ensures))
+    let read = subst (λ (r : Reading). Reads r (answer s)) (c .before .k .given .1) (told .reading .ensures) in
+    read-refused (answer s) _ (s .args .x .now) (s .args .y .now) (s .args .z .now) read
 
 pub rusketja-reading-spec : {M : Type 1} → statement M
 rusketja-reading-spec =

@@ -31,10 +31,10 @@ returns c =
     let p = at .p .given .0 .0 in
     let fits = c .struct-told3 .given in
     let e = sym (ap sampled (at .p .given .1)) ∙ at .before .before .sample .ensures in
-    record {
-      code-is = ap code e;
-      point-is = rw (toZ-ofZ {w = w32} {z = p .x} (record { sfits = fits .0 .1 }), toZ-ofZ {w = w32} {z = p .y} (record { sfits = fits .1 .0 .1 }), toZ-ofZ {w = w32} {z = p .z} (record { sfits = fits .1 .1 .0 .1 })) (ap (λ (t : Answer Point). placed t (lent (at .before .before .before))) e);
-    }
+    let x = toZ-ofZ {w = w32} {z = p .x} (record { sfits = fits .0 .1 }) in
+    let y = toZ-ofZ {w = w32} {z = p .y} (record { sfits = fits .1 .0 .1 }) in
+    let z = toZ-ofZ {w = w32} {z = p .z} (record { sfits = fits .1 .1 .0 .1 }) in
+    record { code-is = ap code e; point-is = rw (x, y, z) (ap (λ (t : Answer Point). placed t (lent (at .before .before .before))) e) }
 
 returns-2 : tie.Need-returns-2
 returns-2 c =

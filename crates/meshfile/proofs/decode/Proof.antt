@@ -1,6 +1,6 @@
 -- `decode` meets its contract: the refusals come in the order of the definition, and each list is filled from its part of the file.
 use mathlib.Core.Path.{_≡_, sym, ap, ap₂, _∙_}
-use mathlib.Core.Bool.{_||_}
+use mathlib.Core.Bool.{Bool, _||_}
 use mathlib.Core.List.{List}
 use mathlib.Core.Option.{none}
 use Prim.Native.Nat.{ℕ, _+_, _*_, _≤_}
@@ -22,14 +22,17 @@ use Rattle.meshfile.proofs.decode.Tie as tie
 
 -- ---- the file's own refusals have passed
 module _ (c : tie.Else1) where
+  abbrev own : tie.After-file-refusal
+  own = c .before
+
   abbrev start : tie.Start
-  start = c .before .before .before .before .before
+  start = own .before .before .before .before
 
   abbrev file : List ℕ
   file = start .args .bytes .now
 
   passed : firstMet (fileRows file) ≡ none
-  passed = c .before .file-refusal .ensures ∙ ap refusalOf (c .if1 .left)
+  passed = own .file-refusal .ensures ∙ ap refusalOf (c .if1 .left)
 
   whole : Whole file
   whole = file-whole file passed
@@ -43,15 +46,29 @@ module _ (c : tie.After-sizes-of) where
   faces-read = ap (λ (h : Header). h .faces) (c .sizes-of .ensures)
 
 -- ---- what the test of the lists said
-told : (c : tie.After-places-short) → placesShort (file (c .before .before)) (length (start (c .before .before) .args .positions .now)) (length (start (c .before .before) .args .tags .now)) (length (start (c .before .before) .args .faces .now)) ≡ c .places-short .result
-told c =
-    let s = start (c .before .before) in
-    sym (c .places-short .ensures ∙ ap₂ (λ (v f : ℕ). ltb (length (s .args .positions .now)) (3 * v) || (ltb (length (s .args .tags .now)) v || ltb (length (s .args .faces .now)) (4 * f))) (vertices-read (c .before)) (faces-read (c .before)))
+module _ (c : tie.After-places-short) where
+  abbrev sizes : tie.After-sizes-of
+  sizes = c .before
+
+  abbrev positions : ℕ
+  positions = length (start (sizes .before) .args .positions .now)
+
+  abbrev tags : ℕ
+  tags = length (start (sizes .before) .args .tags .now)
+
+  abbrev indices : ℕ
+  indices = length (start (sizes .before) .args .faces .now)
+
+  abbrev short : ℕ → ℕ → Bool
+  short v f = ltb positions (3 * v) || (ltb tags v || ltb indices (4 * f))
+
+  told : placesShort (file (sizes .before)) positions tags indices ≡ c .places-short .result
+  told = sym (c .places-short .ensures ∙ ap₂ short (vertices-read sizes) (faces-read sizes))
 
 -- ---- all tests have passed: the sizes, and the lengths of the file and of the lists, as the code has them
 module _ (c : tie.Else2) where
   abbrev read : tie.After-sizes-of
-  read = c .before .before
+  read = sizes (c .before)
 
   abbrev v : ℕ
   v = read .sizes-of .result .vertices
@@ -65,10 +82,17 @@ module _ (c : tie.Else2) where
   length-is : length (file (read .before)) ≡ 6 + 13 * v + 8 * f
   length-is = whole (read .before) .length-is ∙ ap₂ (λ (n g : ℕ). 6 + 13 * n + 8 * g) (sym (vertices-read read)) (sym (faces-read read))
 
-  long : (3 * v ≤ length (start (read .before) .args .positions .now)) × (v ≤ length (start (read .before) .args .tags .now)) × (4 * f ≤ length (start (read .before) .args .faces .now))
+  long : (3 * v ≤ positions (c .before)) × (v ≤ tags (c .before)) × (4 * f ≤ indices (c .before))
   long =
       let h = places-long (file (read .before)) _ _ _ (told (c .before) ∙ c .if2 .left) in
       (omega (arith, vertices-read read, h .0), omega (arith, vertices-read read, h .1), omega (arith, faces-read read, h .2))
+
+-- ---- the way back to the tests: from the positions that were written, and from the tags
+abbrev positions-tested : tie.After-fill-i32s → tie.Else2
+positions-tested c = c .before .before
+
+abbrev tags-tested : tie.After-fill-bytes → tie.Else2
+tags-tested c = positions-tested (c .before .before .before)
 
 file-refusal-requires : tie.Need-file-refusal-requires
 file-refusal-requires c κs = tt
@@ -98,25 +122,25 @@ fill-i32s-requires : tie.Need-fill-i32s-requires
 fill-i32s-requires c κs = (omega (arith, length-is (c .before)), long (c .before) .0)
 
 mul-fill-bytes : tie.Need-mul-fill-bytes
-mul-fill-bytes c = omega (arith, few (c .before .before .before) .0)
+mul-fill-bytes c = omega (arith, few (positions-tested (c .before)) .0)
 
 add-fill-bytes : tie.Need-add-fill-bytes
-add-fill-bytes c = omega (arith, few (c .before .before .before) .0)
+add-fill-bytes c = omega (arith, few (positions-tested (c .before)) .0)
 
 fill-bytes-requires : tie.Need-fill-bytes-requires
-fill-bytes-requires c κs = let e = c .before .before .before .before in (omega (arith, length-is e), long e .1)
+fill-bytes-requires c κs = let e = positions-tested (c .before .before) in (omega (arith, length-is e), long e .1)
 
 mul-fill-u16s : tie.Need-mul-fill-u16s
-mul-fill-u16s c = omega (arith, few (c .before .before .before .before .before .before .before) .0)
+mul-fill-u16s c = omega (arith, few (tags-tested (c .before .before)) .0)
 
 add-fill-u16s : tie.Need-add-fill-u16s
-add-fill-u16s c = omega (arith, few (c .before .before .before .before .before .before .before) .0)
+add-fill-u16s c = omega (arith, few (tags-tested (c .before .before)) .0)
 
 mul-fill-u16s-2 : tie.Need-mul-fill-u16s-2
-mul-fill-u16s-2 c = omega (arith, few (c .before .before .before .before .before .before .before) .1)
+mul-fill-u16s-2 c = omega (arith, few (tags-tested (c .before .before)) .1)
 
 fill-u16s-requires : tie.Need-fill-u16s-requires
-fill-u16s-requires c κs = let e = c .before .before .before .before .before .before .before .before in (omega (arith, length-is e), long e .2)
+fill-u16s-requires c κs = let e = tags-tested (c .before .before .before) in (omega (arith, length-is e), long e .2)
 
 same-length : tie.Need-same-length
 same-length c = search needs
@@ -132,7 +156,7 @@ returns-3 c =
     let i = c .before .before in
     let t = i .before .before .before .before in
     let p = t .before .before .before in
-    let k = p .before .before in
+    let k = positions-tested p in
     let r = read k in
     let b = file (r .before) in
     let s = start (r .before) in

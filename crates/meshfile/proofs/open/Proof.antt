@@ -1,25 +1,36 @@
 -- `open` meets its contract: a file that decoding refuses is refused, and else the parts of the lists that were written are the file's mesh.
-use mathlib.Core.Path.{_≡_, sym, ap, ap₂, _∙_, subst}
+use mathlib.Core.Path.{_≡_, sym, ap, subst}
 use mathlib.Core.List.{List}
-use Prim.Native.Nat.{ℕ, _-_, _*_}
+use Prim.Native.Nat.{ℕ, _*_, _≤_}
 use native.Mathlib.Nat.{le-of-eq}
 use native.Mathlib.Omega.{arith}
-use lib.IntN.{pos}
-use lib.ListN.{length, take, replicate, length-replicate}
+use lib.IntN.{ℤ, pos}
+use lib.ListN.{length, replicate, length-replicate}
 use borrow.Author.Needs.{needs}
 use Rattle.mesh.specs.Limits.{maxVertices, maxFaces}
-use Rattle.mesh.specs.IndexedMesh.{IndexedMesh, indexed}
-use Rattle.mesh.specs.WellFormed.{Sized}
-use Rattle.meshfile.specs.File.{vertices, faces, steps, positionAt, tagAt, indexAt, meshOf}
+use Rattle.meshfile.specs.File.{vertices, faces, steps, positionAt, tagAt, indexAt}
 use Rattle.meshfile.specs.declared.model.Header.{Header}
 use Rattle.meshfile.specs.Answer.{decoded}
 use Rattle.meshfile.proofs.FileLaws.{Whole, file-whole}
-use Rattle.meshfile.proofs.OpenLaws.{FileRead, file-read, file-turned-down, part-fits, mesh-is, whole-sized, open-mesh, open-refused}
+use Rattle.meshfile.proofs.OpenLaws.{MeshSized, FileRead, file-read, file-turned-down, part-fits, mesh-is, whole-sized, open-mesh, open-refused}
 use Rattle.meshfile.proofs.open.Statement.{statement}
 use Rattle.meshfile.proofs.open.Tie as tie
 
+-- ---- the three lists of `open`, before they are written
+abbrev no-positions : List ℤ
+no-positions = replicate (3 * maxVertices) (pos 0)
+
+abbrev no-tags : List ℕ
+no-tags = replicate maxVertices 0
+
+abbrev no-indices : List ℕ
+no-indices = replicate (4 * maxFaces) 0
+
+as-long : {A : Type 0} (n : ℕ) (a : A) → n ≤ length (replicate n a)
+as-long n a = le-of-eq (sym (length-replicate n a))
+
 abbrev start : tie.After-decode → tie.Start
-start c = c .before .before .before .before .before
+start c = let first : tie.After-positions = c .before .before .before in first .before .before
 
 abbrev file : tie.After-decode → List ℕ
 file c = start c .args .bytes .now
@@ -32,7 +43,7 @@ module _ (c : tie.After-known-told) where
   abbrev header : Header
   header = c .before .header .given .0 .0
 
-  read : FileRead (file call) (replicate (3 * maxVertices) (pos 0)) (replicate maxVertices 0) (replicate (4 * maxFaces) 0) header (call .decode .last .1 .0) (call .decode .last .1 .1 .0) (call .decode .last .1 .1 .1 .0)
+  read : FileRead (file call) no-positions no-tags no-indices header (call .decode .last .1 .0) (call .decode .last .1 .1 .0) (call .decode .last .1 .1 .1 .0)
   read = file-read (file call) _ _ _ (ap decoded (c .before .header .given .1)) (call .decode .ensures)
 
   whole : Whole (file call)
@@ -48,8 +59,11 @@ module _ (c : tie.After-known-told) where
   steps-are = ap (λ (h : Header). h .steps) (read .header-is)
 
 -- ---- the parts of the lists are handed on
+abbrev tags-told : tie.After-tessellate-arg2 → tie.After-known-told
+tags-told c = c .before .before .before .before
+
 abbrev told : tie.After-tessellate-arg4 → tie.After-known-told
-told c = let t : tie.After-tessellate-arg2 = c .before .before .before in t .before .before .before .before
+told c = tags-told (c .before .before .before)
 
 slice-aggregate-decode : tie.Need-slice-aggregate-decode
 slice-aggregate-decode c = search needs
@@ -102,13 +116,13 @@ part-tessellate-start-3 c = search needs
 
 part-tessellate-end-3 : tie.Need-part-tessellate-end-3
 part-tessellate-end-3 c =
-    let k = c .before .before .before .before .before in
+    let k = tags-told (c .before) in
     omega (arith, faces-are k, part-fits (indexAt (file (call k))) (4 * faces (file (call k))) _ _ (read k .faces-are))
 
 tessellate-requires : tie.Need-tessellate-requires
 tessellate-requires c κs =
     let k = told c in
-    subst (λ (M : IndexedMesh). Sized (M .vertices) (M .faces) (length (M .positions)) (length (M .tags)) (length (M .indices))) (sym (mesh-is (file (call k)) (read k))) (whole-sized (file (call k)) (whole k))
+    subst MeshSized (sym (mesh-is (file (call k)) (read k))) (whole-sized (file (call k)) (whole k))
 
 enum-known-k : tie.Need-enum-known-k
 enum-known-k c = search needs
@@ -129,7 +143,8 @@ returns-2 c =
     let a = m .before .before .before .before in
     let b = file a in
     open-refused b _
-    (file-turned-down b _ _ _ (le-of-eq (sym (length-replicate (3 * maxVertices) (pos 0)))) (le-of-eq (sym (length-replicate {A = ℕ} maxVertices 0))) (le-of-eq (sym (length-replicate {A = ℕ} (4 * maxFaces) 0)))
+    (file-turned-down b no-positions no-tags no-indices
+    (as-long (3 * maxVertices) (pos 0)) (as-long {A = ℕ} maxVertices 0) (as-long {A = ℕ} (4 * maxFaces) 0)
     (ap decoded (c .before .k .given .1)) (a .decode .ensures))
 
 pub open-spec : {M : Type 1} → statement M

@@ -71,8 +71,10 @@ put-digits-put-digits-requires : (t : ℕ) → put-digits-lts.Need-put-digits-re
   put-digits.Post,
 ) (put-digits-at t) put-digits.Post
 put-digits-put-digits-requires t c κs =
-    let s = c .before .before .before in
-    (subst (λ (m : ℕ). s .args .n / 10 < m) (s .pre .0) (div-lt-self (omega arith) (lit< tt)), omega (arith, decimal-longer (s .args .n) (s .fits .n .fits) (c .before .if1 .left), s .pre .1))
+    let s = c .before .before .before in (
+      subst (λ (m : ℕ). s .args .n / 10 < m) (s .pre .0) (div-lt-self (omega arith) (lit< tt)),
+      omega (arith, decimal-longer (s .args .n) (s .fits .n .fits) (c .before .if1 .left), s .pre .1),
+    )
 
 put-digits-cast-line-2 : (t : ℕ) → put-digits-lts.Need-cast-line-2 (
   put-digits-below t,
@@ -91,9 +93,11 @@ put-digits-slice-write-line-2 : (t : ℕ) → put-digits-lts.Need-slice-write-li
   put-digits.Post,
 ) (put-digits-at t) put-digits.Post
 put-digits-slice-write-line-2 t c =
-    let s = c .before .before .before .before .before .before in
-    let a = c .before .before .put-digits .ensures in
-    omega (arith, decimal-longer (s .args .n) (s .fits .n .fits) (c .before .before .before .before .if1 .left), s .pre .1, a .place, put-length a)
+    let call = c .before .before in
+    let large = call .before .before in
+    let s = large .before .before in
+    let a = call .put-digits .ensures in
+    omega (arith, decimal-longer (s .args .n) (s .fits .n .fits) (large .if1 .left), s .pre .1, a .place, put-length a)
 
 put-digits-add-result-2 : (t : ℕ) → put-digits-lts.Need-add-result-2 (
   put-digits-below t,
@@ -112,8 +116,10 @@ put-digits-returns-2 : (t : ℕ) → put-digits-lts.Need-returns-2 (
   put-digits.Post,
 ) (put-digits-at t) put-digits.Post
 put-digits-returns-2 t c =
-    let s = c .before .before .before .before .before .before in
-    rw (decimal-more (s .args .n) (s .fits .n .fits) (c .before .before .before .before .if1 .left)) (put-field _ (c .before .before .put-digits .ensures))
+    let call = c .before .before in
+    let large = call .before .before in
+    let s = large .before .before in
+    rw (decimal-more (s .args .n) (s .fits .n .fits) (large .if1 .left)) (put-field _ (call .put-digits .ensures))
 
 pub +put-digits-spec : {M : Type 1} → statement M
 +put-digits-spec = close μ-put-digits λ t. put-digits-lts.spec (

@@ -11,12 +11,16 @@ use Rattle.text.proofs.put_coordinate.Tie as tie
 put-signed-requires : tie.Need-put-signed-requires
 put-signed-requires c κs = omega arith
 
+-- ---- behind the call: the text of the number was stored
 module _ (c : tie.After-slice-known2) where
-  abbrev start : tie.Start
-  start = c .before .before .before .before .before
+  abbrev call : tie.After-put-signed
+  call = c .before .before
 
-  put : Put (text (start .args .z)) (start .args .at) (start .args .line .now) (c .before .before .put-signed .last .1 .0) (c .before .before .put-signed .result)
-  put = simp (toZ-ofZ (start .fits .z)) at (c .before .before .put-signed .ensures)
+  abbrev start : tie.Start
+  start = call .before .before .before
+
+  put : Put (text (start .args .z)) (start .args .at) (start .args .line .now) (call .put-signed .last .1 .0) (call .put-signed .result)
+  put = simp (toZ-ofZ (start .fits .z)) at (call .put-signed .ensures)
 
 slice-write-line : tie.Need-slice-write-line
 slice-write-line c = omega (arith, text-length (start c .args .z) (start c .fits .z), start c .pre, put c .place, put-length (put c))

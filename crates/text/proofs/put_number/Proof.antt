@@ -10,12 +10,16 @@ use Rattle.text.proofs.put_number.Tie as tie
 put-digits-requires : tie.Need-put-digits-requires
 put-digits-requires c κs = let s = c .before .before in omega (arith, decimal-length (s .args .n), s .pre)
 
+-- ---- behind the call: the digits were stored
 module _ (c : tie.After-slice-known2) where
-  abbrev start : tie.Start
-  start = c .before .before .before .before .before
+  abbrev call : tie.After-put-digits
+  call = c .before .before
 
-  abbrev put : Put (decimal (start .args .n)) (start .args .at) (start .args .line .now) (c .before .before .put-digits .last .1 .0) (c .before .before .put-digits .result)
-  put = c .before .before .put-digits .ensures
+  abbrev start : tie.Start
+  start = call .before .before .before
+
+  abbrev put : Put (decimal (start .args .n)) (start .args .at) (start .args .line .now) (call .put-digits .last .1 .0) (call .put-digits .result)
+  put = call .put-digits .ensures
 
 slice-write-line : tie.Need-slice-write-line
 slice-write-line c = omega (arith, decimal-length (start c .args .n), start c .pre, put c .place, put-length (put c))

@@ -1,103 +1,107 @@
--- `put_signed` meets its contract: of a negative number -1 - z is the magnitude less one, which always fits.
+-- `put_signed` meets its contract: the digits are those of the magnitude, and the sign stands in front of them where the number is negative.
 use mathlib.Core.Path.{_≡_, ap, _∙_}
 use mathlib.Core.Bool.{true, false}
+use mathlib.Core.List.{_∷_}
+use Prim.Native.Nat.{ℕ}
 use native.Mathlib.Omega.{arith}
-use lib.IntN.{ℤ, pos, negsuc, _-ℤ_}
+use borrow.Author.Needs.{needs}
+use lib.IntN.{ℤ, pos, natAbs}
 use lib.ListN.{length, length-set}
-use lib.Signed.{ltZ, mag}
-use mir.Syntax.{w32}
-use mir.Val.{SFits, toZ, ofZ}
-use mir.Facts.{toZ-ofZ, fits-natAbs}
-use Rattle.integer.proofs.Rounding.{minus-one-minus, not-negative}
-use Rattle.text.specs.Text.{text}
+use lib.Signed.{ltZ}
+use mir.Syntax.{w32, w64}
+use mir.Val.{SFits}
+use mir.Facts.{toZ-ofZ}
+use Rattle.text.specs.Text.{decimal, text}
 use Rattle.text.proofs.TextLaws.{text-negative, text-not-negative, text-length, put-length, put-one, put-then}
 use Rattle.text.proofs.put_signed.Statement.{statement}
 use Rattle.text.proofs.put_signed.Tie as tie
 
+-- ---- the number, which fits 32 bits and so 64
 module _ (c : tie.After-slice-known) where
   abbrev z : ℤ
   z = c .before .args .z
 
-  f : SFits w32 z
-  f = c .before .fits .z
+  narrow : SFits w32 z
+  narrow = c .before .fits .z
+
+  wide : SFits w64 z
+  wide = record { sfits = omega (arith, narrow .sfits) }
+
+-- ---- its magnitude
+size : (c : tie.After-magnitude) → c .magnitude .result ≡ natAbs (z (c .before))
+size c = simp (toZ-ofZ (narrow (c .before)), toZ-ofZ (wide (c .before))) at (c .magnitude .ensures)
+
+cast-magnitude : tie.Need-cast-magnitude
+cast-magnitude c = simp (toZ-ofZ (narrow c)) (wide c)
+
+magnitude-requires : tie.Need-magnitude-requires
+magnitude-requires c κs = tt
 
 -- ---- a negative number
 module _ (c : tie.Then1) where
-  negative : ltZ (z (c .before)) (pos 0) ≡ true
-  negative = simp (toZ-ofZ (f (c .before))) at (c .if1 .taken)
+  abbrev told : tie.After-magnitude
+  told = c .before
 
-  less-fits : SFits w32 (negsuc 0 -ℤ z (c .before))
-  less-fits = rw (minus-one-minus (z (c .before)) negative) (record { sfits = f (c .before) .sfits })
+  negative : ltZ (z (told .before)) (pos 0) ≡ true
+  negative = simp (toZ-ofZ (narrow (told .before))) at (c .if1 .taken)
 
-  -- -1 - z, as the machine reads it
-  less : toZ w32 (ofZ w32 (negsuc 0 -ℤ z (c .before))) ≡ pos (mag (z (c .before)))
-  less = toZ-ofZ less-fits ∙ minus-one-minus (z (c .before)) negative
+  with-sign : 45 ∷ decimal (told .magnitude .result) ≡ text (z (told .before))
+  with-sign = ap (λ (n : ℕ). 45 ∷ decimal n) (size told) ∙ text-negative (z (told .before)) negative
 
 slice-write-line : tie.Need-slice-write-line
 slice-write-line c = omega arith
 
-sub-put-digits : tie.Need-sub-put-digits
-sub-put-digits c = simp (toZ-ofZ (f (c .before))) (less-fits c)
-
-cast-put-digits : tie.Need-cast-put-digits
-cast-put-digits c = simp (toZ-ofZ (f (c .before)), less c) (tt, record { fits = omega (arith, f (c .before) .sfits) })
-
 add-put-digits : tie.Need-add-put-digits
-add-put-digits c = simp (toZ-ofZ (f (c .before)), less c) (record { fits = omega (arith, f (c .before) .sfits) })
-
-add-put-digits-2 : tie.Need-add-put-digits-2
-add-put-digits-2 c = omega arith
+add-put-digits c = omega arith
 
 put-digits-requires : tie.Need-put-digits-requires
 put-digits-requires c κs =
-    let t = c .before in
-    let k = t .before in
-    simp (toZ-ofZ (f k), less t, length-set) (omega (arith, text-length (z k) (f k), ap length (text-negative (z k) (negative t))))
+    let k = told (c .before) .before in
+    simp length-set (omega (arith, text-length (z k) (narrow k), ap length (with-sign (c .before))))
 
 same-length : tie.Need-same-length
 same-length c = put-length (c .before .before .put-digits .ensures) ∙ simp length-set
 
 returns : tie.Need-returns
 returns c =
-    let t = c .before .before .before .before in
-    let k = t .before in
-    rw (← text-negative (z k) (negative t)) (put-then (put-one _ _ _) (simp (toZ-ofZ (f k), less t) at (c .before .before .put-digits .ensures)))
+    let put = c .before .before in
+    rw (← with-sign (put .before .before)) (put-then (put-one _ _ _) (put .put-digits .ensures))
 
 -- ---- a number that is not negative
-not-below : (c : tie.Else1) → ltZ (z (c .before)) (pos 0) ≡ false
-not-below c = simp (toZ-ofZ (f (c .before))) at (c .if1 .left)
+module _ (c : tie.Else1) where
+  abbrev told-2 : tie.After-magnitude
+  told-2 = c .before
 
-cast-put-digits-2 : tie.Need-cast-put-digits-2
-cast-put-digits-2 c = let k = c .before in simp (toZ-ofZ (f k)) (not-negative (z k) (not-below c), fits-natAbs tt (f k))
+  not-negative : ltZ (z (told-2 .before)) (pos 0) ≡ false
+  not-negative = simp (toZ-ofZ (narrow (told-2 .before))) at (c .if1 .left)
+
+  without-sign : decimal (told-2 .magnitude .result) ≡ text (z (told-2 .before))
+  without-sign = ap decimal (size told-2) ∙ text-not-negative (z (told-2 .before)) not-negative
 
 put-digits-requires-2 : tie.Need-put-digits-requires-2
 put-digits-requires-2 c κs =
-    let t = c .before in
-    let k = t .before in
-    simp (toZ-ofZ (f k)) (rw (text-not-negative (z k) (not-below t)) (omega (arith, text-length (z k) (f k))))
+    let k = told-2 (c .before) .before in
+    omega (arith, text-length (z k) (narrow k), ap length (without-sign (c .before)))
 
 same-length-2 : tie.Need-same-length-2
-same-length-2 c = put-length (c .before .before .put-digits2 .ensures)
+same-length-2 c = search needs
 
 returns-2 : tie.Need-returns-2
 returns-2 c =
-    let t = c .before .before .before .before in
-    let k = t .before in
-    rw (← text-not-negative (z k) (not-below t)) (simp (toZ-ofZ (f k)) at (c .before .before .put-digits2 .ensures))
+    let put = c .before .before in
+    rw (← without-sign (put .before .before)) (put .put-digits2 .ensures)
 
 pub put-signed-spec : {M : Type 1} → statement M
 put-signed-spec =
     tie.close
     (tie.spec
+    cast-magnitude
+    magnitude-requires
     slice-write-line
-    sub-put-digits
-    cast-put-digits
     add-put-digits
-    add-put-digits-2
     put-digits-requires
     same-length
     returns
-    cast-put-digits-2
     put-digits-requires-2
     same-length-2
     returns-2)

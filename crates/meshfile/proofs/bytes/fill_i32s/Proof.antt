@@ -13,7 +13,8 @@ use Rattle.meshfile.proofs.bytes.fill_i32s.Statement.{statement}
 use Rattle.meshfile.proofs.bytes.fill_i32s.Tie as tie
 
 abbrev Inv-loop : tie.InvT-loop
-Inv-loop bytes from n numbers₀ i₀ numbers i = (i ≤ n) × (length numbers ≡ length numbers₀) × (numbers ≡ filled (λ k. signed32 (le32 bytes (from + 4 * k))) i numbers₀)
+Inv-loop bytes from n numbers₀ i₀ numbers i =
+    (i ≤ n) × (length numbers ≡ length numbers₀) × (numbers ≡ filled (λ k. signed32 (le32 bytes (from + 4 * k))) i numbers₀)
 
 abbrev μ-loop : tie.MeasureT-loop
 μ-loop bytes from n numbers₀ i₀ numbers i = n - i
@@ -43,7 +44,9 @@ loop-less : tie.Need-loop-less Inv-loop μ-loop
 loop-less c = omega arith
 
 loop-again : tie.Need-loop-again Inv-loop μ-loop
-loop-again c = (omega arith, search needs, filled-more _ _ _ _ _ (omega arith) (c .before .before .loop .inv .2) (read-back w32 (c .i32-at .ok) (c .i32-at .ensures)))
+loop-again c =
+    let stored = read-back w32 (c .i32-at .ok) (c .i32-at .ensures) in
+    (omega arith, search needs, filled-more _ _ _ _ _ (omega arith) (c .before .before .loop .inv .2) stored)
 
 same-length : tie.Need-same-length Inv-loop μ-loop
 same-length c = search needs

@@ -20,13 +20,20 @@ file c = c .before .before .args .bytes .now
 vertices-tested : (c : tie.After-off-range) → off minVertices maxVertices (vertices (file (c .before .before))) ≡ c .off-range .result
 vertices-tested c = ap (off minVertices maxVertices) (sym (c .before .size-at .ensures)) ∙ sym (c .off-range .ensures)
 
-faces-tested : (c : tie.After-off-range2) → off minFaces maxFaces (faces (file (c .before .before .before .before .before))) ≡ c .off-range2 .result
+-- back from the test of F to that of V
+abbrev vertices-passed : tie.After-off-range2 → tie.Else2
+vertices-passed c = c .before .before
+
+abbrev begun : tie.Else2 → tie.Else1
+begun c = c .before .before .before
+
+faces-tested : (c : tie.After-off-range2) → off minFaces maxFaces (faces (file (begun (vertices-passed c)))) ≡ c .off-range2 .result
 faces-tested c = ap (off minFaces maxFaces) (sym (c .before .size-at2 .ensures)) ∙ sym (c .off-range2 .ensures)
 
 -- past both tests: the length that the file should have, as the code computes it
 module _ (c : tie.Else3) where
   abbrev second : tie.Else2
-  second = c .before .before .before
+  second = vertices-passed (c .before)
 
   abbrev sized : tie.After-size-at
   sized = second .before .before
@@ -65,8 +72,8 @@ off-range-requires-2 c κs = tt
 
 returns-3 : tie.Need-returns-3
 returns-3 c =
-    let e₂ = c .before .before .before in
-    let e = e₂ .before .before .before in
+    let e₂ = vertices-passed (c .before) in
+    let e = begun e₂ in
     rows-faces (file e) (e .if1 .left) (vertices-tested (e₂ .before) ∙ e₂ .if2 .left) (faces-tested (c .before) ∙ c .if3 .taken)
 
 mul-if4 : tie.Need-mul-if4
@@ -86,14 +93,16 @@ returns-4 c =
     let e₃ = c .before in
     let e₂ = second e₃ in
     let e = first e₃ in
-    rows-length (file e) (e .if1 .left) (vertices-tested (e₂ .before) ∙ e₂ .if2 .left) (faces-tested (e₃ .before) ∙ e₃ .if3 .left) (λ q. c .if4 .taken (q ∙ length-told e₃))
+    rows-length (file e) (e .if1 .left) (vertices-tested (e₂ .before) ∙ e₂ .if2 .left) (faces-tested (e₃ .before) ∙ e₃ .if3 .left)
+    (λ q. c .if4 .taken (q ∙ length-told e₃))
 
 returns-5 : tie.Need-returns-5
 returns-5 c =
     let e₃ = c .before in
     let e₂ = second e₃ in
     let e = first e₃ in
-    rows-none (file e) (e .if1 .left) (vertices-tested (e₂ .before) ∙ e₂ .if2 .left) (faces-tested (e₃ .before) ∙ e₃ .if3 .left) (c .if4 .left ∙ sym (length-told e₃))
+    rows-none (file e) (e .if1 .left) (vertices-tested (e₂ .before) ∙ e₂ .if2 .left) (faces-tested (e₃ .before) ∙ e₃ .if3 .left)
+    (c .if4 .left ∙ sym (length-told e₃))
 
 pub file-refusal-spec : {M : Type 1} → statement M
 file-refusal-spec =

@@ -2,7 +2,8 @@
 use mathlib.Core.Path.{_≡_, sym, ap, _∙_}
 use mathlib.Core.Bool.{true}
 use mathlib.Core.List.{[], _∷_}
-use mathlib.Core.Option.{Option, none, some}
+use mathlib.Core.Option.{Option, some}
+use Prim.Native.Nat.{ℕ}
 use borrow.Author.Needs.{needs}
 use Rattle.finite.specs.Table.{row}
 use Rattle.finite.proofs.TableLaws.{orElse, result-none, refusal-met}
@@ -16,8 +17,9 @@ module _ (c : tie.After-check-alone) where
   abbrev mesh : IndexedMesh
   mesh = let s = c .before .before .before in indexed (s .args .v) (s .args .f) (s .args .positions .now) (s .args .tags .now) (s .args .faces .now)
 
-  split : meshRefusal mesh [] (row true 14 ∷ []) ≡ orElse (meshRefusal mesh [] []) (some 14)
-  split = refusal-split mesh [] (row true 14 ∷ [])
+  -- what the row of N adds to what the check meets
+  with-steps : {o : Option ℕ} → meshRefusal mesh [] [] ≡ o → meshRefusal mesh [] (row true 14 ∷ []) ≡ orElse o (some 14)
+  with-steps e = refusal-split mesh [] (row true 14 ∷ []) ∙ ap (λ (m : Option ℕ). orElse m (some 14)) e
 
 check-alone-requires : tie.Need-check-alone-requires
 check-alone-requires c κs = tt
@@ -31,12 +33,13 @@ enum-known-k c = search needs
 returns : tie.Need-returns
 returns c =
     let k = c .before .before in
-    split k ∙ ap (λ (m : Option _). orElse m (some 14)) (result-none (meshRefusal (mesh k) [] []) (sym (ap checked (c .enum-told .given .1)) ∙ k .check-alone .ensures) .0)
+    with-steps k (result-none (meshRefusal (mesh k) [] []) (sym (ap checked (c .enum-told .given .1)) ∙ k .check-alone .ensures) .0)
 
 returns-2 : tie.Need-returns-2
 returns-2 c =
     let k = c .before .before .before in
-    split k ∙ ap (λ (m : Option _). orElse m (some 14)) (refusal-met (countsOf (mesh k)) (meshRefusal (mesh k) [] []) (sym (ap checked (c .before .k .given .1)) ∙ k .check-alone .ensures))
+    let told = sym (ap checked (c .before .k .given .1)) ∙ k .check-alone .ensures in
+    with-steps k (refusal-met (countsOf (mesh k)) (meshRefusal (mesh k) [] []) told)
 
 pub steps-refusal-spec : {M : Type 1} → statement M
 steps-refusal-spec = tie.close (tie.spec check-alone-requires enum-told enum-known-k returns returns-2)

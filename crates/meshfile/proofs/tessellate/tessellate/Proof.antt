@@ -2,6 +2,7 @@
 use mathlib.Core.Path.{_≡_, sym, ap, _∙_}
 use mathlib.Core.Bool.{false}
 use mathlib.Core.List.{List, []}
+use mathlib.Core.Option.{Option}
 use Prim.Native.Nat.{ℕ, _*_}
 use native.Mathlib.Omega.{arith}
 use lib.IntN.{ℤ}
@@ -42,7 +43,11 @@ module _ (c : tie.After-patches) where
   abbrev begin : tie.Start
   begin = start (ranged .before .before)
 
-  same : tessellateRefusal (mesh begin) (begin .args .n) (lent begin) ≡ meshRefusal (mesh begin) (patchRows (mesh begin) (replicate (4 * maxFaces) 0) (lent begin)) []
+  -- the refusal that the patch call meets, with the list of twins that the code keeps
+  abbrev met : Option ℕ
+  met = meshRefusal (mesh begin) (patchRows (mesh begin) (replicate (4 * maxFaces) 0) (lent begin)) []
+
+  same : tessellateRefusal (mesh begin) (begin .args .n) (lent begin) ≡ met
   same = steps-on (mesh begin) (begin .args .n) (lent begin) (begin .pre .faces-high) (sym (ranged .before .off-range .ensures) ∙ ranged .if2 .left)
 
 abbrev called : tie.After-patches2 → tie.After-patches
@@ -88,9 +93,8 @@ same-length c = search needs
 returns-3 : tie.Need-returns-3
 returns-3 c =
     let p = called (c .before .before .before) in
-    let s = begin p in
     let said = p .patches .ensures in
-    let r = result-none (meshRefusal (mesh s) (patchRows (mesh s) (replicate (4 * maxFaces) 0) (lent s)) []) (sym (ap checked (c .before .mesh .given .1)) ∙ said .answer-is) in
+    let r = result-none (met p) (sym (ap checked (c .before .mesh .given .1)) ∙ said .answer-is) in
     let unmet = same p ∙ r .0 in
     record { answer-is = rw (unmet, r .1); patches-are = said .patches-are ∙ rw (r .0, unmet) }
 
@@ -100,11 +104,10 @@ same-length-2 c = search needs
 returns-4 : tie.Need-returns-4
 returns-4 c =
     let p = called (c .before .before .before) in
-    let s = begin p in
     let said = p .patches .ensures in
-    let r = refusal-met (countsOf (mesh s)) (meshRefusal (mesh s) (patchRows (mesh s) (replicate (4 * maxFaces) 0) (lent s)) []) (sym (ap checked (c .before .k .given .1)) ∙ said .answer-is) in
-    let met = same p ∙ r in
-    record { answer-is = rw met; patches-are = said .patches-are ∙ rw (r, met) }
+    let r = refusal-met (countsOf (mesh (begin p))) (met p) (sym (ap checked (c .before .k .given .1)) ∙ said .answer-is) in
+    let refused = same p ∙ r in
+    record { answer-is = rw refused; patches-are = said .patches-are ∙ rw (r, refused) }
 
 pub tessellate-spec : {M : Type 1} → statement M
 tessellate-spec =
