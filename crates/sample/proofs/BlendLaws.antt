@@ -17,10 +17,10 @@ use Rattle.finite.specs.Fold.{foldBelow, sumBelowℤ}
 use Rattle.finite.specs.Filled.{listBelow}
 use Rattle.finite.proofs.FilledLaws.{listBelow-at}
 use Rattle.finite.proofs.IntegerSum.{sum-size}
-use Rattle.sample.specs.Bernstein.{weight, numerator, rounded}
+use Rattle.sample.specs.Bernstein.{bernstein, numerator, rounded}
 use Rattle.sample.specs.Refusal.{maxControl}
 use Rattle.sample.specs.Private.{controlOf, Small, Steps, Light, Fine, Mean, blended, blendedTwice}
-use Rattle.sample.proofs.WeightLaws.{weight-small, sixth-small}
+use Rattle.sample.proofs.BernsteinLaws.{bernstein-small, sixth-small}
 use Rattle.sample.proofs.SampleLaws.{numerator-rows, rounded-nearest, numerator-bound}
 
 -- ---- the first i terms
@@ -59,8 +59,8 @@ unfolding foldBelow listBelow
 blended-list weights h e q = q ∙ ap (λ (xs : List ℤ). blended weights (λ i. getD xs i (pos 0))) e
 
 -- ---- one patch
-pub weights-light : {n a : ℕ} → Steps n a → Light (listBelow (weight n a) 4)
-weights-light {n} {a} s = record { light = λ i l. rw (listBelow-at (weight n a) 4 i 0 l) (weight-small n a (s .within) (s .most) i l) }
+pub weights-light : {n a : ℕ} → Steps n a → Light (listBelow (bernstein n a) 4)
+weights-light {n} {a} s = record { light = λ i l. rw (listBelow-at (bernstein n a) 4 i 0 l) (bernstein-small n a (s .within) (s .most) i l) }
 
 module _ {patch : List ℤ} (small : Small patch) (k : ℕ) (below : k < 3) where
   control-small : (m : ℕ) → m < 16 → natAbs (controlOf patch k m) ≤ maxControl
@@ -89,7 +89,7 @@ module _ {patch : List ℤ} (small : Small patch) (k : ℕ) (below : k < 3) wher
       }
 
 -- ---- the sample, by the lists of the weights
-module _ (n a b : ℕ) (g : ℕ → ℤ) {u v : List ℕ} {d : ℕ} (e : u ≡ listBelow (weight n a) 4) (f : v ≡ listBelow (weight n b) 4) (h : d ≡ n ^ 6) where
+module _ (n a b : ℕ) (g : ℕ → ℤ) {u v : List ℕ} {d : ℕ} (e : u ≡ listBelow (bernstein n a) 4) (f : v ≡ listBelow (bernstein n b) 4) (h : d ≡ n ^ 6) where
   blended-numerator : blendedTwice u v g ≡ numerator n a b g
   unfolding foldBelow listBelow
   blended-numerator = ap₂ (λ (u v : List ℕ). blendedTwice u v g) e f ∙ sym (numerator-rows n a b g)

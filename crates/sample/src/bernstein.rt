@@ -8,14 +8,14 @@ ghost use mir.Syntax.{w64};
 ghost use mir.Val.{SFits};
 ghost use Rattle.integer.specs.Nearest.{nearest};
 ghost use Rattle.finite.specs.Filled.{listBelow};
-ghost use Rattle.sample.specs.Bernstein.{weight, rounded};
+ghost use Rattle.sample.specs.Bernstein.{bernstein, rounded};
 ghost use Rattle.sample.specs.Refusal.{maxSteps};
 ghost use Rattle.sample.specs.Private.{controlOf, Small, Steps, Light, Fine, Mean, blended, blendedTwice};
 
 // The weights of place a.
 fn weights(n: usize, a: usize) -> [u32; 4]
     requires { ⌜ Steps n a ⌝ }
-    ensures { λ r. ⌜ r ≡ listBelow (weight n a) 4 ⌝ }
+    ensures { λ r. ⌜ r ≡ listBelow (bernstein n a) 4 ⌝ }
 {
     let s = a as u32;
     let t = (n - a) as u32;
