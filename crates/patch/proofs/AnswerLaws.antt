@@ -23,7 +23,7 @@ use Rattle.mesh.proofs.AcceptedLaws.{accepted-from}
 use Rattle.mesh.proofs.PhaseLaws.{early-passed, refusal-alike, twins-alike, twins-accepted}
 use Rattle.patch.specs.Patch.{patchesAfter}
 use Rattle.patch.specs.Answer.{patchesShort, listsShort, patchRows, patchAnswer, patchTwins, patchList}
-use Rattle.patch.specs.Private.{Twins}
+use Rattle.patch.specs.Lists.{Twins}
 
 -- ---- the call's own row, as it is handed to the check: first the patch list, then the twins
 given-short : (twins patches : Bool) → firstMet (given (cond patches 2 0) ∷ (row twins 2 ∷ [])) ≡ firstMet (row (twins || patches) 2 ∷ [])

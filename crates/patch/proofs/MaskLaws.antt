@@ -17,7 +17,7 @@ use mir.Val.{SFits, toZ, ofZ}
 use mir.Facts.{toZ-ofZ, toZ-pos}
 use Rattle.integer.proofs.Laws.{abs-+, abs-*, sfits-abs}
 use Rattle.mesh.specs.Limits.{maxCoordinate}
-use Rattle.patch.specs.Private.{Made}
+use Rattle.patch.specs.Values.{Made}
 
 infixl 6 _⊞_
 pub data Sum : Type 0 where

@@ -12,7 +12,9 @@ use Rattle.mesh.proofs.CornerLaws.{turn-below}
 use Rattle.mesh.proofs.AcceptedLaws.{accepted-corners}
 use Rattle.patch.specs.Point.{Kind, corner, along, before, inner, weight, sharp, alongPoint, beforePoint, innerPoint, edgePoint, point}
 use Rattle.patch.specs.Patch.{owner, kind, patchPoint, view, units, patchNumber}
-use Rattle.patch.specs.Private.{Twins, Tables, Source, pointFrom, numberFrom}
+use Rattle.patch.specs.Lists.{Twins}
+use Rattle.patch.specs.PatchTables.{Tables}
+use Rattle.patch.specs.Written.{Source, pointFrom, numberFrom}
 use Rattle.patch.proofs.TableLaws.{weight-seen, accepted-whole, accepted-light, accepted-coordinates}
 
 pub face-listed : {M : IndexedMesh} → WellFormed M → (g : ℕ) → g < M .faces → 4 * g + 4 ≤ length (M .indices)

@@ -24,7 +24,8 @@ use Rattle.mesh.proofs.AcceptedLaws.{accepted-corners}
 use Rattle.mesh.specs.Tables.{Corners, Holds, Indices}
 use Rattle.patch.specs.Point.{Shape, View, x, ringTerm, sharpTerm, faces, inside, weight, sharp, sharpSum, ringSum, fixed, cornerPoint}
 use Rattle.patch.specs.Patch.{shape, view}
-use Rattle.patch.specs.Private.{shapeOf, seen, Coordinates, cornerFrom}
+use Rattle.patch.specs.Lists.{shapeOf, seen, Coordinates}
+use Rattle.patch.specs.PatchTables.{cornerFrom}
 use Rattle.patch.proofs.MaskLaws.{one, term, _⊞_, size}
 use Rattle.patch.proofs.NeighbourLaws.{sharp-neighbours}
 use Rattle.patch.proofs.SumLaws.{cond-size, gather-size}

@@ -8,7 +8,7 @@ ghost use lib.ListN.{length};
 ghost use Rattle.mesh.specs.IndexedMesh.{indexed};
 ghost use Rattle.mesh.specs.WellFormed.{WellFormed};
 ghost use Rattle.patch.specs.Patch.{patchesAfter};
-ghost use Rattle.patch.specs.Private.{Twins};
+ghost use Rattle.patch.specs.Lists.{Twins};
 
 // Writes the patches of an accepted mesh with its twins.
 pub(crate) fn fill_patches(

@@ -9,7 +9,7 @@ ghost use Prim.Native.Nat.{ℕ, _+_, _*_, _≤_, _<_};
 ghost use lib.IntN.{pos};
 ghost use lib.ListN.{length, getD};
 ghost use Rattle.finite.specs.Filled.{listBelow, filled};
-ghost use Rattle.patch.specs.Private.{Source, kindOf, pointFrom, numberFrom};
+ghost use Rattle.patch.specs.Written.{Source, kindOf, pointFrom, numberFrom};
 ghost use Rattle.mesh.specs.Tables.{vertexOf};
 
 // The four points of its face that each corner owns.

@@ -15,7 +15,7 @@ use Rattle.sample.specs.declared.model.Point.{Point}
 use Rattle.sample.specs.Bernstein.{rounded}
 use Rattle.sample.specs.Refusal.{minSteps, maxSteps, faceOff, placeOff, sampleRows}
 use Rattle.sample.specs.Answer.{sampleAnswer}
-use Rattle.sample.specs.Private.{controlOf}
+use Rattle.sample.specs.Blend.{controlOf}
 use Rattle.sample.proofs.PatchLaws.{patchOf, patch-coordinate}
 
 -- ---- what a passed test of the place gives

@@ -10,7 +10,7 @@ ghost use Rattle.integer.specs.Nearest.{nearest};
 ghost use Rattle.finite.specs.Filled.{listBelow};
 ghost use Rattle.sample.specs.Bernstein.{bernstein, rounded};
 ghost use Rattle.sample.specs.Refusal.{maxSteps};
-ghost use Rattle.sample.specs.Private.{controlOf, Small, Steps, Light, Fine, Mean, blended, blendedTwice};
+ghost use Rattle.sample.specs.Blend.{controlOf, Small, Steps, Light, Fine, Mean, blended, blendedTwice};
 
 // The weights of place a.
 fn weights(n: usize, a: usize) -> [u32; 4]

@@ -12,7 +12,7 @@ use Rattle.finite.proofs.Counting.{sum-monoid}
 use Rattle.mesh.specs.Limits.{maxVertices}
 use Rattle.mesh.specs.Fan.{valence, onBoundary}
 use Rattle.mesh.specs.Tables.{vertexOf}
-use Rattle.patch.specs.Private.{boundaryIn}
+use Rattle.patch.specs.Lists.{boundaryIn}
 use Rattle.patch.proofs.SumLaws.{gather-ext, gather-few, indicator-few, count-none}
 use Rattle.patch.proofs.FacePointLaws.{boundary-in}
 use Rattle.patch.proofs.counts.count_faces.Statement.{statement}

@@ -14,7 +14,7 @@ use Rattle.finite.proofs.IntegerSum.{sumℤ-monoid}
 use Rattle.mesh.specs.Limits.{maxVertices, maxCoordinate}
 use Rattle.mesh.specs.Tables.{vertexOf}
 use Rattle.patch.specs.Point.{View, ringTerm, sharpTerm, ringSum, sharpSum}
-use Rattle.patch.specs.Private.{seen}
+use Rattle.patch.specs.Lists.{seen}
 use Rattle.patch.proofs.SumLaws.{read-back, gather-bound}
 use Rattle.patch.proofs.TableLaws.{ring-term-size, sharp-term-size}
 use Rattle.patch.proofs.sums.add_sums.Statement.{statement}

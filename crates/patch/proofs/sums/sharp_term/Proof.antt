@@ -13,7 +13,7 @@ use Rattle.mesh.specs.Corner.{next, prev}
 use Rattle.mesh.specs.HalfEdge.{boundary}
 use Rattle.mesh.proofs.CornerLaws.{next-below, prev-below}
 use Rattle.patch.specs.Point.{View, x, sharp}
-use Rattle.patch.specs.Private.{seen, boundaryIn}
+use Rattle.patch.specs.Lists.{seen, boundaryIn}
 use Rattle.patch.proofs.MaskLaws.{stored-is}
 use Rattle.patch.proofs.SumLaws.{read-back, cond-size}
 use Rattle.patch.proofs.FacePointLaws.{boundary-in, sharp-in}

@@ -1,6 +1,6 @@
 -- `point_values` meets its contract: each kind of point has its own function, or its table.
 use borrow.Author.Needs.{needs}
-use Rattle.patch.specs.Private.{pointFrom}
+use Rattle.patch.specs.Written.{pointFrom}
 use Rattle.patch.proofs.writer.point_values.Statement.{statement}
 use Rattle.patch.proofs.writer.point_values.Tie as tie
 

@@ -6,7 +6,7 @@ use borrow.Author.Needs.{needs}
 use Rattle.finite.proofs.FilledLaws.{filled-ext}
 use Rattle.patch.specs.Point.{inner}
 use Rattle.patch.specs.Patch.{owner, kind}
-use Rattle.patch.specs.Private.{kindOf}
+use Rattle.patch.specs.Written.{kindOf}
 use Rattle.patch.proofs.FacePointLaws.{owner-listed, number-point, owner-below, table-at}
 use Rattle.patch.proofs.writer.write_numbered.Statement.{statement}
 use Rattle.patch.proofs.writer.write_numbered.Tie as tie

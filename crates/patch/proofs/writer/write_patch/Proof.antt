@@ -6,7 +6,7 @@ use native.Mathlib.Omega.{arith}
 use lib.ListN.{length}
 use Rattle.finite.specs.Filled.{filled}
 use Rattle.finite.proofs.FilledLaws.{filled-start, filled-all, stretch-long, filled-stretch}
-use Rattle.patch.specs.Private.{numberFrom}
+use Rattle.patch.specs.Written.{numberFrom}
 use Rattle.patch.proofs.writer.write_patch.Statement.{statement}
 use Rattle.patch.proofs.writer.write_patch.Tie as tie
 

@@ -2,7 +2,7 @@
 use mathlib.Core.Path.{sym, subst}
 use native.Mathlib.Omega.{arith}
 use mir.Syntax.{w64}
-use Rattle.sample.specs.Private.{Fine}
+use Rattle.sample.specs.Blend.{Fine}
 use Rattle.sample.proofs.BlendLaws.{list-of-four, read-back, blended-list, column-fine}
 use Rattle.sample.proofs.bernstein.curve.Statement.{statement}
 use Rattle.sample.proofs.bernstein.curve.Tie as tie
