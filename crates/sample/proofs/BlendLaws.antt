@@ -54,7 +54,8 @@ list-of-four f p q r s = ap₂ _∷_ p (ap₂ _∷_ q (ap₂ _∷_ r (ap₂ _∷
 pub read-back : (w : Width) {r x : ℤ} → mag r < 2 ^ hbits w → r ≡ x → toZ w (ofZ w r) ≡ x
 read-back w ok e = toZ-ofZ (record { sfits = ok }) ∙ e
 
-pub blended-list : (weights : List ℕ) (h : ℕ → ℤ) {values : List ℤ} {r : ℤ} → values ≡ listBelow h 4 → r ≡ blended weights (λ i. getD values i (pos 0)) → r ≡ blended weights h
+pub blended-list : (weights : List ℕ) (h : ℕ → ℤ) {values : List ℤ} {r : ℤ} → values ≡ listBelow h 4
+    → r ≡ blended weights (λ i. getD values i (pos 0)) → r ≡ blended weights h
 unfolding foldBelow listBelow
 blended-list weights h e q = q ∙ ap (λ (xs : List ℤ). blended weights (λ i. getD xs i (pos 0))) e
 

@@ -50,5 +50,5 @@ module _ (patches : List ℤ) (f n a b : ℕ) where
       → {p : Point} → p ≡ record { x = coordinateOf 0; y = coordinateOf 1; z = coordinateOf 2 } → result p ≡ sampleAnswer patches f n a b
   unfolding sampleAnswer
   answered e h q =
-      rw (q, e)
-      (rw (patch-coordinate patches f h n a b 0 (omega arith), patch-coordinate patches f h n a b 1 (omega arith), patch-coordinate patches f h n a b 2 (omega arith)))
+      let at = patch-coordinate patches f h n a b in
+      rw (q, e) (rw (at 0 (omega arith), at 1 (omega arith), at 2 (omega arith)))

@@ -108,7 +108,8 @@ numerator-edge n a g = numerator-rows n a 0 g ∙ fold-ext (pos 0) _+ℤ_ 4 (λ 
   where
     first : (i : ℕ) → sumBelowℤ (λ j. pos (bernstein n 0 j) *ℤ g (i + 4 * j)) 4 ≡ pos (n ^ 3) *ℤ g i
     first i =
-        rw (add-zero, bernstein-first, bernstein-first-others n 1 (omega arith), bernstein-first-others n 2 (omega arith), bernstein-first-others n 3 (omega arith))
+        let none = bernstein-first-others n in
+        rw (add-zero, bernstein-first, none 1 (omega arith), none 2 (omega arith), none 3 (omega arith))
         (simp (zero-*ℤ, +ℤ-idl, +ℤ-idr))
 
 -- its four points from the other end

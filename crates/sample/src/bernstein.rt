@@ -106,7 +106,11 @@ fn coordinate(patch: &[i32], k: usize, u: [u32; 4], v: [u32; 4], divisor: u32) -
 // The point of the patch at (a, b).
 pub(crate) fn point(patch: &[i32], n: usize, a: usize, b: usize) -> Point
     requires { ⌜ Small (now patch) × Steps n a × Steps n b ⌝ }
-    ensures { λ r. ⌜ r ≡ record { x = rounded n a b (controlOf (now (patch .entry)) 0); y = rounded n a b (controlOf (now (patch .entry)) 1); z = rounded n a b (controlOf (now (patch .entry)) 2) } ⌝ }
+    ensures { λ r. ⌜ r ≡ record {
+      x = rounded n a b (controlOf (now (patch .entry)) 0);
+      y = rounded n a b (controlOf (now (patch .entry)) 1);
+      z = rounded n a b (controlOf (now (patch .entry)) 2);
+    } ⌝ }
 {
     let u = weights(n, a);
     let v = weights(n, b);

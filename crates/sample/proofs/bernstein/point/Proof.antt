@@ -49,7 +49,8 @@ module _ (c : tie.After-divisor) where
   asked : (k : ℕ) → k < 3 → (Small (start .args .patch .now) × (k < 3) × Light u × Light v) × Mean (sum k) (c .divisor .result)
   asked k l = (
     (start .pre .0, l, u-light, v-light),
-    blended-mean _ _ _ _ (c .before .before .weights .ensures) (c .before .weights2 .ensures) (c .divisor .ensures) (sample-mean (start .pre .0) k l (start .pre .1) (start .pre .2)),
+    blended-mean _ _ _ _ (c .before .before .weights .ensures) (c .before .weights2 .ensures) (c .divisor .ensures)
+        (sample-mean (start .pre .0) k l (start .pre .1) (start .pre .2)),
   )
 
   told : (k : ℕ) {r : ℤ} → mag r < 2 ^ 31 → r ≡ nearest (sum k) (c .divisor .result) → toZ w32 (ofZ w32 r) ≡ sampled k
