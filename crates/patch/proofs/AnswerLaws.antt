@@ -2,15 +2,14 @@
 use mathlib.Core.Path.{_≡_, refl, sym, ap, _∙_}
 use mathlib.Core.Bool.{Bool, true, false, cond, _||_}
 use mathlib.Core.List.{List, [], _∷_}
-use mathlib.Core.Option.{Option, none, some}
+use mathlib.Core.Option.{Option, none}
 use Prim.Native.Nat.{ℕ, _*_, _≤_}
-use native.Mathlib.Omega.{arith}
 use lib.IntN.{ℤ}
 use lib.ListN.{length}
 use borrow.Author.Tests.{ltb-false}
 use Rattle.finite.specs.Filled.{filled}
-use Rattle.finite.specs.Table.{Row, row, firstMet, Answer, result, refusal, answerBy, writtenBy}
-use Rattle.finite.proofs.TableLaws.{none-met, append-none, none-append, result-none}
+use Rattle.finite.specs.Table.{row, firstMet, result, answerBy}
+use Rattle.finite.proofs.TableLaws.{none-met, append-none, result-none}
 use Rattle.finite.proofs.AnyAll.{or-false}
 use Rattle.finite.proofs.FilledLaws.{length-filled, filled-at}
 use Rattle.mesh.specs.HalfEdge.{twin}

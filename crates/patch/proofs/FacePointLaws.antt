@@ -1,5 +1,5 @@
--- What the points of a patch are read from: the listed twins tell which half-edges are sharp, the values of the faces at a corner make its points and its ring term,
--- two tables tell which point of which corner each of the sixteen is, and three coordinates are a point.
+-- What the points of a patch are read from: the listed twins tell which half-edges are sharp, the values of the faces at a corner make its
+-- points and its ring term, two tables tell which point of which corner each of the sixteen is, and three coordinates are a point.
 use mathlib.Core.Path.{_≡_, refl, ap, ap₂, subst}
 use mathlib.Core.Bool.{false}
 use mathlib.Core.List.{List, [], _∷_, map}

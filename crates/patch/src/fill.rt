@@ -22,7 +22,8 @@ pub(crate) fn fill_patches(
 )
     requires { ⌜ WellFormed (indexed v f (now positions) (now tags) (now faces)) × (48 * f ≤ length (now patches)) ⌝ }
     requires { ⌜ Twins (now faces) (now twins) ⌝ }
-    ensures { λ _. ⌜ now (patches .exit) ≡ patchesAfter (indexed v f (now (positions .entry)) (now (tags .entry)) (now (faces .entry))) (now (patches .entry)) ⌝ }
+    ensures { λ _. ⌜ now (patches .exit)
+        ≡ patchesAfter (indexed v f (now (positions .entry)) (now (tags .entry)) (now (faces .entry))) (now (patches .entry)) ⌝ }
 {
     let mut weights = [0u16; 4 * Mesh::MAX_FACES];
     let mut points = [0i32; 3 * Mesh::MAX_VERTICES];

@@ -1,6 +1,6 @@
--- The weights of a place a from 0 to n: they are the same from the other end, they sum to n^3, they are small, and at an end only the point there counts.
-use mathlib.Core.Path.{_≡_, refl, sym, _∙_, subst}
-use Prim.Native.Nat.{ℕ, zero, suc, _+_, _-_, _*_, _^_, _<_, _≤_, zero-le}
+-- The weights of a place a from 0 to n: they are the same from the other end, they sum to n^3, they are small, and at 0 only the first counts.
+use mathlib.Core.Path.{_≡_, refl, sym, subst}
+use Prim.Native.Nat.{ℕ, zero, suc, _+_, _-_, _*_, _^_, _<_, _≤_}
 use native.Mathlib.Nat.{pow-suc, pow-zero, mul-le-mul, sub-zero}
 use native.Mathlib.Omega.{arith}
 use lib.Pow.{pow-add}
@@ -49,7 +49,7 @@ module _ (n a : ℕ) (h : a ≤ n) where
   pub bernstein-small : n ≤ 32 → (i : ℕ) → i < 4 → bernstein n a i ≤ 32768
   bernstein-small s i l = omega (arith, bernstein-le i l, cube-small n s)
 
--- ---- at an end
+-- ---- at 0
 pub bernstein-first : (n : ℕ) → bernstein n 0 0 ≡ n ^ 3
 unfolding bernstein
 bernstein-first n = rw (sub-zero, pow-3)
@@ -60,10 +60,3 @@ bernstein-first-others n zero l = absurd (omega arith)
 bernstein-first-others n (suc zero) l = omega arith
 bernstein-first-others n (suc (suc zero)) l = omega arith
 bernstein-first-others n (suc (suc (suc i))) l = refl
-
-pub bernstein-last : (n : ℕ) → bernstein n n 3 ≡ n ^ 3
-unfolding bernstein
-bernstein-last n = sym (pow-3 n)
-
-pub bernstein-last-others : (n i : ℕ) → i < 3 → bernstein n n i ≡ 0
-bernstein-last-others n i l = rw sub-zero at (bernstein-flip n 0 zero-le i (omega arith)) ∙ bernstein-first-others n (3 - i) (omega arith)

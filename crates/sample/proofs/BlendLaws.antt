@@ -6,10 +6,8 @@ use native.Mathlib.Nat.{mul-comm, one-le-pow}
 use native.Mathlib.Omega.{arith}
 use lib.IntN.{ℤ, pos, natAbs, _*ℤ_}
 use lib.ListN.{getD}
-use lib.Signed.{mag}
-use mir.Syntax.{Width, w64}
-use mir.Val.{SFits, toZ, ofZ, hbits}
-use mir.Facts.{toZ-ofZ}
+use mir.Syntax.{w64}
+use mir.Val.{SFits}
 use Rattle.integer.specs.Nearest.{nearest}
 use Rattle.integer.proofs.Laws.{abs-*-≤, sfits-abs}
 use Rattle.integer.proofs.NearestLaws.{nearest-meets, nearest-unique}
@@ -49,10 +47,6 @@ module _ {weights : List ℕ} {values : List ℤ} (light : Light weights) (fine 
 pub list-of-four : {A : Type 0} (f : ℕ → A) {w x y z : A} → w ≡ f 0 → x ≡ f 1 → y ≡ f 2 → z ≡ f 3 → w ∷ (x ∷ (y ∷ (z ∷ []))) ≡ listBelow f 4
 unfolding listBelow
 list-of-four f p q r s = ap₂ _∷_ p (ap₂ _∷_ q (ap₂ _∷_ r (ap₂ _∷_ s refl)))
-
--- what a call gave, read back from its bits
-pub read-back : (w : Width) {r x : ℤ} → mag r < 2 ^ hbits w → r ≡ x → toZ w (ofZ w r) ≡ x
-read-back w ok e = toZ-ofZ (record { sfits = ok }) ∙ e
 
 pub blended-list : (weights : List ℕ) (h : ℕ → ℤ) {values : List ℤ} {r : ℤ} → values ≡ listBelow h 4
     → r ≡ blended weights (λ i. getD values i (pos 0)) → r ≡ blended weights h

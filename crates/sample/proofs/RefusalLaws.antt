@@ -9,7 +9,7 @@ use lib.Dec.{ltb}
 use lib.IntN.{ℤ}
 use lib.ListN.{length}
 use borrow.Author.Tests.{lt-ltb, le-ltb, ltb-false}
-use Rattle.finite.specs.Table.{firstMet, Answer, result, refusal}
+use Rattle.finite.specs.Table.{firstMet, result, refusal}
 use Rattle.finite.proofs.AnyAll.{or-false}
 use Rattle.sample.specs.declared.model.Point.{Point}
 use Rattle.sample.specs.Bernstein.{rounded}

@@ -6,9 +6,8 @@ use Prim.Native.Nat.{ℕ, zero, suc, _+_, _-_, _*_, _/_, _%_, _^_, _<_, _≤_}
 use native.Mathlib.Nat.{add-zero, add-assoc, mul-comm, mul-assoc, mul-le-mul-left, mul-le-mul-right, one-le-pow}
 use native.Mathlib.Omega.{arith}
 use lib.IntN.{ℤ, pos, natAbs, _+ℤ_, _-ℤ_, _*ℤ_, zero-*ℤ, +ℤ-assoc, +ℤ-idl, +ℤ-idr}
-use lib.ListN.{getD, drop}
+use lib.ListN.{getD}
 use lib.Pow.{pow-add}
-use lib.Seq.{getD-drop}
 use Rattle.integer.specs.Nearest.{IsNearest}
 use Rattle.integer.proofs.Difference.{int, nat, _⊕_, _⊝_, _⊛_, prove-eq, read-abs}
 use Rattle.integer.proofs.Laws.{*ℤ-assoc, abs-+, abs-*}
@@ -63,10 +62,6 @@ pub coordinate-ext : (p p′ : List ℤ) (f f′ n a b k : ℕ) → k < 3
     → ((i : ℕ) → i < 48 → getD p (48 * f + i) (pos 0) ≡ getD p′ (48 * f′ + i) (pos 0)) → coordinateAt p f n a b k ≡ coordinateAt p′ f′ n a b k
 coordinate-ext p p′ f f′ n a b k l h =
     rounded-ext n a b (λ m r. rw (add-assoc (48 * f) (3 * m) k, add-assoc (48 * f′) (3 * m) k) (h (3 * m + k) (omega arith)))
-
-pub coordinate-drop : (p : List ℤ) (f n a b k : ℕ) → coordinateAt p f n a b k ≡ coordinateAt (drop (48 * f) p) 0 n a b k
-coordinate-drop p f n a b k =
-    rounded-ext n a b (λ m _. rw getD-drop (ap (λ (i : ℕ). getD p i (pos 0)) (omega arith)))
 
 -- ---- four points in the other direction
 sum-flip : (f : ℕ → ℤ) → sumBelowℤ (λ i. f (3 - i)) 4 ≡ sumBelowℤ f 4

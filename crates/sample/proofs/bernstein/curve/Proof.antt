@@ -5,9 +5,10 @@ use Prim.Native.Nat.{ℕ, _+_, _*_, _<_}
 use native.Mathlib.Omega.{arith}
 use lib.IntN.{ℤ}
 use mir.Syntax.{w64}
+use Rattle.integer.proofs.Laws.{read-back}
 use Rattle.finite.specs.Filled.{listBelow}
 use Rattle.sample.specs.Blend.{controlOf, Light, Fine}
-use Rattle.sample.proofs.BlendLaws.{list-of-four, read-back, blended-list, column-fine}
+use Rattle.sample.proofs.BlendLaws.{list-of-four, blended-list, column-fine}
 use Rattle.sample.proofs.bernstein.curve.Statement.{statement}
 use Rattle.sample.proofs.bernstein.curve.Tie as tie
 

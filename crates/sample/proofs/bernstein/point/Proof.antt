@@ -8,9 +8,10 @@ use lib.Signed.{mag}
 use mir.Syntax.{w32}
 use mir.Val.{toZ, ofZ}
 use Rattle.integer.specs.Nearest.{nearest}
+use Rattle.integer.proofs.Laws.{read-back}
 use Rattle.sample.specs.Bernstein.{rounded}
 use Rattle.sample.specs.Blend.{controlOf, Small, Light, Mean, blendedTwice}
-use Rattle.sample.proofs.BlendLaws.{read-back, weights-light, sample-mean, blended-mean, rounded-blended}
+use Rattle.sample.proofs.BlendLaws.{weights-light, sample-mean, blended-mean, rounded-blended}
 use Rattle.sample.proofs.bernstein.point.Statement.{statement}
 use Rattle.sample.proofs.bernstein.point.Tie as tie
 
