@@ -1,7 +1,6 @@
 -- `write_patch` meets its contract: each point fills the next three places, and the places behind the sixteenth hold what they held.
 use mathlib.Core.Path.{_≡_, refl}
 use Prim.Native.Nat.{ℕ, _+_, _*_, _-_, _≤_}
-use native.Mathlib.Numerals.{add-one-le, add-one-dec}
 use native.Mathlib.Omega.{arith}
 use lib.IntN.{ℤ}
 use lib.ListN.{length}
@@ -56,13 +55,13 @@ write-numbered-requires c κs =
     let i : tie.In-loop Inv-loop μ-loop = c .before in
     let s = start i in
     let l = head i .loop in
-    (s .pre .0, s .pre .1, i .loop-test .taken, stretch-long (3 * l .m) 3 (l .patch) (omega (arith, room i, l .inv .1)))
+    (s .pre .0, s .pre .1, omega (arith, i .loop-test .taken), stretch-long (3 * l .m) 3 (l .patch) (omega (arith, room i, l .inv .1)))
 
 add-m : tie.Need-add-m Inv-loop μ-loop
 add-m c = omega arith
 
 loop-less : tie.Need-loop-less Inv-loop μ-loop
-loop-less c = add-one-dec _ _ (c .before .before .before .loop-test .taken)
+loop-less c = omega (arith, c .before .before .before .loop-test .taken)
 
 loop-again : tie.Need-loop-again Inv-loop μ-loop
 loop-again c =
@@ -72,7 +71,7 @@ loop-again c =
     let w =
     filled-stretch (number i) _ (3 * l .m) 3 (3 * (l .m + 1)) (s .args .patch .now) (l .patch) _
     (omega arith) (omega (arith, room i)) (λ j h. refl) (l .inv .2) (c .before .write-numbered .ensures) in
-    (add-one-le (i .loop-test .taken), w .0, w .1)
+    (omega (arith, i .loop-test .taken), w .0, w .1)
 
 same-length : tie.Need-same-length Inv-loop μ-loop
 same-length c = c .before .loop .inv .1
