@@ -3,11 +3,11 @@
 use mathlib.Core.Path.{_≡_, sym, _∙_}
 use mathlib.Core.Bool.{Bool, false}
 use mathlib.Core.List.{List, [], _∷_}
+use Prim.Native.Nat.{_≤_}
 use native.Mathlib.Omega.{arith}
 use Rattle.finite.specs.Table.{Row, row}
 use Rattle.finite.proofs.TableLaws.{From, all-rows, row-met, row-passed}
-use Rattle.sample.specs.Refusal.{controlOff, placeOff, sampleRows}
-use Rattle.sample.specs.Blend.{Steps}
+use Rattle.sample.specs.Refusal.{minSteps, maxSteps, controlOff, placeOff, sampleRows}
 use Rattle.sample.proofs.PatchLaws.{patch-off, patch-small}
 use Rattle.sample.proofs.RefusalLaws.{place-on, face-off, face-on, refused, answered}
 use Rattle.sample.proofs.sample.Statement.{statement}
@@ -55,12 +55,8 @@ module _ (c : tie.Else3) where
   place-told : place (start tested) ≡ false
   place-told = sym (c .before .place-off .ensures) ∙ c .if3 .left
 
-  steps : (let s = start tested in Steps (s .args .n) (s .args .a) × Steps (s .args .n) (s .args .b))
-  steps =
-      let p = place-on _ _ _ place-told in (
-        record { least = omega (arith, p .0); most = omega (arith, p .1); within = omega (arith, p .2, p .3) },
-        record { least = omega (arith, p .0); most = omega (arith, p .1); within = omega (arith, p .2, p .3) },
-      )
+  range : (let s = start tested in (minSteps ≤ s .args .n) × (s .args .n ≤ maxSteps) × (s .args .a ≤ s .args .n) × (s .args .b ≤ s .args .n))
+  range = place-on _ _ _ place-told
 
 -- ---- the answers, in the order of the code
 returns : tie.Need-returns
@@ -97,7 +93,13 @@ returns-3 : tie.Need-returns-3
 returns-3 c = refused _ _ _ _ _ (row-met (past-13 (c .before .before)) (sym (c .before .place-off .ensures) ∙ c .if3 .taken))
 
 point-requires : tie.Need-point-requires
-point-requires c κs = let e = tested c in (patch-small _ _ (listed (e .before) .if1 .left) (controls-on e), steps c .0, steps c .1)
+point-requires c κs =
+    let e = tested c in
+    let r = range c in (
+      patch-small _ _ (listed (e .before) .if1 .left) (controls-on e),
+      record { least = omega (arith, r .0); most = omega (arith, r .1); within = omega (arith, r .2, r .3) },
+      record { least = omega (arith, r .0); most = omega (arith, r .1); within = omega (arith, r .2, r .3) },
+    )
 
 returns-4 : tie.Need-returns-4
 returns-4 c =
