@@ -14,13 +14,12 @@ use Rattle.mesh.specs.Refusal.{sizesOff, coordinateOff, tagOff, vertexOff, vert
 use Rattle.finite.specs.Table.{Answer, result, refusal}
 use Rattle.mesh.specs.declared.model.Mesh.{Mesh}
 use Rattle.mesh.specs.Answer.{meshRefusal, checkAnswer}
-use Rattle.sample.specs.Bernstein.{weight, numerator, rounded}
+use Rattle.sample.specs.Bernstein.{bernstein, numerator, rounded}
 use Rattle.sample.specs.Refusal.{faceOff, controlOff, placeOff}
 use Rattle.sample.specs.declared.model.Point as Sample
 use Rattle.sample.specs.Answer.{sampleAnswer}
 use Rattle.patch.specs.Mask.{innerMask, edgeMask, boundaryEdgeMask, smoothCornerMask, boundaryCornerMask, vertexMask}
-use Rattle.patch.specs.Point as Point
-use Rattle.patch.specs.Point.{sharp, sharpSum, ringSum, fixed, cornerPoint, innerPoint, edgePoint, alongPoint, beforePoint, point}
+use Rattle.patch.specs.Point.{weight, sharp, sharpSum, ringSum, fixed, cornerPoint, innerPoint, edgePoint, alongPoint, beforePoint, point}
 use Rattle.patch.specs.Patch.{owner, kind, patchPoint, patchNumber, patchesAfter}
 use Rattle.examples.specs.Meshes.{square, cube, pillow, doubledFace, bowTie, strip, tagged, openFanOfEight, openFanOfNine}
 
@@ -49,8 +48,8 @@ abbrev checked : IndexedMesh → List ℤ
 checked M = numbers (checkAnswer M (replicate (corners M) 0))
 
 -- control point b(i,j) of face f
-abbrev control : IndexedMesh → ℕ → ℕ → ℕ → List ℤ
-control M f i j =
+abbrev controlPoint : IndexedMesh → ℕ → ℕ → ℕ → List ℤ
+controlPoint M f i j =
     patchNumber M (48 * f + 3 * (i + 4 * j)) ∷ patchNumber M (48 * f + 3 * (i + 4 * j) + 1) ∷ patchNumber M (48 * f + 3 * (i + 4 * j) + 2) ∷ []
 
 -- the sample call's answer on the patch list of a mesh
@@ -72,15 +71,15 @@ xyz x y z = pos x ∷ pos y ∷ pos z ∷ []
 -- tagged vertex, and open fans of eight and nine faces.
 pub examples : List Example
 examples =
-    example (control square 0 1 0) (xyz 1792 0 0)
-    ∷ example (control square 0 1 1) (xyz 2304 2304 0)
-    ∷ example (control square 0 2 1) (xyz 3072 2304 0)
+    example (controlPoint square 0 1 0) (xyz 1792 0 0)
+    ∷ example (controlPoint square 0 1 1) (xyz 2304 2304 0)
+    ∷ example (controlPoint square 0 2 1) (xyz 3072 2304 0)
     ∷ example (sampled square 2 0 1 0) (xyz 2688 0 0)
     ∷ example (sampled square 2 0 1 1) (xyz 2688 2688 0)
     ∷ example (checked cube) (pos 8 ∷ pos 6 ∷ pos 12 ∷ pos 0 ∷ [])
-    ∷ example (control cube 0 0 0) (xyz 3072 3072 3072)
-    ∷ example (control cube 0 1 1) (xyz 1536 1536 6144)
-    ∷ example (control cube 0 1 0) (xyz 1536 3840 3840)
+    ∷ example (controlPoint cube 0 0 0) (xyz 3072 3072 3072)
+    ∷ example (controlPoint cube 0 1 1) (xyz 1536 1536 6144)
+    ∷ example (controlPoint cube 0 1 0) (xyz 1536 3840 3840)
     ∷ example (nearest (pos 1) 2 ∷ []) (pos 0 ∷ [])
     ∷ example (nearest (pos 3) 2 ∷ []) (pos 2 ∷ [])
     ∷ example (nearest (pos 5) 2 ∷ []) (pos 2 ∷ [])
@@ -90,13 +89,13 @@ examples =
     ∷ example (checked doubledFace) (pos 7 ∷ [])
     ∷ example (checked bowTie) (pos 9 ∷ [])
     ∷ example (checked strip) (pos 6 ∷ pos 2 ∷ pos 7 ∷ pos 6 ∷ [])
-    ∷ example (control strip 0 2 1) (xyz 1536 768 0)
-    ∷ example (control strip 0 3 1) (xyz 2304 768 256)
-    ∷ example (control strip 0 3 0) (xyz 2304 0 384)
-    ∷ example (control strip 1 1 1) (xyz 3072 768 512)
+    ∷ example (controlPoint strip 0 2 1) (xyz 1536 768 0)
+    ∷ example (controlPoint strip 0 3 1) (xyz 2304 768 256)
+    ∷ example (controlPoint strip 0 3 0) (xyz 2304 0 384)
+    ∷ example (controlPoint strip 1 1 1) (xyz 3072 768 512)
     ∷ example (checked square) (pos 4 ∷ pos 1 ∷ pos 4 ∷ pos 4 ∷ [])
     ∷ example (checked (tagged strip (0 ∷ 1 ∷ 0 ∷ 0 ∷ 0 ∷ 0 ∷ []))) (pos 6 ∷ pos 2 ∷ pos 7 ∷ pos 6 ∷ [])
-    ∷ example (control (tagged strip (0 ∷ 1 ∷ 0 ∷ 0 ∷ 0 ∷ 0 ∷ [])) 0 3 0) (xyz 2304 0 0)
+    ∷ example (controlPoint (tagged strip (0 ∷ 1 ∷ 0 ∷ 0 ∷ 0 ∷ 0 ∷ [])) 0 3 0) (xyz 2304 0 0)
     ∷ example (checked (tagged strip (0 ∷ 2 ∷ 0 ∷ 0 ∷ 0 ∷ 0 ∷ []))) (pos 4 ∷ [])
     ∷ example (checked (tagged cube (0 ∷ 0 ∷ 0 ∷ 0 ∷ 0 ∷ 0 ∷ 0 ∷ 1 ∷ []))) (pos 11 ∷ [])
     ∷ example (checked openFanOfEight) (pos 18 ∷ pos 8 ∷ pos 25 ∷ pos 18 ∷ [])
@@ -104,5 +103,10 @@ examples =
     ∷ []
 
 pub examples-hold : computedAll examples ≡ statedAll examples
-unfolding examples halfEven nearestℕ nearest foldBelow listBelow filled isTwin twin boundary sameWay doubled joins edges boundaries valence onBoundary around iterate fanBy fan sizesOff coordinateOff tagOff vertexOff vertexTwice halfEdgeTwice vertexUnused fanBroken valenceOff innerTagged meshRefusal weight numerator rounded faceOff controlOff placeOff sampleAnswer innerMask edgeMask boundaryEdgeMask smoothCornerMask boundaryCornerMask vertexMask Point.weight sharp sharpSum ringSum fixed cornerPoint innerPoint edgePoint alongPoint beforePoint point owner kind patchPoint patchNumber
+unfolding examples halfEven nearestℕ nearest foldBelow listBelow filled
+    isTwin twin boundary sameWay doubled joins edges boundaries valence onBoundary around iterate fanBy fan
+    sizesOff coordinateOff tagOff vertexOff vertexTwice halfEdgeTwice vertexUnused fanBroken valenceOff innerTagged meshRefusal
+    innerMask edgeMask boundaryEdgeMask smoothCornerMask boundaryCornerMask vertexMask weight sharp sharpSum ringSum fixed
+    cornerPoint innerPoint edgePoint alongPoint beforePoint point owner kind patchPoint patchNumber
+    bernstein numerator rounded faceOff controlOff placeOff sampleAnswer
 examples-hold = refl

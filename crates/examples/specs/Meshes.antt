@@ -55,7 +55,13 @@ tagged M tags = indexed (M .vertices) (M .faces) (M .positions) tags (M .indices
 
 -- an open fan about vertex 0: each face has the centre, a spoke, an outer vertex and the next spoke
 abbrev pub openFanOfEight : IndexedMesh
-openFanOfEight = collapsed 18 8 (0 ∷ 1 ∷ 10 ∷ 2 ∷ 0 ∷ 2 ∷ 11 ∷ 3 ∷ 0 ∷ 3 ∷ 12 ∷ 4 ∷ 0 ∷ 4 ∷ 13 ∷ 5 ∷ 0 ∷ 5 ∷ 14 ∷ 6 ∷ 0 ∷ 6 ∷ 15 ∷ 7 ∷ 0 ∷ 7 ∷ 16 ∷ 8 ∷ 0 ∷ 8 ∷ 17 ∷ 9 ∷ [])
+openFanOfEight =
+    collapsed 18 8
+    (0 ∷ 1 ∷ 10 ∷ 2 ∷ 0 ∷ 2 ∷ 11 ∷ 3 ∷ 0 ∷ 3 ∷ 12 ∷ 4 ∷ 0 ∷ 4 ∷ 13 ∷ 5
+    ∷ 0 ∷ 5 ∷ 14 ∷ 6 ∷ 0 ∷ 6 ∷ 15 ∷ 7 ∷ 0 ∷ 7 ∷ 16 ∷ 8 ∷ 0 ∷ 8 ∷ 17 ∷ 9 ∷ [])
 
 abbrev pub openFanOfNine : IndexedMesh
-openFanOfNine = collapsed 20 9 (0 ∷ 1 ∷ 11 ∷ 2 ∷ 0 ∷ 2 ∷ 12 ∷ 3 ∷ 0 ∷ 3 ∷ 13 ∷ 4 ∷ 0 ∷ 4 ∷ 14 ∷ 5 ∷ 0 ∷ 5 ∷ 15 ∷ 6 ∷ 0 ∷ 6 ∷ 16 ∷ 7 ∷ 0 ∷ 7 ∷ 17 ∷ 8 ∷ 0 ∷ 8 ∷ 18 ∷ 9 ∷ 0 ∷ 9 ∷ 19 ∷ 10 ∷ [])
+openFanOfNine =
+    collapsed 20 9
+    (0 ∷ 1 ∷ 11 ∷ 2 ∷ 0 ∷ 2 ∷ 12 ∷ 3 ∷ 0 ∷ 3 ∷ 13 ∷ 4 ∷ 0 ∷ 4 ∷ 14 ∷ 5
+    ∷ 0 ∷ 5 ∷ 15 ∷ 6 ∷ 0 ∷ 6 ∷ 16 ∷ 7 ∷ 0 ∷ 7 ∷ 17 ∷ 8 ∷ 0 ∷ 8 ∷ 18 ∷ 9 ∷ 0 ∷ 9 ∷ 19 ∷ 10 ∷ [])

@@ -3,8 +3,7 @@ use mathlib.Core.Path.{_≡_, sym, ap, _∙_}
 use Prim.Native.Nat.{ℕ, zero, suc, _*_, _≤_, _<_, zero-le}
 use native.Mathlib.Omega.{arith}
 use lib.IntN.{ℤ, pos, natAbs, _+ℤ_, _*ℤ_, +ℤ-idl, +ℤ-assoc, +ℤ-comm, *ℤ-zero}
-use lib.Signed.{_≤ℤ_, ≤ℤ-refl}
-use Rattle.integer.proofs.Laws.{*ℤ-+ℤ, ≤ℤ-+ℤ, abs-+}
+use Rattle.integer.proofs.Laws.{*ℤ-+ℤ, abs-+}
 use Rattle.finite.specs.Fold.{foldBelow, sumBelowℤ}
 use Rattle.finite.proofs.FoldLaws.{Monoid}
 
@@ -15,11 +14,6 @@ pub sum-scale : (c : ℤ) (f : ℕ → ℤ) (n : ℕ) → sumBelowℤ (λ k. c *
 unfolding foldBelow
 sum-scale c f zero = sym (*ℤ-zero c)
 sum-scale c f (suc n) = ap (λ (t : ℤ). t +ℤ c *ℤ f n) (sum-scale c f n) ∙ sym (*ℤ-+ℤ c (sumBelowℤ f n) (f n))
-
-pub sum-mono : (f g : ℕ → ℤ) (n : ℕ) → ((k : ℕ) → k < n → f k ≤ℤ g k) → sumBelowℤ f n ≤ℤ sumBelowℤ g n
-unfolding foldBelow
-sum-mono f g zero h = ≤ℤ-refl (pos 0)
-sum-mono f g (suc n) h = ≤ℤ-+ℤ (sumBelowℤ f n) (sumBelowℤ g n) (f n) (g n) (sum-mono f g n (λ k l. h k (omega arith))) (h n (omega arith))
 
 pub sum-size : (B : ℕ) (f : ℕ → ℤ) (n : ℕ) → ((k : ℕ) → k < n → natAbs (f k) ≤ B) → natAbs (sumBelowℤ f n) ≤ n * B
 unfolding foldBelow

@@ -4,13 +4,13 @@
 --   From rows rest   what is first met of rows is what is first met of rest, the rows that are not checked yet
 --   orElse m m'    the first of two numbers, where it is there, else the second
 --   `firstMet (row b k ∷ rows)` is `cond b (some k) (firstMet rows)`; the laws speak of that form, with m what the rows after it give.
-use mathlib.Core.Path.{_≡_, refl, sym, ap, _∙_}
+use mathlib.Core.Path.{_≡_, refl, sym, _∙_}
 use mathlib.Core.Bool.{Bool, true, false, cond}
 use mathlib.Core.List.{List, [], _∷_, _++_}
 use mathlib.Core.Option.{Option, none, some}
 use Prim.Native.Nat.{ℕ, zero, suc}
 use native.Mathlib.Omega.{arith}
-use Rattle.finite.specs.Table.{Row, row, firstMet, Answer, result, refusal, answerBy, refusalOf}
+use Rattle.finite.specs.Table.{Row, row, firstMet, result, refusal, answerBy, refusalOf}
 
 -- ---- one row
 module _ (k : ℕ) (m : Option ℕ) {b : Bool} where

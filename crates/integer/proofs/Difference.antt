@@ -136,7 +136,8 @@ abbrev mutual
   subtrahend (~ e) = minuend e
 
 -- (a - b) (c - d) by the parts, where p - q and r - s are the same two differences
-mul-difference : (p q r s a b c d x y : ℕ) → p + b ≡ q + a → r + d ≡ s + c → x + (p * s + q * r) ≡ y + (p * r + q * s) → x + (a * d + b * c) ≡ y + (a * c + b * d)
+mul-difference : (p q r s a b c d x y : ℕ) → p + b ≡ q + a → r + d ≡ s + c → x + (p * s + q * r) ≡ y + (p * r + q * s)
+    → x + (a * d + b * c) ≡ y + (a * c + b * d)
 mul-difference p q r s a b c d x y e f g =
     omega (arith, ap (λ (t : ℕ). t * r) e, ap (λ (t : ℕ). t * s) e, ap (λ (t : ℕ). a * t) f, ap (λ (t : ℕ). b * t) f)
 

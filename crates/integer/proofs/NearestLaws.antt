@@ -1,4 +1,5 @@
--- The laws of `nearest`, for every divisor above 0. It is the one integer that `IsNearest` describes (`nearest-meets`, `nearest-unique`), and each other law follows from that.
+-- The laws of `nearest`, for every divisor above 0. It is the one integer that `IsNearest` describes (`nearest-meets`, `nearest-unique`), and
+-- each other law follows from that.
 use mathlib.Core.Path.{_≡_, refl, ap, _∙_}
 use Prim.Native.Nat.{ℕ, zero, suc, _+_, _-_, _*_, _%_, _/_, _≤_, _<_}
 use native.Mathlib.Omega.{arith}
@@ -123,7 +124,8 @@ nearest-bounded z d B h le = bounded (nearest z d) (nearest-meets z d h)
   where
     bounded : (r : ℤ) → IsNearest z d r → natAbs r ≤ B
     bounded r f =
-        let l : natAbs r < B + 1 = lt-of-mul-lt-mul-right d (omega (arith, read-abs (int r ⊛ nat d), abs-* r (pos d), read-abs (int z ⊝ int r ⊛ nat d), abs-is z)) in
+        let l : natAbs r < B + 1 =
+        lt-of-mul-lt-mul-right d (omega (arith, read-abs (int r ⊛ nat d), abs-* r (pos d), read-abs (int z ⊝ int r ⊛ nat d), abs-is z)) in
         omega arith
 
 pub nearest-scaled : (z : ℤ) (d m : ℕ) → 0 < d → 0 < m → nearest (z *ℤ pos m) (d * m) ≡ nearest z d

@@ -1,4 +1,5 @@
--- The ring normaliser of ℤ: `ring ρ e f refl` proves the equation that the polynomials e and f spell over the integers of the list ρ, where both have one normal form.
+-- The ring normaliser of ℤ: `ring ρ e f refl` proves the equation that the polynomials e and f spell over the integers of the list ρ, where
+-- both have one normal form.
 -- A polynomial is written with `var i` (the integer at place i of ρ), `con c`, :+, :-, :* and `neg`.
 -- A normal form is a list of terms in the order of their monomials, each a coefficient other than 0 and a monomial: the sorted list of its variables.
 use mathlib.Core.Path.{_≡_, refl, sym, ap, ap₂, _∙_}

@@ -7,7 +7,7 @@ use crate::samples::sample_lines;
 use mesh::model::Mesh;
 use meshfile::model::Opened;
 use meshfile::model::Tessellation;
-use sample::model::Point;
+use sample::model::MAX_STEPS;
 ghost use mathlib.Core.Path.{_≡_};
 ghost use mathlib.Core.Bool.{cond};
 ghost use lib.Dec.{eqb};
@@ -46,7 +46,7 @@ fn mesh_stretch(t: Tessellation, patches: &[i32], line: usize, out: &mut [u8]) -
     if Mesh::MAX_FACES < m.faces {
         return Stretch { line, length: 0 };
     }
-    if Point::MAX_STEPS < t.steps {
+    if MAX_STEPS < t.steps {
         return Stretch { line, length: 0 };
     }
     sample_lines(t, patches, line, out)

@@ -4,7 +4,8 @@ use crate::model::Tessellation;
 use mesh::entries::off_range;
 use mesh::model::Checked;
 use mesh::model::Mesh;
-use sample::model::Point;
+use sample::model::MAX_STEPS;
+use sample::model::MIN_STEPS;
 ghost use mathlib.Core.Path.{_≡_};
 ghost use mathlib.Core.Bool.{true};
 ghost use mathlib.Core.List.{[], _∷_};
@@ -43,7 +44,7 @@ pub(crate) fn tessellate(
     if patches.len() < 48 * f {
         return Opened::Refused(2);
     }
-    if off_range(Point::MIN_STEPS, Point::MAX_STEPS, n) {
+    if off_range(MIN_STEPS, MAX_STEPS, n) {
         return Opened::Refused(steps_refusal(v, f, positions, tags, faces));
     }
     let mut twins = [0u16; 4 * Mesh::MAX_FACES];

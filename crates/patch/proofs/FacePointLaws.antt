@@ -1,5 +1,5 @@
--- What the points of a patch are read from: the listed twins tell which half-edges are sharp, the values of the faces at a corner make its points and its ring term,
--- two tables tell which point of which corner each of the sixteen is, and three coordinates are a point.
+-- What the points of a patch are read from: the listed twins tell which half-edges are sharp, the values of the faces at a corner make its
+-- points and its ring term, two tables tell which point of which corner each of the sixteen is, and three coordinates are a point.
 use mathlib.Core.Path.{_≡_, refl, ap, ap₂, subst}
 use mathlib.Core.Bool.{false}
 use mathlib.Core.List.{List, [], _∷_, map}
@@ -22,7 +22,9 @@ use Rattle.mesh.specs.Tables.{vertexOf, twinOf}
 use Rattle.patch.specs.Mask.{Fraction, innerMask, edgeMask}
 use Rattle.patch.specs.Point.{View, weight, sharp, ringTerm, innerPoint, edgePoint}
 use Rattle.patch.specs.Patch.{owner, kind}
-use Rattle.patch.specs.Private.{shapeOf, SeenFrom, Made, boundaryIn, sharpIn, Twins, Source, pointFrom, numberFrom}
+use Rattle.patch.specs.Lists.{shapeOf, boundaryIn, sharpIn, Twins}
+use Rattle.patch.specs.Values.{SeenFrom, Made}
+use Rattle.patch.specs.Written.{Source, pointFrom, numberFrom}
 use Rattle.patch.specs.declared.fraction.Fraction as code
 use Rattle.patch.specs.declared.values.FaceValues.{FaceValues}
 use Rattle.patch.proofs.MaskLaws.{stored, stored-is}

@@ -5,7 +5,7 @@
 --   weights e      the sum of its weights
 --   stored z       the integer z, stored and read back
 --   machine e      what the machine computes for e, from what it has stored
---   Coordinates e  its coordinates are within their range
+--   Ranged e       its coordinates are within their range
 --   made e         the fraction of e over its weights, as the machine hands it on
 use mathlib.Core.Path.{_≡_, refl, sym, ap, ap₂, _∙_, subst}
 use Prim.Native.Nat.{ℕ, _+_, _*_, _≤_, _<_}
@@ -17,7 +17,7 @@ use mir.Val.{SFits, toZ, ofZ}
 use mir.Facts.{toZ-ofZ, toZ-pos}
 use Rattle.integer.proofs.Laws.{abs-+, abs-*, sfits-abs}
 use Rattle.mesh.specs.Limits.{maxCoordinate}
-use Rattle.patch.specs.Private.{Made}
+use Rattle.patch.specs.Values.{Made}
 
 infixl 6 _⊞_
 pub data Sum : Type 0 where
@@ -43,21 +43,21 @@ machine (one z) = z
 machine (term k z) = toZ w64 k *ℤ stored z
 machine (e ⊞ f) = stored (machine e) +ℤ stored (machine f)
 
-abbrev pub Coordinates : Sum → Type 0
-Coordinates (one z) = natAbs z ≤ maxCoordinate
-Coordinates (term k z) = natAbs z ≤ maxCoordinate
-Coordinates (e ⊞ f) = Coordinates e × Coordinates f
+abbrev pub Ranged : Sum → Type 0
+Ranged (one z) = natAbs z ≤ maxCoordinate
+Ranged (term k z) = natAbs z ≤ maxCoordinate
+Ranged (e ⊞ f) = Ranged e × Ranged f
 
-pub size : (e : Sum) → Coordinates e → natAbs (value e) ≤ maxCoordinate * weights e
+pub size : (e : Sum) → Ranged e → natAbs (value e) ≤ maxCoordinate * weights e
 size (one z) l = omega arith
 size (term k z) l = omega (arith, abs-* (pos k) z, mul-le-mul-left k l)
 size (e ⊞ f) l = omega (arith, abs-+ (value e) (value f), size e (l .0), size f (l .1))
 
 -- the value fits, with room to spare
-value-fits : (e : Sum) → Coordinates e → weights e ≤ 1024 → SFits w64 (value e)
+value-fits : (e : Sum) → Ranged e → weights e ≤ 1024 → SFits w64 (value e)
 value-fits e l w = sfits-abs (value e) (omega (arith, size e l))
 
-pub exact : (e : Sum) → Coordinates e → weights e ≤ 1024 → machine e ≡ value e
+pub exact : (e : Sum) → Ranged e → weights e ≤ 1024 → machine e ≡ value e
 exact (one z) l w = refl
 exact (term k z) l w = ap₂ _*ℤ_ (toZ-pos w64 (omega arith)) (toZ-ofZ (value-fits (one z) l (omega arith)))
 exact (e ⊞ f) l w =
@@ -65,10 +65,10 @@ exact (e ⊞ f) l w =
     let lf : weights f ≤ 1024 = omega arith in
     ap₂ _+ℤ_ (ap stored (exact e (l .0) le) ∙ toZ-ofZ (value-fits e (l .0) le)) (ap stored (exact f (l .1) lf) ∙ toZ-ofZ (value-fits f (l .1) lf))
 
-pub exact-stored : (e : Sum) → Coordinates e → weights e ≤ 1024 → stored (machine e) ≡ value e
+pub exact-stored : (e : Sum) → Ranged e → weights e ≤ 1024 → stored (machine e) ≡ value e
 exact-stored e l w = ap stored (exact e l w) ∙ toZ-ofZ (value-fits e l w)
 
-pub fits : (e : Sum) → Coordinates e → weights e ≤ 1024 → SFits w64 (machine e)
+pub fits : (e : Sum) → Ranged e → weights e ≤ 1024 → SFits w64 (machine e)
 fits e l w = subst (SFits w64) (sym (exact e l w)) (value-fits e l w)
 
 -- a coordinate z that is known as y, read back
@@ -80,6 +80,6 @@ pub made-of : (num z : ℤ) (den : ℕ) → z ≡ num → 0 < den → natAbs num
     → Made (record { num = num; den = den }) (record { num = z; den = den })
 made-of num z den e p l = record { is = rw e; within = record { positive = p; small = rw e l } }
 
-pub made : (e : Sum) → Coordinates e → (den : ℕ) → weights e ≡ den → 0 < den → den ≤ 1024
+pub made : (e : Sum) → Ranged e → (den : ℕ) → weights e ≡ den → 0 < den → den ≤ 1024
     → Made (record { num = value e; den = den }) (record { num = stored (machine e); den = den })
 made e l den q p h = made-of (value e) (stored (machine e)) den (exact-stored e l (omega arith)) p (omega (arith, size e l))

@@ -10,7 +10,7 @@ use Rattle.integer.proofs.NearestLaws.{nearest-bounded}
 use Rattle.mesh.specs.Limits.{maxCoordinate}
 use Rattle.mesh.specs.IndexedMesh.{IndexedMesh}
 use Rattle.mesh.specs.WellFormed.{WellFormed}
-use Rattle.patch.specs.Patch.{patchPoint, control, view}
+use Rattle.patch.specs.Patch.{patchPoint, controlValue, view}
 use Rattle.patch.proofs.Related.{Linear, Related, patch-related}
 
 pub bounds : (B : ℕ) → Linear (λ k z _. natAbs z ≤ B * k)
@@ -33,5 +33,5 @@ module _ {M : IndexedMesh} (a : WellFormed M) (f m k : ℕ) (face : f < M .faces
   pub patch-size : natAbs (pos 256 *ℤ patchPoint (view M k) (4 * f) m .num) ≤ 256 * maxCoordinate * patchPoint (view M k) (4 * f) m .den
   patch-size = omega (arith, abs-* (pos 256) (patchPoint (view M k) (4 * f) m .num), within .related)
 
-  pub control-bound : natAbs (control (view M k) (4 * f) m) ≤ 256 * maxCoordinate
+  pub control-bound : natAbs (controlValue (view M k) (4 * f) m) ≤ 256 * maxCoordinate
   control-bound = nearest-bounded _ _ (256 * maxCoordinate) patch-divisor patch-size

@@ -1,7 +1,7 @@
 -- The tables of an accepted mesh are all that its patches are written from, and what is written from them is the patch list.
 use mathlib.Core.Path.{_≡_, sym, _∙_}
 use mathlib.Core.List.{List}
-use Prim.Native.Nat.{ℕ, _+_, _-_, _*_, _/_, _%_, _≤_, _<_}
+use Prim.Native.Nat.{ℕ, _+_, _*_, _/_, _%_, _≤_, _<_}
 use native.Mathlib.Omega.{arith}
 use lib.IntN.{ℤ}
 use lib.ListN.{length}
@@ -12,7 +12,9 @@ use Rattle.mesh.proofs.CornerLaws.{turn-below}
 use Rattle.mesh.proofs.AcceptedLaws.{accepted-corners}
 use Rattle.patch.specs.Point.{Kind, corner, along, before, inner, weight, sharp, alongPoint, beforePoint, innerPoint, edgePoint, point}
 use Rattle.patch.specs.Patch.{owner, kind, patchPoint, view, units, patchNumber}
-use Rattle.patch.specs.Private.{Twins, Tables, Source, pointFrom, numberFrom}
+use Rattle.patch.specs.Lists.{Twins}
+use Rattle.patch.specs.PatchTables.{Tables}
+use Rattle.patch.specs.Written.{Source, pointFrom, numberFrom}
 use Rattle.patch.proofs.TableLaws.{weight-seen, accepted-whole, accepted-light, accepted-coordinates}
 
 pub face-listed : {M : IndexedMesh} → WellFormed M → (g : ℕ) → g < M .faces → 4 * g + 4 ≤ length (M .indices)

@@ -1,15 +1,11 @@
 -- Sums over the corners at a vertex, as the code makes them: their size, and a count as a test.
 use mathlib.Core.Path.{_≡_, refl, sym, ap, _∙_}
 use mathlib.Core.Bool.{Bool, true, false, not, cond, _||_, or-true, or-false}
-use Prim.Native.Nat.{ℕ, zero, suc, _+_, _*_, _^_, _≤_, _<_, zero-le}
+use Prim.Native.Nat.{ℕ, zero, suc, _+_, _*_, _≤_, _<_, zero-le}
 use native.Mathlib.Nat.{add-zero}
 use native.Mathlib.Omega.{arith}
 use lib.Dec.{eqb}
 use lib.IntN.{ℤ, pos, natAbs, _+ℤ_}
-use lib.Signed.{mag}
-use mir.Syntax.{Width}
-use mir.Val.{toZ, ofZ, hbits}
-use mir.Facts.{toZ-ofZ}
 use borrow.Author.Tests.{ne-eqb}
 use Rattle.finite.specs.Fold.{foldBelow, indicator, gather}
 use Rattle.finite.proofs.FoldLaws.{fold-ext, bool-cases}
@@ -18,17 +14,9 @@ use Rattle.mesh.specs.Fan.{anyAt, valence}
 use Rattle.patch.proofs.PointLaws.{bounds}
 use Rattle.patch.proofs.Related.{sum-at}
 
--- what a call gave, read back from its bits
-pub read-back : (w : Width) {r z : ℤ} → mag r < 2 ^ hbits w → r ≡ z → toZ w (ofZ w r) ≡ z
-read-back w ok e = toZ-ofZ (record { sfits = ok }) ∙ e
-
 pub cond-size : (b : Bool) (z : ℤ) (B : ℕ) → natAbs z ≤ B → natAbs (cond b z (pos 0)) ≤ B
 cond-size true z B h = h
 cond-size false z B h = zero-le
-
-pub indicator-few : (b : Bool) → indicator b ≤ 1
-indicator-few true = omega arith
-indicator-few false = omega arith
 
 module _ (at : ℕ → ℕ) (p : ℕ) where
   pub gather-ext : {A : Type 0} (z : A) (op : A → A → A) {f g : ℕ → A} (n : ℕ) → ((c : ℕ) → c < n → f c ≡ g c) → gather z op at f n p ≡ gather z op at g n p

@@ -1,7 +1,7 @@
 -- What stands in the patch list after an accepted mesh was written.
 use mathlib.Core.Path.{_≡_, _∙_}
 use mathlib.Core.List.{List}
-use Prim.Native.Nat.{ℕ, _+_, _*_, _/_, _%_, _-_, _≤_, _<_}
+use Prim.Native.Nat.{ℕ, _+_, _*_, _/_, _%_, _≤_, _<_}
 use native.Mathlib.Omega.{arith}
 use lib.IntN.{ℤ, pos, natAbs}
 use lib.ListN.{length, getD}
@@ -9,14 +9,14 @@ use Rattle.finite.proofs.FilledLaws.{length-filled, filled-at}
 use Rattle.mesh.specs.Limits.{maxCoordinate}
 use Rattle.mesh.specs.IndexedMesh.{IndexedMesh}
 use Rattle.mesh.specs.WellFormed.{WellFormed}
-use Rattle.patch.specs.Patch.{control, view, patchNumber, patchesAfter}
+use Rattle.patch.specs.Patch.{controlValue, view, patchNumber, patchesAfter}
 use Rattle.patch.proofs.PointLaws.{control-bound}
 
 -- place 48f + 3m + k has coordinate k of point m of face f
 place : (f m k : ℕ) → m < 16 → k < 3 → ((48 * f + 3 * m + k) % 3 ≡ k) × ((48 * f + 3 * m + k) / 48 ≡ f) × ((48 * f + 3 * m + k) % 48 / 3 ≡ m)
 place f m k l h = (omega arith, omega arith, omega arith)
 
-pub number-at : (M : IndexedMesh) (f m k : ℕ) → m < 16 → k < 3 → patchNumber M (48 * f + 3 * m + k) ≡ control (view M k) (4 * f) m
+pub number-at : (M : IndexedMesh) (f m k : ℕ) → m < 16 → k < 3 → patchNumber M (48 * f + 3 * m + k) ≡ controlValue (view M k) (4 * f) m
 unfolding patchNumber
 number-at M f m k l h = let w = place f m k l h in rw (w .0, w .1, w .2)
 
@@ -24,7 +24,7 @@ pub written-length : (M : IndexedMesh) (d : List ℤ) → 48 * M .faces ≤ leng
 written-length M d l = length-filled (patchNumber M) _ d (omega arith)
 
 pub written-at : (M : IndexedMesh) (d : List ℤ) (f m k : ℕ) → f < M .faces → m < 16 → k < 3
-    → getD (patchesAfter M d) (48 * f + 3 * m + k) (pos 0) ≡ control (view M k) (4 * f) m
+    → getD (patchesAfter M d) (48 * f + 3 * m + k) (pos 0) ≡ controlValue (view M k) (4 * f) m
 written-at M d f m k l b h =
     filled-at (patchNumber M) _ (48 * f + 3 * m + k) d (pos 0) (omega arith) ∙ number-at M f m k b h
 

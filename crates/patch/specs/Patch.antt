@@ -7,7 +7,7 @@
 --                           0 corner 0    1 along 0     2 before 1    3 corner 1        +--> i
 --                      "b(0,0), b(3,0), b(3,3), b(0,3) belong to q0 to q3."
 --   patchPoint S c m   point m of the patch of the face of corner c, where c counts as the face's first corner
---   control S c m      "256 times the fraction, rounded once to the nearest whole number, halves to the even one"
+--   controlValue S c m   "256 times the fraction, rounded once to the nearest whole number, halves to the even one"
 --   shape M            the mesh M without its coordinates
 --   view M k           coordinate k (x, y, z) of the mesh M
 --   patchNumber M i    what stands at place i of the patch list: coordinate i % 3 of point i % 48 / 3 of face i / 48
@@ -37,8 +37,8 @@ patchPoint S c m = point S (turn (owner m) c) (kind m)
 abbrev pub units : Fraction → ℤ
 units q = nearest (pos 256 *ℤ q .num) (q .den)
 
-abbrev pub control : View → ℕ → ℕ → ℤ
-control S c m = units (patchPoint S c m)
+abbrev pub controlValue : View → ℕ → ℕ → ℤ
+controlValue S c m = units (patchPoint S c m)
 
 abbrev pub shape : IndexedMesh → Shape
 shape M = record { n = corners M; at = at M; tag = tag M }
@@ -47,7 +47,7 @@ abbrev pub view : IndexedMesh → ℕ → View
 view M k = record { shape = shape M; value = λ p. coordinate M (3 * p + k) }
 
 unfoldable pub patchNumber : IndexedMesh → ℕ → ℤ
-patchNumber M i = control (view M (i % 3)) (4 * (i / 48)) (i % 48 / 3)
+patchNumber M i = controlValue (view M (i % 3)) (4 * (i / 48)) (i % 48 / 3)
 
 abbrev pub patchesAfter : IndexedMesh → List ℤ → List ℤ
 patchesAfter M d = filled (patchNumber M) (48 * M .faces) d

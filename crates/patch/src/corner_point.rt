@@ -8,7 +8,8 @@ ghost use lib.Dec.{eqb};
 ghost use lib.IntN.{natAbs};
 ghost use Rattle.mesh.specs.Limits.{maxCoordinate, maxValence, cornerTag};
 ghost use Rattle.patch.specs.Mask.{smoothCornerMask, boundaryCornerMask, vertexMask};
-ghost use Rattle.patch.specs.Private.{Made, cornerFrom};
+ghost use Rattle.patch.specs.Values.{Made};
+ghost use Rattle.patch.specs.PatchTables.{cornerFrom};
 
 // The corner point of an inner vertex with n faces.
 fn smooth_corner(n: u32, p: i64, s: i64) -> Fraction

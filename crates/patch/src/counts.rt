@@ -10,7 +10,8 @@ ghost use Rattle.finite.specs.Filled.{filled};
 ghost use Rattle.mesh.specs.Limits.{maxVertices, maxFaces};
 ghost use Rattle.mesh.specs.Tables.{Holds, Indices};
 ghost use Rattle.patch.specs.Point.{weight};
-ghost use Rattle.patch.specs.Private.{shapeOf, Twins, Counts};
+ghost use Rattle.patch.specs.Lists.{shapeOf, Twins};
+ghost use Rattle.patch.specs.PatchTables.{Counts};
 
 // 1 for true, 0 for false.
 fn one_if(b: bool) -> u16

@@ -14,7 +14,9 @@ ghost use lib.ListN.{length};
 ghost use Rattle.finite.specs.Filled.{listBelow};
 ghost use Rattle.patch.specs.Point.{innerPoint, edgePoint, alongPoint, beforePoint};
 ghost use Rattle.patch.specs.Patch.{units};
-ghost use Rattle.patch.specs.Private.{seen, Coordinates, Weights, Twins, Made};
+ghost use Rattle.patch.specs.Lists.{seen, Coordinates, Twins};
+ghost use Rattle.patch.specs.Values.{Made};
+ghost use Rattle.patch.specs.PatchTables.{Weights};
 
 // The inner point at corner c, coordinate k.
 fn inner_point(positions: &[i32], faces: &[u16], weights: &[u16], k: usize, c: usize) -> Fraction

@@ -2,7 +2,7 @@
 ghost use mathlib.Core.Path.{_≡_};
 ghost use mathlib.Core.List.{[], _∷_};
 ghost use Rattle.patch.specs.Patch.{units};
-ghost use Rattle.patch.specs.Private.{fractionOf, Within};
+ghost use Rattle.patch.specs.Values.{fractionOf, Within};
 
 // A fraction of a micrometre.
 pub(crate) struct Fraction {

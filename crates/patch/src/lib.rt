@@ -44,7 +44,8 @@ pub fn patches(
     twins: &mut [u16],
     patches: &mut [i32],
 ) -> Checked
-    ensures { λ r. ⌜ Patched (indexed v f (now (positions .entry)) (now (tags .entry)) (now (faces .entry))) (now (twins .entry)) (now (patches .entry)) r (now (twins .exit)) (now (patches .exit)) ⌝ }
+    ensures { λ r. ⌜ Patched (indexed v f (now (positions .entry)) (now (tags .entry)) (now (faces .entry)))
+        (now (twins .entry)) (now (patches .entry)) r (now (twins .exit)) (now (patches .exit)) ⌝ }
 {
     let own = own_refusal(f, patches.len());
     let answer = mesh::check_after(own, v, f, positions, tags, faces, twins);

@@ -5,7 +5,7 @@ ghost use Prim.Native.Nat.{_≤_};
 ghost use lib.IntN.{natAbs};
 ghost use Rattle.mesh.specs.Limits.{maxCoordinate};
 ghost use Rattle.patch.specs.Mask.{innerMask, edgeMask, boundaryEdgeMask};
-ghost use Rattle.patch.specs.Private.{Small, Made};
+ghost use Rattle.patch.specs.Values.{Small, Made};
 
 // The inner point at a corner of weight w.
 pub(crate) fn inner_mask(w: u32, a: FaceValues) -> Fraction

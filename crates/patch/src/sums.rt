@@ -12,7 +12,8 @@ ghost use lib.ListN.{length, getD, set};
 ghost use Rattle.mesh.specs.Limits.{maxVertices, maxCoordinate};
 ghost use Rattle.mesh.specs.Tables.{Holds, Indices};
 ghost use Rattle.patch.specs.Point.{sharpTerm, ringTerm};
-ghost use Rattle.patch.specs.Private.{seen, Coordinates, Twins, Sums};
+ghost use Rattle.patch.specs.Lists.{seen, Coordinates, Twins};
+ghost use Rattle.patch.specs.PatchTables.{Sums};
 
 // The sum of two numbers.
 fn plus(a: i64, b: i64) -> i64

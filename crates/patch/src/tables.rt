@@ -13,7 +13,8 @@ ghost use lib.ListN.{length, getD};
 ghost use Rattle.mesh.specs.Limits.{maxVertices};
 ghost use Rattle.mesh.specs.IndexedMesh.{indexed};
 ghost use Rattle.mesh.specs.WellFormed.{WellFormed};
-ghost use Rattle.patch.specs.Private.{shapeOf, Twins, Counts, CornersAre, Tables};
+ghost use Rattle.patch.specs.Lists.{shapeOf, Twins};
+ghost use Rattle.patch.specs.PatchTables.{Counts, CornersAre, Tables};
 
 // Writes coordinate k of the corner points.
 fn fill_coordinate(

@@ -6,7 +6,8 @@ ghost use lib.IntN.{pos};
 ghost use lib.ListN.{length, getD};
 ghost use Rattle.mesh.specs.Corner.{turn};
 ghost use Rattle.mesh.specs.Tables.{vertexOf};
-ghost use Rattle.patch.specs.Private.{seen, Coordinates, SeenFrom, boundaryIn, sharpIn};
+ghost use Rattle.patch.specs.Lists.{seen, Coordinates, boundaryIn, sharpIn};
+ghost use Rattle.patch.specs.Values.{SeenFrom};
 
 // One coordinate of the four vertices of a face, seen from a corner: of its own vertex, of the next, the one across and the previous.
 pub(crate) struct FaceValues {

@@ -9,7 +9,7 @@ ghost use Prim.Native.Nat.{ℕ, _+_, _*_, _≤_, _<_};
 ghost use lib.IntN.{pos};
 ghost use lib.ListN.{length, getD};
 ghost use Rattle.finite.specs.Filled.{listBelow, filled};
-ghost use Rattle.patch.specs.Private.{Source, kindOf, pointFrom, numberFrom};
+ghost use Rattle.patch.specs.Written.{Source, kindOf, pointFrom, numberFrom};
 ghost use Rattle.mesh.specs.Tables.{vertexOf};
 
 // The four points of its face that each corner owns.
@@ -95,7 +95,8 @@ fn write_point(
     point: &mut [i32],
 )
     requires { ⌜ Source (now positions) (now faces) (now twins) (now weights) (now points) × (c < length (now faces)) × (3 ≤ length (now point)) ⌝ }
-    ensures { λ _. ⌜ now (point .exit) ≡ filled (λ k. pointFrom (now (positions .entry)) (now (faces .entry)) (now (points .entry)) k c (kindOf kind)) 3 (now (point .entry)) ⌝ }
+    ensures { λ _. ⌜ now (point .exit)
+        ≡ filled (λ k. pointFrom (now (positions .entry)) (now (faces .entry)) (now (points .entry)) k c (kindOf kind)) 3 (now (point .entry)) ⌝ }
 {
     let p = point_values(positions, faces, twins, weights, points, c, kind);
     point[0] = p[0];
@@ -114,8 +115,10 @@ fn write_numbered(
     m: usize,
     point: &mut [i32],
 )
-    requires { ⌜ Source (now positions) (now faces) (now twins) (now weights) (now points) × (4 * g + 4 ≤ length (now faces)) × (m < 16) × (3 ≤ length (now point)) ⌝ }
-    ensures { λ _. ⌜ now (point .exit) ≡ filled (λ k. numberFrom (now (positions .entry)) (now (faces .entry)) (now (points .entry)) g (3 * m + k)) 3 (now (point .entry)) ⌝ }
+    requires { ⌜ Source (now positions) (now faces) (now twins) (now weights) (now points)
+        × (4 * g + 4 ≤ length (now faces)) × (m < 16) × (3 ≤ length (now point)) ⌝ }
+    ensures { λ _. ⌜ now (point .exit)
+        ≡ filled (λ k. numberFrom (now (positions .entry)) (now (faces .entry)) (now (points .entry)) g (3 * m + k)) 3 (now (point .entry)) ⌝ }
 {
     let kind = KINDS[m];
     let c = turned(OWNERS[m] as usize, 4 * g);

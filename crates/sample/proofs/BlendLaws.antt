@@ -6,10 +6,8 @@ use native.Mathlib.Nat.{mul-comm, one-le-pow}
 use native.Mathlib.Omega.{arith}
 use lib.IntN.{ℤ, pos, natAbs, _*ℤ_}
 use lib.ListN.{getD}
-use lib.Signed.{mag}
-use mir.Syntax.{Width, w64}
-use mir.Val.{SFits, toZ, ofZ, hbits}
-use mir.Facts.{toZ-ofZ}
+use mir.Syntax.{w64}
+use mir.Val.{SFits}
 use Rattle.integer.specs.Nearest.{nearest}
 use Rattle.integer.proofs.Laws.{abs-*-≤, sfits-abs}
 use Rattle.integer.proofs.NearestLaws.{nearest-meets, nearest-unique}
@@ -17,10 +15,10 @@ use Rattle.finite.specs.Fold.{foldBelow, sumBelowℤ}
 use Rattle.finite.specs.Filled.{listBelow}
 use Rattle.finite.proofs.FilledLaws.{listBelow-at}
 use Rattle.finite.proofs.IntegerSum.{sum-size}
-use Rattle.sample.specs.Bernstein.{weight, numerator, rounded}
+use Rattle.sample.specs.Bernstein.{bernstein, numerator, rounded}
 use Rattle.sample.specs.Refusal.{maxControl}
-use Rattle.sample.specs.Private.{controlOf, Small, Steps, Light, Fine, Mean, blended, blendedTwice}
-use Rattle.sample.proofs.WeightLaws.{weight-small, sixth-small}
+use Rattle.sample.specs.Blend.{controlOf, Small, Steps, Light, Fine, Mean, blended, blendedTwice}
+use Rattle.sample.proofs.BernsteinLaws.{bernstein-small, sixth-small}
 use Rattle.sample.proofs.SampleLaws.{numerator-rows, rounded-nearest, numerator-bound}
 
 -- ---- the first i terms
@@ -50,17 +48,14 @@ pub list-of-four : {A : Type 0} (f : ℕ → A) {w x y z : A} → w ≡ f 0 → 
 unfolding listBelow
 list-of-four f p q r s = ap₂ _∷_ p (ap₂ _∷_ q (ap₂ _∷_ r (ap₂ _∷_ s refl)))
 
--- what a call gave, read back from its bits
-pub read-back : (w : Width) {r x : ℤ} → mag r < 2 ^ hbits w → r ≡ x → toZ w (ofZ w r) ≡ x
-read-back w ok e = toZ-ofZ (record { sfits = ok }) ∙ e
-
-pub blended-list : (weights : List ℕ) (h : ℕ → ℤ) {values : List ℤ} {r : ℤ} → values ≡ listBelow h 4 → r ≡ blended weights (λ i. getD values i (pos 0)) → r ≡ blended weights h
+pub blended-list : (weights : List ℕ) (h : ℕ → ℤ) {values : List ℤ} {r : ℤ} → values ≡ listBelow h 4
+    → r ≡ blended weights (λ i. getD values i (pos 0)) → r ≡ blended weights h
 unfolding foldBelow listBelow
 blended-list weights h e q = q ∙ ap (λ (xs : List ℤ). blended weights (λ i. getD xs i (pos 0))) e
 
 -- ---- one patch
-pub weights-light : {n a : ℕ} → Steps n a → Light (listBelow (weight n a) 4)
-weights-light {n} {a} s = record { light = λ i l. rw (listBelow-at (weight n a) 4 i 0 l) (weight-small n a (s .within) (s .most) i l) }
+pub weights-light : {n a : ℕ} → Steps n a → Light (listBelow (bernstein n a) 4)
+weights-light {n} {a} s = record { light = λ i l. rw (listBelow-at (bernstein n a) 4 i 0 l) (bernstein-small n a (s .within) (s .most) i l) }
 
 module _ {patch : List ℤ} (small : Small patch) (k : ℕ) (below : k < 3) where
   control-small : (m : ℕ) → m < 16 → natAbs (controlOf patch k m) ≤ maxControl
@@ -89,7 +84,7 @@ module _ {patch : List ℤ} (small : Small patch) (k : ℕ) (below : k < 3) wher
       }
 
 -- ---- the sample, by the lists of the weights
-module _ (n a b : ℕ) (g : ℕ → ℤ) {u v : List ℕ} {d : ℕ} (e : u ≡ listBelow (weight n a) 4) (f : v ≡ listBelow (weight n b) 4) (h : d ≡ n ^ 6) where
+module _ (n a b : ℕ) (g : ℕ → ℤ) {u v : List ℕ} {d : ℕ} (e : u ≡ listBelow (bernstein n a) 4) (f : v ≡ listBelow (bernstein n b) 4) (h : d ≡ n ^ 6) where
   blended-numerator : blendedTwice u v g ≡ numerator n a b g
   unfolding foldBelow listBelow
   blended-numerator = ap₂ (λ (u v : List ℕ). blendedTwice u v g) e f ∙ sym (numerator-rows n a b g)

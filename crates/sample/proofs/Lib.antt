@@ -1,5 +1,5 @@
 -- The laws of the crate, from the weights to the answers.
-pub mod WeightLaws
+pub mod BernsteinLaws
 pub mod SampleLaws
 pub mod BlendLaws
 pub mod PatchLaws

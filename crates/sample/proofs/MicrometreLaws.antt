@@ -3,7 +3,7 @@
 use mathlib.Core.Path.{_≡_, refl, sym, ap, _∙_, subst}
 use mathlib.Core.Bool.{Bool, true, false}
 use Prim.Native.Nat.{ℕ, suc, _*_, _^_, _≤_, _<_}
-use native.Mathlib.Nat.{mul-one, mul-assoc, mul-right-comm, mul-pos, mul-le-mul-right, eq-of-mul-eq-mul-right, lt-of-le-of-lt, le-of-lt, le-trans}
+use native.Mathlib.Nat.{mul-one, one-mul, mul-assoc, mul-right-comm, mul-pos, mul-le-mul-right, eq-of-mul-eq-mul-right, lt-of-le-of-lt, le-of-lt, le-trans}
 use lib.Dec.{lit<, lit≤}
 use lib.IntN.{ℤ, pos, negsuc, natAbs}
 use lib.Signed.{mag}
@@ -17,23 +17,14 @@ same-sign : (s : Bool) → unlike s false ≡ s
 same-sign true = refl
 same-sign false = refl
 
--- n / 256 and n, from the fractions a / (256 d) and a / d with a = n d
-settle-256 : (x : Float) (s : Bool) (n a d : ℕ) → 0 < d → a ≡ n * d → HasValue x s a (256 * d) → HasValue x s n 256
-settle-256 nan s n a d p e v = v
-settle-256 (inf t) s n a d p e v = v
-settle-256 (fin t m k) s n a d p e v = (
+-- n / q from the fraction a / c, where a = n d and c = q d
+settle : (x : Float) (s : Bool) (n q a c d : ℕ) → 0 < d → a ≡ n * d → c ≡ q * d → HasValue x s a c → HasValue x s n q
+settle nan s n q a c d p e f v = v
+settle (inf t) s n q a c d p e f v = v
+settle (fin t m k) s n q a c d p e f v = (
   v .0,
-  eq-of-mul-eq-mul-right d p (m * up k * 256) (n * down k)
-      (mul-assoc (m * up k) 256 d ∙ v .1 ∙ ap (λ (z : ℕ). z * down k) e ∙ mul-right-comm n d (down k)),
-)
-
-settle-1 : (x : Float) (s : Bool) (n a d : ℕ) → 0 < d → a ≡ n * d → HasValue x s a d → HasValue x s n 1
-settle-1 nan s n a d p e v = v
-settle-1 (inf t) s n a d p e v = v
-settle-1 (fin t m k) s n a d p e v = (
-  v .0,
-  eq-of-mul-eq-mul-right d p (m * up k * 1) (n * down k)
-      (ap (λ (z : ℕ). z * d) (mul-one (m * up k)) ∙ v .1 ∙ ap (λ (z : ℕ). z * down k) e ∙ mul-right-comm n d (down k)),
+  eq-of-mul-eq-mul-right d p (m * up k * q) (n * down k)
+      (mul-assoc (m * up k) q d ∙ ap (λ (z : ℕ). m * up k * z) (sym f) ∙ v .1 ∙ ap (λ (z : ℕ). z * down k) e ∙ mul-right-comm n d (down k)),
 )
 
 -- a whole number over 256.0
@@ -51,7 +42,7 @@ quotient (fin t m k) s n h v =
     let small : n < 2 ^ 53 = lt-of-le-of-lt h (lit< tt) in
     let fine : n * 2 ^ 1066 < 2 ^ 2098 = lt-of-le-of-lt (mul-le-mul-right (2 ^ 1066) h) (lit< tt) in
     subst (λ (z : Bool). HasValue (round binary64 z (m * up k * 1) (256 * down k)) s n 256) (sym (same-sign t))
-    (settle-256 (round binary64 t (m * up k * 1) (256 * down k)) s n (m * up k * 1) (down k) (down-pos k) a
+    (settle (round binary64 t (m * up k * 1) (256 * down k)) s n 256 (m * up k * 1) (256 * down k) (down k) (down-pos k) a refl
     (subst (λ (z : Bool). HasValue (round binary64 t (m * up k * 1) (256 * down k)) z (m * up k * 1) (256 * down k)) (v .0)
     (round-exact binary64 t (m * up k * 1) (256 * down k) n 1066 (mul-pos (lit< tt) (down-pos k)) small fine e)))
 
@@ -68,7 +59,7 @@ product (fin t m k) s n h v =
     let small : n < 2 ^ 53 = lt-of-le-of-lt h (lit< tt) in
     let fine : n * 2 ^ 1074 < 2 ^ 2098 = lt-of-le-of-lt (mul-le-mul-right (2 ^ 1074) h) (lit< tt) in
     subst (λ (z : Bool). HasValue (round binary64 z (m * up k * 256) d) s n 1) (sym (same-sign t))
-    (settle-1 (round binary64 t (m * up k * 256) d) s n (m * up k * 256) d p a
+    (settle (round binary64 t (m * up k * 256) d) s n 1 (m * up k * 256) d d p a (sym (one-mul d))
     (subst (λ (z : Bool). HasValue (round binary64 t (m * up k * 256) d) z (m * up k * 256) d) (v .0)
     (round-exact binary64 t (m * up k * 256) d n 1074 p small fine e)))
 
@@ -95,7 +86,8 @@ abs-≤ (negsuc n) h = h
 -- the division of the code, by a y that is 256.0
 pub over256-exact : (z : ℤ) (y : Float) → mag z < 2 ^ 31 → y ≡ fin false 1 (pos 8) → Over256 (div binary64 (ofInt binary64 z) y) z
 over256-exact z y h e =
-    rw e (over-by (div binary64 (ofInt binary64 z) (fin false 1 (pos 8))) z (quotient (ofInt binary64 z) (negative z) (natAbs z) (abs-≤ z h) (whole z (abs-≤ z h))))
+    let x = ofInt binary64 z in
+    rw e (over-by (div binary64 x (fin false 1 (pos 8))) z (quotient x (negative z) (natAbs z) (abs-≤ z h) (whole z (abs-≤ z h))))
 
 -- the way back: a double that is a sample over 256, times 256.0, is the sample
 pub over256-back : (x : Float) (z : ℤ) → mag z < 2 ^ 31 → Over256 x z → mul binary64 x (fin false 1 (pos 8)) ≡ ofInt binary64 z

@@ -14,7 +14,7 @@ use Rattle.finite.proofs.FoldLaws.{fold-ext}
 use Rattle.finite.proofs.AnyAll.{any-false}
 use Rattle.sample.specs.Bernstein.{rounded, coordinateAt}
 use Rattle.sample.specs.Refusal.{maxControl, controlOff}
-use Rattle.sample.specs.Private.{controlOf, Small}
+use Rattle.sample.specs.Blend.{controlOf, Small}
 use Rattle.sample.proofs.SampleLaws.{rounded-ext}
 
 -- the part that the sample call hands on

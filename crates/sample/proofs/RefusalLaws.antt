@@ -9,13 +9,13 @@ use lib.Dec.{ltb}
 use lib.IntN.{ℤ}
 use lib.ListN.{length}
 use borrow.Author.Tests.{lt-ltb, le-ltb, ltb-false}
-use Rattle.finite.specs.Table.{firstMet, Answer, result, refusal}
+use Rattle.finite.specs.Table.{firstMet, result, refusal}
 use Rattle.finite.proofs.AnyAll.{or-false}
 use Rattle.sample.specs.declared.model.Point.{Point}
 use Rattle.sample.specs.Bernstein.{rounded}
 use Rattle.sample.specs.Refusal.{minSteps, maxSteps, faceOff, placeOff, sampleRows}
 use Rattle.sample.specs.Answer.{sampleAnswer}
-use Rattle.sample.specs.Private.{controlOf}
+use Rattle.sample.specs.Blend.{controlOf}
 use Rattle.sample.proofs.PatchLaws.{patchOf, patch-coordinate}
 
 -- ---- what a passed test of the place gives
@@ -50,5 +50,5 @@ module _ (patches : List ℤ) (f n a b : ℕ) where
       → {p : Point} → p ≡ record { x = coordinateOf 0; y = coordinateOf 1; z = coordinateOf 2 } → result p ≡ sampleAnswer patches f n a b
   unfolding sampleAnswer
   answered e h q =
-      rw (q, e)
-      (rw (patch-coordinate patches f h n a b 0 (omega arith), patch-coordinate patches f h n a b 1 (omega arith), patch-coordinate patches f h n a b 2 (omega arith)))
+      let at = patch-coordinate patches f h n a b in
+      rw (q, e) (rw (at 0 (omega arith), at 1 (omega arith), at 2 (omega arith)))

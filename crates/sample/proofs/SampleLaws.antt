@@ -6,9 +6,8 @@ use Prim.Native.Nat.{ℕ, zero, suc, _+_, _-_, _*_, _/_, _%_, _^_, _<_, _≤_}
 use native.Mathlib.Nat.{add-zero, add-assoc, mul-comm, mul-assoc, mul-le-mul-left, mul-le-mul-right, one-le-pow}
 use native.Mathlib.Omega.{arith}
 use lib.IntN.{ℤ, pos, natAbs, _+ℤ_, _-ℤ_, _*ℤ_, zero-*ℤ, +ℤ-assoc, +ℤ-idl, +ℤ-idr}
-use lib.ListN.{getD, drop}
+use lib.ListN.{getD}
 use lib.Pow.{pow-add}
-use lib.Seq.{getD-drop}
 use Rattle.integer.specs.Nearest.{IsNearest}
 use Rattle.integer.proofs.Difference.{int, nat, _⊕_, _⊝_, _⊛_, prove-eq, read-abs}
 use Rattle.integer.proofs.Laws.{*ℤ-assoc, abs-+, abs-*}
@@ -16,13 +15,13 @@ use Rattle.integer.proofs.NearestLaws.{nearest-meets}
 use Rattle.finite.specs.Fold.{foldBelow, sumBelow, sumBelowℤ}
 use Rattle.finite.proofs.FoldLaws.{fold-ext, fold-swap}
 use Rattle.finite.proofs.IntegerSum.{sumℤ-monoid, sum-scale}
-use Rattle.sample.specs.Bernstein.{weight, numerator, rounded, coordinateAt}
-use Rattle.sample.proofs.WeightLaws.{weight-flip, weights-sumBelow, weight-first, weight-first-others}
+use Rattle.sample.specs.Bernstein.{bernstein, numerator, rounded, coordinateAt}
+use Rattle.sample.proofs.BernsteinLaws.{bernstein-flip, bernstein-sumBelow, bernstein-first, bernstein-first-others}
 
 -- ---- other forms of the sum
 -- the weight of point m
 abbrev pub pointWeight : ℕ → ℕ → ℕ → ℕ → ℕ
-pointWeight n a b m = weight n a (m % 4) * weight n b (m / 4)
+pointWeight n a b m = bernstein n a (m % 4) * bernstein n b (m / 4)
 
 module _ (n a b : ℕ) (g : ℕ → ℤ) where
   -- one sum over the sixteen points
@@ -31,13 +30,13 @@ module _ (n a b : ℕ) (g : ℕ → ℤ) where
   numerator-sixteen = simp (+ℤ-assoc, +ℤ-idl)
 
   -- first along b and then along a
-  pub numerator-rows : numerator n a b g ≡ sumBelowℤ (λ i. pos (weight n a i) *ℤ sumBelowℤ (λ j. pos (weight n b j) *ℤ g (i + 4 * j)) 4) 4
+  pub numerator-rows : numerator n a b g ≡ sumBelowℤ (λ i. pos (bernstein n a i) *ℤ sumBelowℤ (λ j. pos (bernstein n b j) *ℤ g (i + 4 * j)) 4) 4
   unfolding numerator
   numerator-rows =
-      fold-swap sumℤ-monoid (λ j i. pos (weight n a i * weight n b j) *ℤ g (i + 4 * j)) 4 4
+      fold-swap sumℤ-monoid (λ j i. pos (bernstein n a i * bernstein n b j) *ℤ g (i + 4 * j)) 4 4
       ∙ fold-ext (pos 0) _+ℤ_ 4 (λ i _.
-      fold-ext (pos 0) _+ℤ_ 4 (λ j _. *ℤ-assoc (pos (weight n a i)) (pos (weight n b j)) (g (i + 4 * j)))
-      ∙ sum-scale (pos (weight n a i)) (λ j. pos (weight n b j) *ℤ g (i + 4 * j)) 4)
+      fold-ext (pos 0) _+ℤ_ 4 (λ j _. *ℤ-assoc (pos (bernstein n a i)) (pos (bernstein n b j)) (g (i + 4 * j)))
+      ∙ sum-scale (pos (bernstein n a i)) (λ j. pos (bernstein n b j) *ℤ g (i + 4 * j)) 4)
 
 -- ---- a sample by its sum
 -- over n^6 and rounded to the nearest whole number, halves to the even one
@@ -53,7 +52,7 @@ rounded-by-sum n a b a′ b′ g g′ e = rw e
 pub numerator-ext : (n a b : ℕ) {g g′ : ℕ → ℤ} → ((m : ℕ) → m < 16 → g m ≡ g′ m) → numerator n a b g ≡ numerator n a b g′
 unfolding numerator
 numerator-ext n a b h =
-    fold-ext (pos 0) _+ℤ_ 4 (λ j k. fold-ext (pos 0) _+ℤ_ 4 (λ i l. ap (λ (z : ℤ). pos (weight n a i * weight n b j) *ℤ z) (h (i + 4 * j) (omega arith))))
+    fold-ext (pos 0) _+ℤ_ 4 (λ j k. fold-ext (pos 0) _+ℤ_ 4 (λ i l. ap (λ (z : ℤ). pos (bernstein n a i * bernstein n b j) *ℤ z) (h (i + 4 * j) (omega arith))))
 
 pub rounded-ext : (n a b : ℕ) {g g′ : ℕ → ℤ} → ((m : ℕ) → m < 16 → g m ≡ g′ m) → rounded n a b g ≡ rounded n a b g′
 rounded-ext n a b h = rounded-by-sum n a b a b _ _ (numerator-ext n a b h)
@@ -63,10 +62,6 @@ pub coordinate-ext : (p p′ : List ℤ) (f f′ n a b k : ℕ) → k < 3
     → ((i : ℕ) → i < 48 → getD p (48 * f + i) (pos 0) ≡ getD p′ (48 * f′ + i) (pos 0)) → coordinateAt p f n a b k ≡ coordinateAt p′ f′ n a b k
 coordinate-ext p p′ f f′ n a b k l h =
     rounded-ext n a b (λ m r. rw (add-assoc (48 * f) (3 * m) k, add-assoc (48 * f′) (3 * m) k) (h (3 * m + k) (omega arith)))
-
-pub coordinate-drop : (p : List ℤ) (f n a b k : ℕ) → coordinateAt p f n a b k ≡ coordinateAt (drop (48 * f) p) 0 n a b k
-coordinate-drop p f n a b k =
-    rounded-ext n a b (λ m _. rw getD-drop (ap (λ (i : ℕ). getD p i (pos 0)) (omega arith)))
 
 -- ---- four points in the other direction
 sum-flip : (f : ℕ → ℤ) → sumBelowℤ (λ i. f (3 - i)) 4 ≡ sumBelowℤ f 4
@@ -88,27 +83,28 @@ pub numerator-turn : (n a b : ℕ) (g : ℕ → ℤ) → a ≤ n → numerator n
 unfolding numerator
 numerator-turn n a b g h =
     fold-ext (pos 0) _+ℤ_ 4 (λ j l. fold-ext (pos 0) _+ℤ_ 4 (λ i k. term i j k l))
-    ∙ sum-flip (λ k. sumBelowℤ (λ i. pos (weight n a k * weight n b i) *ℤ g (k + 4 * i)) 4)
-    ∙ fold-swap sumℤ-monoid (λ k i. pos (weight n a k * weight n b i) *ℤ g (k + 4 * i)) 4 4
+    ∙ sum-flip (λ k. sumBelowℤ (λ i. pos (bernstein n a k * bernstein n b i) *ℤ g (k + 4 * i)) 4)
+    ∙ fold-swap sumℤ-monoid (λ k i. pos (bernstein n a k * bernstein n b i) *ℤ g (k + 4 * i)) 4 4
   where
     term : (i j : ℕ) → i < 4 → j < 4
-        → pos (weight n b i * weight n (n - a) j) *ℤ quarterTurn g (i + 4 * j) ≡ pos (weight n a (3 - j) * weight n b i) *ℤ g (3 - j + 4 * i)
+        → pos (bernstein n b i * bernstein n (n - a) j) *ℤ quarterTurn g (i + 4 * j) ≡ pos (bernstein n a (3 - j) * bernstein n b i) *ℤ g (3 - j + 4 * i)
     term i j k l =
         ap₂ (λ (w m : ℕ). pos w *ℤ g m)
-        (rw (weight-flip n a h j l) (mul-comm (weight n b i) (weight n a (3 - j)))) (omega arith)
+        (rw (bernstein-flip n a h j l) (mul-comm (bernstein n b i) (bernstein n a (3 - j)))) (omega arith)
 
 pub rounded-turn : (n a b : ℕ) (g : ℕ → ℤ) → a ≤ n → rounded n b (n - a) (quarterTurn g) ≡ rounded n a b g
 rounded-turn n a b g h = rounded-by-sum n b (n - a) a b (quarterTurn g) g (numerator-turn n a b g h)
 
 -- ---- the edge b = 0
 -- only the points with j = 0 count
-pub numerator-edge : (n a : ℕ) (g : ℕ → ℤ) → numerator n a 0 g ≡ sumBelowℤ (λ i. pos (weight n a i) *ℤ (pos (n ^ 3) *ℤ g i)) 4
+pub numerator-edge : (n a : ℕ) (g : ℕ → ℤ) → numerator n a 0 g ≡ sumBelowℤ (λ i. pos (bernstein n a i) *ℤ (pos (n ^ 3) *ℤ g i)) 4
 unfolding foldBelow
-numerator-edge n a g = numerator-rows n a 0 g ∙ fold-ext (pos 0) _+ℤ_ 4 (λ i _. ap (λ (z : ℤ). pos (weight n a i) *ℤ z) (first i))
+numerator-edge n a g = numerator-rows n a 0 g ∙ fold-ext (pos 0) _+ℤ_ 4 (λ i _. ap (λ (z : ℤ). pos (bernstein n a i) *ℤ z) (first i))
   where
-    first : (i : ℕ) → sumBelowℤ (λ j. pos (weight n 0 j) *ℤ g (i + 4 * j)) 4 ≡ pos (n ^ 3) *ℤ g i
+    first : (i : ℕ) → sumBelowℤ (λ j. pos (bernstein n 0 j) *ℤ g (i + 4 * j)) 4 ≡ pos (n ^ 3) *ℤ g i
     first i =
-        rw (add-zero, weight-first, weight-first-others n 1 (omega arith), weight-first-others n 2 (omega arith), weight-first-others n 3 (omega arith))
+        let none = bernstein-first-others n in
+        rw (add-zero, bernstein-first, none 1 (omega arith), none 2 (omega arith), none 3 (omega arith))
         (simp (zero-*ℤ, +ℤ-idl, +ℤ-idr))
 
 -- its four points from the other end
@@ -116,8 +112,8 @@ pub rounded-edge-flip : (n a : ℕ) (g g′ : ℕ → ℤ) → a ≤ n → ((i :
 rounded-edge-flip n a g g′ le h =
     rounded-by-sum n (n - a) 0 a 0 g′ g
     (numerator-edge n (n - a) g′
-    ∙ fold-ext (pos 0) _+ℤ_ 4 (λ i l. ap₂ (λ (w : ℕ) (z : ℤ). pos w *ℤ (pos (n ^ 3) *ℤ z)) (weight-flip n a le i l) (h i l))
-    ∙ sum-flip (λ i. pos (weight n a i) *ℤ (pos (n ^ 3) *ℤ g i))
+    ∙ fold-ext (pos 0) _+ℤ_ 4 (λ i l. ap₂ (λ (w : ℕ) (z : ℤ). pos w *ℤ (pos (n ^ 3) *ℤ z)) (bernstein-flip n a le i l) (h i l))
+    ∙ sum-flip (λ i. pos (bernstein n a i) *ℤ (pos (n ^ 3) *ℤ g i))
     ∙ sym (numerator-edge n a g))
 
 -- ---- the size of the sum
@@ -138,14 +134,14 @@ weighted u f (suc n) K B h =
 
 -- along one direction
 pub curve-weighted : (n a : ℕ) → a ≤ n → (f : ℕ → ℤ) (K B : ℕ) → ((i : ℕ) → i < 4 → K * natAbs (f i) ≤ B)
-    → K * natAbs (sumBelowℤ (λ i. pos (weight n a i) *ℤ f i) 4) ≤ n ^ 3 * B
-curve-weighted n a le f K B h = rw (weights-sumBelow n a le) at (weighted (weight n a) f 4 K B h)
+    → K * natAbs (sumBelowℤ (λ i. pos (bernstein n a i) *ℤ f i) 4) ≤ n ^ 3 * B
+curve-weighted n a le f K B h = rw (bernstein-sumBelow n a le) at (weighted (bernstein n a) f 4 K B h)
 
 module _ (n a b : ℕ) (ha : a ≤ n) (hb : b ≤ n) where
   pub numerator-weighted : (f : ℕ → ℤ) (K B : ℕ) → ((m : ℕ) → m < 16 → K * natAbs (f m) ≤ B) → K * natAbs (numerator n a b f) ≤ n ^ 6 * B
   numerator-weighted f K B h =
       rw (numerator-rows n a b f, pow-add n 3 3, mul-assoc (n ^ 3) (n ^ 3) B)
-      (curve-weighted n a ha (λ i. sumBelowℤ (λ j. pos (weight n b j) *ℤ f (i + 4 * j)) 4) K (n ^ 3 * B)
+      (curve-weighted n a ha (λ i. sumBelowℤ (λ j. pos (bernstein n b j) *ℤ f (i + 4 * j)) 4) K (n ^ 3 * B)
       (λ i l. curve-weighted n b hb (λ j. f (i + 4 * j)) K B (λ j k. h (i + 4 * j) (omega arith))))
 
   pub numerator-bound : (g : ℕ → ℤ) (B : ℕ) → ((m : ℕ) → m < 16 → natAbs (g m) ≤ B) → natAbs (numerator n a b g) ≤ n ^ 6 * B

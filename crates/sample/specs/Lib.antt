@@ -2,4 +2,4 @@
 pub mod Bernstein
 pub mod Refusal
 pub mod Answer
-pub mod Private
+pub mod Blend

@@ -8,14 +8,14 @@ ghost use mir.Syntax.{w64};
 ghost use mir.Val.{SFits};
 ghost use Rattle.integer.specs.Nearest.{nearest};
 ghost use Rattle.finite.specs.Filled.{listBelow};
-ghost use Rattle.sample.specs.Bernstein.{weight, rounded};
+ghost use Rattle.sample.specs.Bernstein.{bernstein, rounded};
 ghost use Rattle.sample.specs.Refusal.{maxSteps};
-ghost use Rattle.sample.specs.Private.{controlOf, Small, Steps, Light, Fine, Mean, blended, blendedTwice};
+ghost use Rattle.sample.specs.Blend.{controlOf, Small, Steps, Light, Fine, Mean, blended, blendedTwice};
 
 // The weights of place a.
 fn weights(n: usize, a: usize) -> [u32; 4]
     requires { ⌜ Steps n a ⌝ }
-    ensures { λ r. ⌜ r ≡ listBelow (weight n a) 4 ⌝ }
+    ensures { λ r. ⌜ r ≡ listBelow (bernstein n a) 4 ⌝ }
 {
     let s = a as u32;
     let t = (n - a) as u32;
@@ -106,7 +106,11 @@ fn coordinate(patch: &[i32], k: usize, u: [u32; 4], v: [u32; 4], divisor: u32) -
 // The point of the patch at (a, b).
 pub(crate) fn point(patch: &[i32], n: usize, a: usize, b: usize) -> Point
     requires { ⌜ Small (now patch) × Steps n a × Steps n b ⌝ }
-    ensures { λ r. ⌜ r ≡ record { x = rounded n a b (controlOf (now (patch .entry)) 0); y = rounded n a b (controlOf (now (patch .entry)) 1); z = rounded n a b (controlOf (now (patch .entry)) 2) } ⌝ }
+    ensures { λ r. ⌜ r ≡ record {
+      x = rounded n a b (controlOf (now (patch .entry)) 0);
+      y = rounded n a b (controlOf (now (patch .entry)) 1);
+      z = rounded n a b (controlOf (now (patch .entry)) 2);
+    } ⌝ }
 {
     let u = weights(n, a);
     let v = weights(n, b);

@@ -1,19 +1,18 @@
-// The answers of the sample call and of the reading, and the limits of what they are given.
+// The limits of what the sample call and the reading are given, and their answers.
 
-// A sample, in units of 1/256 micrometre. The limits of document 01 are its constants, named here once.
+// The largest magnitude of a control value.
+pub const MAX_CONTROL: u32 = 268_435_456;
+
+// The range of document 01's N.
+pub const MIN_STEPS: usize = 1;
+
+pub const MAX_STEPS: usize = 32;
+
+// A sample, in units of 1/256 micrometre.
 pub struct Point {
     pub x: i32,
     pub y: i32,
     pub z: i32,
-}
-
-impl Point {
-    // The largest magnitude of a control value.
-    pub const MAX_CONTROL: u32 = 268_435_456;
-    // The range of document 01's N.
-    pub const MIN_STEPS: usize = 1;
-
-    pub const MAX_STEPS: usize = 32;
 }
 
 // The answer of the sample call: the sample, or the number of the refusal.

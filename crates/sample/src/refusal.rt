@@ -1,5 +1,7 @@
 // The causes that look at the control values of one patch and at the place: 13 and 14.
-use crate::model::Point;
+use crate::model::MAX_CONTROL;
+use crate::model::MAX_STEPS;
+use crate::model::MIN_STEPS;
 ghost use mathlib.Core.Path.{_≡_};
 ghost use lib.Dec.{ltb};
 ghost use lib.IntN.{pos, natAbs};
@@ -13,7 +15,7 @@ pub(crate) fn any_control_off(patch: &[i32]) -> bool
 {
     let mut off = false;
     for i in 0..patch.len() {
-        off |= integer::beyond(patch[i], Point::MAX_CONTROL);
+        off |= integer::beyond(patch[i], MAX_CONTROL);
     }
     off
 }
@@ -22,10 +24,10 @@ pub(crate) fn any_control_off(patch: &[i32]) -> bool
 pub(crate) fn place_off(n: usize, a: usize, b: usize) -> bool
     ensures { λ r. ⌜ r ≡ placeOff n a b ⌝ }
 {
-    if n < Point::MIN_STEPS {
+    if n < MIN_STEPS {
         return true;
     }
-    if Point::MAX_STEPS < n {
+    if MAX_STEPS < n {
         return true;
     }
     if n < a {

@@ -16,7 +16,7 @@ use Rattle.sample.specs.Refusal.{maxControl, minSteps, maxSteps, faceOff, contr
 use Rattle.sample.specs.Answer.{pointAt, sampleAnswer}
 use Rattle.sample.proofs.SampleLaws.{rounded-ext}
 use Rattle.sample.proofs.RefusalLaws.{place-on}
-use Rattle.patch.specs.Patch.{control, view, patchesAfter}
+use Rattle.patch.specs.Patch.{controlValue, view, patchesAfter}
 use Rattle.patch.proofs.WrittenLaws.{written-length, written-at, written-bound}
 
 -- 12
@@ -43,5 +43,5 @@ unfolding sampleAnswer
 answered {M} acc d f n a b long l on = rw (face-none M d f long l, control-none acc d f l, on)
 
 pub coordinate-written : (M : IndexedMesh) (d : List ℤ) (f n a b k : ℕ) → f < M .faces → k < 3
-    → coordinateAt (patchesAfter M d) f n a b k ≡ rounded n a b (control (view M k) (4 * f))
+    → coordinateAt (patchesAfter M d) f n a b k ≡ rounded n a b (controlValue (view M k) (4 * f))
 coordinate-written M d f n a b k l h = rounded-ext n a b (λ m r. written-at M d f m k l r h)

@@ -13,11 +13,11 @@ use Rattle.mesh.specs.Corner.{turn, next}
 use Rattle.sample.specs.Bernstein.{rounded}
 use Rattle.sample.proofs.SampleLaws.{rounded-ext, rounded-turn}
 use Rattle.patch.specs.Point.{View, Kind, point}
-use Rattle.patch.specs.Patch.{owner, kind, patchPoint, units, control}
+use Rattle.patch.specs.Patch.{owner, kind, patchPoint, units, controlValue}
 use Rattle.surface.specs.Renumbering.{Place, place, matching, onSide}
 
 abbrev pub sampleFrom : View → ℕ → ℕ → Place → ℤ
-sampleFrom S n c p = rounded n (p .a) (p .b) (control S c)
+sampleFrom S n c p = rounded n (p .a) (p .b) (controlValue S c)
 
 -- ---- places
 abbrev pub Within : ℕ → Place → Type 0
@@ -62,7 +62,7 @@ patch-turned S c m l =
 
 sample-turned : (S : View) (n c a b : ℕ) → a ≤ n → sampleFrom S n (next c) (place b (n - a)) ≡ sampleFrom S n c (place a b)
 sample-turned S n c a b h =
-    rounded-ext n b (n - a) (λ m l. ap units (patch-turned S c m l)) ∙ rounded-turn n a b (control S c) h
+    rounded-ext n b (n - a) (λ m l. ap units (patch-turned S c m l)) ∙ rounded-turn n a b (controlValue S c) h
 
 -- ---- a face begun s corners later
 pub sample-matching : (S : View) (n s c : ℕ) (p : Place) → Within n p → sampleFrom S n (turn s c) (matching n s p) ≡ sampleFrom S n c p

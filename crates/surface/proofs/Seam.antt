@@ -13,7 +13,7 @@ use Rattle.mesh.proofs.TwinLaws.{twin-ends, twin-twin}
 use Rattle.mesh.specs.Tables.{Corners}
 use Rattle.sample.proofs.SampleLaws.{rounded-edge-flip}
 use Rattle.patch.specs.Point.{View, sharp, cornerPoint, edgePoint, alongPoint, beforePoint, point}
-use Rattle.patch.specs.Patch.{owner, kind, patchPoint, units, control}
+use Rattle.patch.specs.Patch.{owner, kind, patchPoint, units, controlValue}
 use Rattle.patch.proofs.NeighbourLaws.{twin-below}
 use Rattle.surface.specs.Renumbering.{place, onSide}
 use Rattle.surface.proofs.FaceSamples.{sampleFrom, sample-side}
@@ -61,6 +61,6 @@ module _ (S : View) (k : Corners (S .shape .n)) (simple : Simple (S .shape .n) (
   seam n t h =
       sample-side S n (c % 4) t (4 * (c / 4)) h (mod-lt c (omega arith))
       ∙ ap (λ (j : ℕ). sampleFrom S n j (place t 0)) (turn-first c)
-      ∙ sym (rounded-edge-flip n t (control S c) (control S d) h (λ i b. ap units (twin-points i b)))
+      ∙ sym (rounded-edge-flip n t (controlValue S c) (controlValue S d) h (λ i b. ap units (twin-points i b)))
       ∙ ap (λ (j : ℕ). sampleFrom S n j (place (n - t) 0)) (sym (turn-first d))
       ∙ sym (sample-side S n (d % 4) (n - t) (4 * (d / 4)) (omega arith) (mod-lt d (omega arith)))

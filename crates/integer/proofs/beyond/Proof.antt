@@ -1,6 +1,5 @@
 -- `integer::beyond` meets its contract: the number keeps its value in 64 bits, and so its magnitude.
 use mathlib.Core.Path.{_≡_, ap}
-use Prim.Native.Nat.{ℕ}
 use native.Mathlib.Omega.{arith}
 use borrow.Author.Needs.{needs}
 use lib.Dec.{ltb}

@@ -1,4 +1,5 @@
--- `integer::round` meets its contract: the rounded magnitude is at most the magnitude, so with the sign of `num` it fits, and by the sign's two cases it is `nearest`.
+-- `integer::round` meets its contract: the rounded magnitude is at most the magnitude, so with the sign of `num` it fits,
+-- and by the sign's two cases it is `nearest`.
 use mathlib.Core.Path.{_≡_, _∙_, ap}
 use mathlib.Core.Bool.{true, false}
 use Prim.Native.Nat.{ℕ, _≤_}

@@ -1,4 +1,5 @@
--- `integer::round_magnitude` meets its contract: its one comparison tells the cases of `halfEven`, and its sums fit since the rest is below a 32-bit divisor and the rounded quotient at most the dividend.
+-- `integer::round_magnitude` meets its contract: its one comparison tells the cases of `halfEven`, and its sums fit
+-- since the rest is below a 32-bit divisor and the rounded quotient at most the dividend.
 use native.Mathlib.Omega.{arith}
 use native.Mathlib.Nat.{mod-lt}
 use borrow.Author.Needs.{needs}

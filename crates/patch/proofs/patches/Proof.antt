@@ -2,8 +2,8 @@
 -- counts, the mesh is well-formed, its twins are listed, and the patches are written.
 use mathlib.Core.Path.{_≡_, sym, ap, _∙_}
 use mathlib.Core.List.{List, []}
+use mathlib.Core.Option.{Option}
 use Prim.Native.Nat.{ℕ}
-use native.Mathlib.Omega.{arith}
 use lib.IntN.{ℤ}
 use borrow.Author.Needs.{needs}
 use Rattle.finite.proofs.TableLaws.{refusal-met}
@@ -35,6 +35,10 @@ module _ (c : tie.After-slice-known2) where
 
   abbrev start : tie.Start
   start = let k : tie.After-slice-known = owned .before in k .before .before .before
+
+  -- the first cause that the call meets
+  abbrev met : Option ℕ
+  met = meshRefusal (mesh start) (patchRows (mesh start) (twins start) (lent start)) []
 
   answered : checked (asked .check-after .result) ≡ patchAnswer (mesh start) (twins start) (lent start)
   answered = asked .check-after .ensures .answer-is ∙ same-answer (mesh start) (twins start) (lent start) _ (owned .own-refusal .ensures)
@@ -74,7 +78,7 @@ returns c =
     record {
       answer-is = answered k;
       twins-are = left k;
-      patches-are = rw (refusal-met (countsOf (mesh s)) (meshRefusal (mesh s) (patchRows (mesh s) (twins s) (lent s)) []) (sym (ap checked (c .enum-told .given .1)) ∙ answered k));
+      patches-are = rw (refusal-met (countsOf (mesh s)) (met k) (sym (ap checked (c .enum-told .given .1)) ∙ answered k));
     }
 
 fill-patches-requires : tie.Need-fill-patches-requires

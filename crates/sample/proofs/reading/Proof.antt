@@ -19,10 +19,16 @@ enum-known-k : tie.Need-enum-known-k
 enum-known-k c = search needs
 
 returns : tie.Need-returns
-returns c = subst (Reads (At (c .in-micrometres .result))) (sym (ap sampled (c .before .before .p .given .1)) ∙ c .before .before .before .before .sample .ensures) (c .in-micrometres .ensures)
+returns c =
+    let k = c .before .before in
+    let called : tie.After-sample = k .before .before in
+    subst (Reads (At (c .in-micrometres .result))) (sym (ap sampled (k .p .given .1)) ∙ called .sample .ensures) (c .in-micrometres .ensures)
 
 returns-2 : tie.Need-returns-2
-returns-2 c = subst (Reads (Refused (c .before .k .given .0 .0))) (sym (ap sampled (c .before .k .given .1)) ∙ c .before .before .before .sample .ensures) refl
+returns-2 c =
+    let k = c .before in
+    let called : tie.After-sample = k .before .before in
+    subst (Reads (Refused (k .k .given .0 .0))) (sym (ap sampled (k .k .given .1)) ∙ called .sample .ensures) refl
 
 pub reading-spec : {M : Type 1} → statement M
 reading-spec =

@@ -4,8 +4,8 @@ use Prim.Native.Nat.{_+_, _*_, _-_, _≤_}
 use native.Mathlib.Omega.{arith}
 use lib.ListN.{length}
 use mir.Syntax.{w32}
-use Rattle.patch.proofs.SumLaws.{read-back}
 use borrow.Author.Needs.{needs}
+use Rattle.integer.proofs.Laws.{read-back}
 use Rattle.finite.specs.Filled.{filled}
 use Rattle.finite.proofs.FilledLaws.{filled-start, filled-more, filled-all}
 use Rattle.meshfile.specs.Bytes.{le32, signed32}

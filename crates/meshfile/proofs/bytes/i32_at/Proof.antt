@@ -2,7 +2,7 @@
 use mathlib.Core.Path.{ap, _∙_}
 use mir.Syntax.{w32}
 use borrow.Author.Needs.{needs}
-use Rattle.patch.proofs.SumLaws.{read-back}
+use Rattle.integer.proofs.Laws.{read-back}
 use Rattle.meshfile.specs.Bytes.{signed32}
 use Rattle.meshfile.proofs.bytes.i32_at.Statement.{statement}
 use Rattle.meshfile.proofs.bytes.i32_at.Tie as tie

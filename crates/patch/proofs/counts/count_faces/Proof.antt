@@ -8,12 +8,12 @@ use lib.Dec.{eqb}
 use lib.ListN.{length, getD}
 use Rattle.finite.specs.Fold.{indicator, gather}
 use Rattle.finite.proofs.Gather.{Gathered, gathered-none, gathered-more}
-use Rattle.finite.proofs.Counting.{sum-monoid}
+use Rattle.finite.proofs.Counting.{sum-monoid, indicator-le}
 use Rattle.mesh.specs.Limits.{maxVertices}
 use Rattle.mesh.specs.Fan.{valence, onBoundary}
 use Rattle.mesh.specs.Tables.{vertexOf}
-use Rattle.patch.specs.Private.{boundaryIn}
-use Rattle.patch.proofs.SumLaws.{gather-ext, gather-few, indicator-few, count-none}
+use Rattle.patch.specs.Lists.{boundaryIn}
+use Rattle.patch.proofs.SumLaws.{gather-ext, gather-few, count-none}
 use Rattle.patch.proofs.FacePointLaws.{boundary-in}
 use Rattle.patch.proofs.counts.count_faces.Statement.{statement}
 use Rattle.patch.proofs.counts.count_faces.Tie as tie
@@ -65,7 +65,7 @@ module _ (w : tie.After-wide Inv-loop μ-loop) where
   leaving-small : getD (head .loop .leaving) p 0 ≤ head .loop .c
   leaving-small =
       rw (head .loop .inv .4 p named)
-      (gather-few at p (λ d. indicator (boundaryIn (start .args .twins .now) d)) (head .loop .c) (λ d. indicator-few (boundaryIn (start .args .twins .now) d)))
+      (gather-few at p (λ d. indicator (boundaryIn (start .args .twins .now) d)) (head .loop .c) (λ d. indicator-le (boundaryIn (start .args .twins .now) d)))
 
 -- the place of each call in a turn
 abbrev first : tie.After-count-at-arg2 Inv-loop μ-loop → tie.After-count-at Inv-loop μ-loop
@@ -109,7 +109,7 @@ added c = c .one-if .ensures ∙ ap indicator (c .before .is-boundary .ensures)
 count-at-requires-2 : tie.Need-count-at-requires-2 Inv-loop μ-loop
 count-at-requires-2 c κs =
     let w = placed (c .before .before) in
-    let one : c .one-if .result ≤ 1 = rw (c .one-if .ensures) (indicator-few (c .before .is-boundary .result)) in
+    let one : c .one-if .result ≤ 1 = rw (c .one-if .ensures) (indicator-le (c .before .is-boundary .result)) in
     (leaving-placed w, omega (arith, leaving-small w, few w))
 
 -- the end of a turn

@@ -9,7 +9,7 @@ use Rattle.finite.proofs.FilledLaws.{filled-start, filled-more, filled-all}
 use Rattle.mesh.specs.Limits.{maxVertices}
 use Rattle.mesh.specs.Tables.{vertexOf}
 use Rattle.patch.specs.Point.{Shape, weight}
-use Rattle.patch.specs.Private.{shapeOf}
+use Rattle.patch.specs.Lists.{shapeOf}
 use Rattle.patch.proofs.SumLaws.{valence-few}
 use Rattle.patch.proofs.TableLaws.{weight-entries}
 use Rattle.patch.proofs.counts.fill_weights.Statement.{statement}

@@ -2,7 +2,7 @@
 use mathlib.Core.Path.{_≡_, sym, _∙_}
 use borrow.Author.Needs.{needs}
 use Rattle.patch.specs.Point.{sharp, alongPoint}
-use Rattle.patch.specs.Private.{shapeOf}
+use Rattle.patch.specs.Lists.{shapeOf}
 use Rattle.patch.proofs.MaskLaws.{stored-is}
 use Rattle.patch.proofs.FacePointLaws.{sharp-in, twin-listed}
 use Rattle.patch.proofs.face_point.along_point.Statement.{statement}

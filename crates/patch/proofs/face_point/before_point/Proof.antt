@@ -7,7 +7,7 @@ use Rattle.mesh.specs.Corner.{prev}
 use Rattle.mesh.proofs.CornerLaws.{prev-below}
 use Rattle.mesh.specs.Tables.{twinOf}
 use Rattle.patch.specs.Point.{View, sharp, edgePoint, beforePoint}
-use Rattle.patch.specs.Private.{seen, shapeOf, sharpIn}
+use Rattle.patch.specs.Lists.{seen, shapeOf, sharpIn}
 use Rattle.patch.proofs.MaskLaws.{stored-is}
 use Rattle.patch.proofs.FacePointLaws.{made-is, sharp-in, twin-listed}
 use Rattle.patch.proofs.face_point.before_point.Statement.{statement}

@@ -10,7 +10,7 @@ use Rattle.finite.proofs.FilledLaws.{filled-start, filled-all, stretch-long, fi
 use Rattle.mesh.specs.Limits.{maxVertices, maxFaces}
 use Rattle.mesh.specs.IndexedMesh.{IndexedMesh, indexed}
 use Rattle.patch.specs.Patch.{patchNumber}
-use Rattle.patch.specs.Private.{Tables}
+use Rattle.patch.specs.PatchTables.{Tables}
 use Rattle.patch.proofs.SourceLaws.{source, face-listed, number-from}
 use Rattle.patch.proofs.fill.fill_patches.Statement.{statement}
 use Rattle.patch.proofs.fill.fill_patches.Tie as tie

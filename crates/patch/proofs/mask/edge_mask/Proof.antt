@@ -3,7 +3,7 @@ use Prim.Native.Nat.{_+_, _*_}
 use native.Mathlib.Omega.{arith}
 use borrow.Author.Needs.{needs}
 use Rattle.patch.specs.Mask.{edgeMask}
-use Rattle.patch.proofs.MaskLaws.{Sum, one, term, _⊞_, Coordinates, made, fits}
+use Rattle.patch.proofs.MaskLaws.{Sum, one, term, _⊞_, Ranged, made, fits}
 use Rattle.patch.proofs.mask.edge_mask.Statement.{statement}
 use Rattle.patch.proofs.mask.edge_mask.Tie as tie
 
@@ -45,7 +45,7 @@ sum₅ s = sum₄ s ⊞ one (s .args .a .across)
 abbrev sum : tie.Start → Sum
 sum s = sum₅ s ⊞ one (s .args .b .prev)
 
-coordinates : (s : tie.Start) → Coordinates (sum s)
+coordinates : (s : tie.Start) → Ranged (sum s)
 coordinates s = let a = s .pre .1 in let b = s .pre .2 in (((((a .here, a .next), a .prev), b .across), a .across), b .prev)
 
 mul-w2 : tie.Need-mul-w2

@@ -3,7 +3,7 @@ use Prim.Native.Nat.{_+_}
 use native.Mathlib.Omega.{arith}
 use borrow.Author.Needs.{needs}
 use Rattle.patch.specs.Mask.{innerMask}
-use Rattle.patch.proofs.MaskLaws.{Sum, one, term, _⊞_, Coordinates, made, fits}
+use Rattle.patch.proofs.MaskLaws.{Sum, one, term, _⊞_, Ranged, made, fits}
 use Rattle.patch.proofs.mask.inner_mask.Statement.{statement}
 use Rattle.patch.proofs.mask.inner_mask.Tie as tie
 
@@ -33,7 +33,7 @@ sum₃ s = sum₂ s ⊞ term 2 (s .args .a .prev)
 abbrev sum : tie.Start → Sum
 sum s = sum₃ s ⊞ one (s .args .a .across)
 
-coordinates : (s : tie.Start) → Coordinates (sum s)
+coordinates : (s : tie.Start) → Ranged (sum s)
 coordinates s = let a = s .pre .1 in (((a .here, a .next), a .prev), a .across)
 
 cast-t3 : tie.Need-cast-t3

@@ -6,7 +6,7 @@ use mir.Syntax.{w64}
 use mir.Val.{SFits}
 use mir.Facts.{toZ-ofZ}
 use borrow.Author.Needs.{needs}
-use Rattle.patch.proofs.SumLaws.{read-back}
+use Rattle.integer.proofs.Laws.{read-back}
 use Rattle.patch.proofs.sums.add_at.Statement.{statement}
 use Rattle.patch.proofs.sums.add_at.Tie as tie
 

@@ -8,14 +8,15 @@ use lib.IntN.{ℤ, pos, natAbs, _+ℤ_}
 use lib.ListN.{length, getD}
 use mir.Syntax.{w64}
 use mir.Val.{toZ, ofZ}
+use Rattle.integer.proofs.Laws.{read-back}
 use Rattle.finite.specs.Fold.{gather}
 use Rattle.finite.proofs.Gather.{Gathered, gathered-none, gathered-more}
 use Rattle.finite.proofs.IntegerSum.{sumℤ-monoid}
 use Rattle.mesh.specs.Limits.{maxVertices, maxCoordinate}
 use Rattle.mesh.specs.Tables.{vertexOf}
 use Rattle.patch.specs.Point.{View, ringTerm, sharpTerm, ringSum, sharpSum}
-use Rattle.patch.specs.Private.{seen}
-use Rattle.patch.proofs.SumLaws.{read-back, gather-bound}
+use Rattle.patch.specs.Lists.{seen}
+use Rattle.patch.proofs.SumLaws.{gather-bound}
 use Rattle.patch.proofs.TableLaws.{ring-term-size, sharp-term-size}
 use Rattle.patch.proofs.sums.add_sums.Statement.{statement}
 use Rattle.patch.proofs.sums.add_sums.Tie as tie

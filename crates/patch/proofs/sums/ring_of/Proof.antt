@@ -1,6 +1,6 @@
 -- `ring_of` meets its contract: it is a sum of coordinates whose weights sum to 5.
 use native.Mathlib.Omega.{arith}
-use Rattle.patch.proofs.MaskLaws.{Sum, one, term, _⊞_, Coordinates, exact-stored, fits}
+use Rattle.patch.proofs.MaskLaws.{Sum, one, term, _⊞_, Ranged, exact-stored, fits}
 use Rattle.patch.proofs.sums.ring_of.Statement.{statement}
 use Rattle.patch.proofs.sums.ring_of.Tie as tie
 
@@ -11,7 +11,7 @@ both c = term 2 (c .args .next) ⊞ term 2 (c .args .prev)
 abbrev sum : tie.Start → Sum
 sum c = both c ⊞ one (c .args .across)
 
-coordinates : (c : tie.Start) → Coordinates (sum c)
+coordinates : (c : tie.Start) → Ranged (sum c)
 coordinates c = ((c .pre .0, c .pre .1), c .pre .2)
 
 mul-result : tie.Need-mul-result

@@ -2,7 +2,7 @@
 use mathlib.Core.Path.{_∙_}
 use mir.Syntax.{w64}
 use borrow.Author.Needs.{needs}
-use Rattle.patch.proofs.SumLaws.{read-back}
+use Rattle.integer.proofs.Laws.{read-back}
 use Rattle.patch.proofs.FacePointLaws.{ring-term-seen}
 use Rattle.patch.proofs.sums.ring_term.Statement.{statement}
 use Rattle.patch.proofs.sums.ring_term.Tie as tie

@@ -8,14 +8,15 @@ use lib.ListN.{length}
 use mir.Syntax.{w64}
 use mir.Val.{toZ, ofZ}
 use borrow.Author.Needs.{needs}
+use Rattle.integer.proofs.Laws.{read-back}
 use Rattle.mesh.specs.Limits.{maxCoordinate}
 use Rattle.mesh.specs.Corner.{next, prev}
 use Rattle.mesh.specs.HalfEdge.{boundary}
 use Rattle.mesh.proofs.CornerLaws.{next-below, prev-below}
 use Rattle.patch.specs.Point.{View, x, sharp}
-use Rattle.patch.specs.Private.{seen, boundaryIn}
+use Rattle.patch.specs.Lists.{seen, boundaryIn}
 use Rattle.patch.proofs.MaskLaws.{stored-is}
-use Rattle.patch.proofs.SumLaws.{read-back, cond-size}
+use Rattle.patch.proofs.SumLaws.{cond-size}
 use Rattle.patch.proofs.FacePointLaws.{boundary-in, sharp-in}
 use Rattle.patch.proofs.sums.sharp_term.Statement.{statement}
 use Rattle.patch.proofs.sums.sharp_term.Tie as tie

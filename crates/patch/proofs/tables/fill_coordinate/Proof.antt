@@ -10,12 +10,12 @@ use lib.ListN.{length, getD, length-set}
 use mir.Syntax.{w32, w64}
 use mir.Val.{toZ, ofZ}
 use borrow.Author.Needs.{needs}
+use Rattle.integer.proofs.Laws.{read-back}
 use Rattle.mesh.specs.Limits.{maxVertices}
 use Rattle.mesh.specs.IndexedMesh.{IndexedMesh, indexed}
 use Rattle.mesh.specs.WellFormed.{WellFormed}
 use Rattle.patch.specs.Point.{View, faces, inside, sharpSum, ringSum, cornerPoint}
 use Rattle.patch.specs.Patch.{view, units}
-use Rattle.patch.proofs.SumLaws.{read-back}
 use Rattle.patch.proofs.TableLaws.{same-all, faces-seen, inside-seen, ring-seen, sharp-seen, accepted-whole, accepted-indices, accepted-coordinates}
 use Rattle.patch.proofs.TableLaws.{corner-asked, sharp-size, corner-entries, strided-more, strided-other}
 use Rattle.patch.proofs.tables.fill_coordinate.Statement.{statement}

@@ -13,7 +13,7 @@ use Rattle.mesh.specs.IndexedMesh.{IndexedMesh, indexed, corners}
 use Rattle.mesh.specs.Tables.{Holds}
 use Rattle.patch.specs.Point.{weight, cornerPoint}
 use Rattle.patch.specs.Patch.{shape, view, units}
-use Rattle.patch.specs.Private.{shapeOf}
+use Rattle.patch.specs.Lists.{shapeOf}
 use Rattle.patch.proofs.TableLaws.{same-all, weight-seen, accepted-whole, accepted-indices, strided-all}
 use Rattle.patch.proofs.tables.fill_tables.Statement.{statement}
 use Rattle.patch.proofs.tables.fill_tables.Tie as tie

@@ -5,7 +5,7 @@ use lib.IntN.{pos}
 use lib.ListN.{getD}
 use mir.Syntax.{w64}
 use borrow.Author.Needs.{needs}
-use Rattle.patch.proofs.SumLaws.{read-back}
+use Rattle.integer.proofs.Laws.{read-back}
 use Rattle.patch.proofs.values.corner_value.Statement.{statement}
 use Rattle.patch.proofs.values.corner_value.Tie as tie
 

@@ -5,13 +5,13 @@ use lib.IntN.{ℤ, natAbs}
 use lib.ListN.{length}
 use mir.Syntax.{w64}
 use borrow.Author.Needs.{needs}
+use Rattle.integer.proofs.Laws.{read-back}
 use Rattle.mesh.specs.Limits.{maxCoordinate}
 use Rattle.mesh.specs.Corner.{turn}
 use Rattle.mesh.proofs.CornerLaws.{turn-below}
 use Rattle.mesh.specs.Tables.{vertexOf}
 use Rattle.patch.specs.Point.{View, x}
-use Rattle.patch.specs.Private.{seen}
-use Rattle.patch.proofs.SumLaws.{read-back}
+use Rattle.patch.specs.Lists.{seen}
 use Rattle.patch.proofs.values.face_values.Statement.{statement}
 use Rattle.patch.proofs.values.face_values.Tie as tie
 

@@ -1,32 +1,48 @@
 -- `point_values` meets its contract: each kind of point has its own function, or its table.
+use Prim.Native.Nat.{ℕ, _<_}
+use lib.ListN.{length}
 use borrow.Author.Needs.{needs}
-use Rattle.patch.specs.Private.{pointFrom}
+use Rattle.patch.specs.Lists.{Coordinates, Twins}
+use Rattle.patch.specs.PatchTables.{Weights}
+use Rattle.patch.specs.Written.{pointFrom}
 use Rattle.patch.proofs.writer.point_values.Statement.{statement}
 use Rattle.patch.proofs.writer.point_values.Tie as tie
 
+-- ---- at the entry: what the calls for a point of a half-edge ask, and what each case of the code goes back to
+module _ (s : tie.Start) where
+  placed : ((k : ℕ) → k < 3 → Coordinates (s .args .positions .now) (s .args .faces .now) k) × (s .args .c < length (s .args .faces .now))
+  placed = (s .pre .0 .placed, s .pre .1)
+
+  listed : Weights (s .args .faces .now) (s .args .weights .now) × Twins (s .args .faces .now) (s .args .twins .now)
+  listed = (s .pre .0 .weighed, s .pre .0 .twinned)
+
+abbrev start : tie.After-shared-slice-known3 → tie.Start
+start c = c .before .before .before
+
+-- ---- the answers, in the order of the code
 enum-told : tie.Need-enum-told
 enum-told c = search needs
 
 vertex-points-requires : tie.Need-vertex-points-requires
-vertex-points-requires c κs = let s = c .before .before .before .before .before in (s .pre .1, λ k l. s .pre .0 .pointed (s .args .c) k (s .pre .1) l)
+vertex-points-requires c κs = let s = start (c .before .before) in (s .pre .1, λ k l. s .pre .0 .pointed (s .args .c) k (s .pre .1) l)
 
 enum-told-2 : tie.Need-enum-told-2
 enum-told-2 c = search needs
 
 along-points-requires : tie.Need-along-points-requires
-along-points-requires c κs = let s = c .before .before .before .before .before in ((s .pre .0 .placed, s .pre .1), (s .pre .0 .weighed, s .pre .0 .twinned))
+along-points-requires c κs = let s = start (c .before .before) in (placed s, listed s)
 
 enum-told-3 : tie.Need-enum-told-3
 enum-told-3 c = search needs
 
 before-points-requires : tie.Need-before-points-requires
-before-points-requires c κs = let s = c .before .before .before .before .before in ((s .pre .0 .placed, s .pre .1), (s .pre .0 .weighed, s .pre .0 .twinned))
+before-points-requires c κs = let s = start (c .before .before) in (placed s, listed s)
 
 enum-told-4 : tie.Need-enum-told-4
 enum-told-4 c = search needs
 
 inner-points-requires : tie.Need-inner-points-requires
-inner-points-requires c κs = let s = c .before .before .before .before .before in ((s .pre .0 .placed, s .pre .1), s .pre .0 .weighed)
+inner-points-requires c κs = let s = start (c .before .before) in (placed s, listed s .0)
 
 returns : tie.Need-returns
 unfolding pointFrom

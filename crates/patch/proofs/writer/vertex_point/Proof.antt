@@ -5,7 +5,7 @@ use lib.IntN.{pos}
 use lib.ListN.{getD}
 use mir.Syntax.{w32}
 use borrow.Author.Needs.{needs}
-use Rattle.patch.proofs.SumLaws.{read-back}
+use Rattle.integer.proofs.Laws.{read-back}
 use Rattle.patch.proofs.writer.vertex_point.Statement.{statement}
 use Rattle.patch.proofs.writer.vertex_point.Tie as tie
 

@@ -1,7 +1,7 @@
 -- `vertex_points` meets its contract: each coordinate of the corner point is looked up by its own call.
 use native.Mathlib.Omega.{arith}
 use mir.Syntax.{w32}
-use Rattle.patch.proofs.SumLaws.{read-back}
+use Rattle.integer.proofs.Laws.{read-back}
 use Rattle.patch.proofs.FacePointLaws.{list-of-three}
 use Rattle.patch.proofs.writer.vertex_points.Statement.{statement}
 use Rattle.patch.proofs.writer.vertex_points.Tie as tie

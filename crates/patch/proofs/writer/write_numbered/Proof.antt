@@ -6,11 +6,19 @@ use borrow.Author.Needs.{needs}
 use Rattle.finite.proofs.FilledLaws.{filled-ext}
 use Rattle.patch.specs.Point.{inner}
 use Rattle.patch.specs.Patch.{owner, kind}
-use Rattle.patch.specs.Private.{kindOf}
+use Rattle.patch.specs.Written.{kindOf}
 use Rattle.patch.proofs.FacePointLaws.{owner-listed, number-point, owner-below, table-at}
 use Rattle.patch.proofs.writer.write_numbered.Statement.{statement}
 use Rattle.patch.proofs.writer.write_numbered.Tie as tie
 
+-- ---- the way back from the table's entry and from the call
+abbrev start : tie.After-kind → tie.Start
+start c = c .before .before .before .before
+
+abbrev called : tie.After-write-point → tie.After-turned
+called c = c .before .before
+
+-- ---- the answers, in the order of the code
 array-copy-out-kind : tie.Need-array-copy-out-kind
 array-copy-out-kind c = omega arith
 
@@ -19,18 +27,18 @@ array-read-turned c = omega arith
 
 cast-turned : tie.Need-cast-turned
 unfolding owner
-cast-turned c = omega (arith, owner-below (c .before .before .before .before .args .m) (omega arith))
+cast-turned c = omega (arith, owner-below (start c .args .m) (omega arith))
 
 mul-turned : tie.Need-mul-turned
 mul-turned c = omega arith
 
 turned-requires : tie.Need-turned-requires
 unfolding owner
-turned-requires c κs = owner-below (c .before .before .before .before .args .m) (omega arith)
+turned-requires c κs = owner-below (start c .args .m) (omega arith)
 
 write-point-requires : tie.Need-write-point-requires
 write-point-requires c κs =
-    let s = c .before .before .before .before .before .before in
+    let s = start (c .before .before) in
     (s .pre .0, owner-listed (s .pre .0) (s .args .g) _ _ (s .pre .1) (c .before .turned .ensures), s .pre .3)
 
 same-length : tie.Need-same-length
@@ -40,10 +48,12 @@ same-length c = search needs
 returns : tie.Need-returns
 unfolding owner kind
 returns c =
-    let s = c .before .before .before .before .before .before .before .before in
+    let t = called (c .before) in
+    let s = start (t .before) in
     let l : s .args .m < 16 = s .pre .2 in
-    (rw (c .before .before .before .turned .ensures, table-at kindOf inner) at (c .before .write-point .ensures))
-    ∙ sym (filled-ext 3 (s .args .point .now) (λ k b. number-point (s .args .positions .now) (s .args .faces .now) (s .args .points .now) (s .args .g) (s .args .m) k b))
+    (rw (t .turned .ensures, table-at kindOf inner) at (c .before .write-point .ensures))
+    ∙ sym (filled-ext 3 (s .args .point .now)
+    (number-point (s .args .positions .now) (s .args .faces .now) (s .args .points .now) (s .args .g) (s .args .m)))
 
 pub write-numbered-spec : {M : Type 1} → statement M
 write-numbered-spec =

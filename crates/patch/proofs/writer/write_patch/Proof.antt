@@ -1,12 +1,12 @@
 -- `write_patch` meets its contract: each point fills the next three places, and the places behind the sixteenth hold what they held.
 use mathlib.Core.Path.{_≡_, refl}
-use Prim.Native.Nat.{_+_, _*_, _-_, _≤_}
-use native.Mathlib.Numerals.{add-one-le, add-one-dec}
+use Prim.Native.Nat.{ℕ, _+_, _*_, _-_, _≤_}
 use native.Mathlib.Omega.{arith}
+use lib.IntN.{ℤ}
 use lib.ListN.{length}
 use Rattle.finite.specs.Filled.{filled}
 use Rattle.finite.proofs.FilledLaws.{filled-start, filled-all, stretch-long, filled-stretch}
-use Rattle.patch.specs.Private.{numberFrom}
+use Rattle.patch.specs.Written.{numberFrom}
 use Rattle.patch.proofs.writer.write_patch.Statement.{statement}
 use Rattle.patch.proofs.writer.write_patch.Tie as tie
 
@@ -17,6 +17,21 @@ Inv-loop positions faces twins weights points g patch₀ m₀ patch m =
 abbrev μ-loop : tie.MeasureT-loop
 μ-loop positions faces twins weights points g patch₀ m₀ patch m = 16 - m
 
+-- ---- in the loop: the entry, the number that belongs at place i, and the part of the list that is lent is long enough
+module _ (c : tie.In-loop Inv-loop μ-loop) where
+  abbrev head : tie.At-loop Inv-loop μ-loop
+  head = c .before
+
+  abbrev start : tie.Start Inv-loop μ-loop
+  start = let k = head .before in k .before .before .before
+
+  abbrev number : ℕ → ℤ
+  number = numberFrom (start .args .positions .now) (start .args .faces .now) (start .args .points .now) (start .args .g)
+
+  room : 3 * head .loop .m + 3 ≤ length (start .args .patch .now)
+  room = omega (arith, start .pre .2, c .loop-test .taken)
+
+-- ---- the answers, in the order of the code
 loop-holds : tie.Need-loop-holds Inv-loop μ-loop
 loop-holds c = (omega arith, refl, filled-start _ _)
 
@@ -37,24 +52,26 @@ part-write-numbered-end c = omega arith
 
 write-numbered-requires : tie.Need-write-numbered-requires Inv-loop μ-loop
 write-numbered-requires c κs =
-    let l = c .before .before in
-    let s = l .before .before .before .before in
-    (s .pre .0, s .pre .1, c .before .loop-test .taken, stretch-long (3 * l .loop .m) 3 (l .loop .patch) (omega (arith, s .pre .2, l .loop .inv .1, c .before .loop-test .taken)))
+    let i : tie.In-loop Inv-loop μ-loop = c .before in
+    let s = start i in
+    let l = head i .loop in
+    (s .pre .0, s .pre .1, omega (arith, i .loop-test .taken), stretch-long (3 * l .m) 3 (l .patch) (omega (arith, room i, l .inv .1)))
 
 add-m : tie.Need-add-m Inv-loop μ-loop
 add-m c = omega arith
 
 loop-less : tie.Need-loop-less Inv-loop μ-loop
-loop-less c = add-one-dec _ _ (c .before .before .before .loop-test .taken)
+loop-less c = omega (arith, c .before .before .before .loop-test .taken)
 
 loop-again : tie.Need-loop-again Inv-loop μ-loop
 loop-again c =
-    let l = c .before .before .before .before in
-    let s = l .before .before .before .before in
-    let below = c .before .before .before .loop-test .taken in
-    let w = filled-stretch (numberFrom (s .args .positions .now) (s .args .faces .now) (s .args .points .now) (s .args .g)) _ (3 * l .loop .m) 3 (3 * (l .loop .m + 1)) (s .args .patch .now)
-    (l .loop .patch) _ (omega arith) (omega (arith, s .pre .2, below)) (λ j h. refl) (l .loop .inv .2) (c .before .write-numbered .ensures) in
-    (add-one-le below, w .0, w .1)
+    let i : tie.In-loop Inv-loop μ-loop = c .before .before .before in
+    let s = start i in
+    let l = head i .loop in
+    let w =
+    filled-stretch (number i) _ (3 * l .m) 3 (3 * (l .m + 1)) (s .args .patch .now) (l .patch) _
+    (omega arith) (omega (arith, room i)) (λ j h. refl) (l .inv .2) (c .before .write-numbered .ensures) in
+    (omega (arith, i .loop-test .taken), w .0, w .1)
 
 same-length : tie.Need-same-length Inv-loop μ-loop
 same-length c = c .before .loop .inv .1

@@ -6,9 +6,9 @@ use lib.IntN.{ℤ, pos}
 use lib.ListN.{getD, length-set}
 use mir.Syntax.{w32}
 use borrow.Author.Needs.{needs}
+use Rattle.integer.proofs.Laws.{read-back}
 use Rattle.finite.proofs.FilledLaws.{listBelow-at}
-use Rattle.patch.specs.Private.{kindOf, pointFrom}
-use Rattle.patch.proofs.SumLaws.{read-back}
+use Rattle.patch.specs.Written.{kindOf, pointFrom}
 use Rattle.patch.proofs.FacePointLaws.{filled-three}
 use Rattle.patch.proofs.writer.write_point.Statement.{statement}
 use Rattle.patch.proofs.writer.write_point.Tie as tie

@@ -3,8 +3,9 @@ use mathlib.Core.Path.{sym, ap, _∙_}
 use native.Mathlib.Nat.{add-zero}
 use native.Mathlib.Omega.{arith}
 use mir.Syntax.{w64}
-use Rattle.sample.specs.Private.{controlOf}
-use Rattle.sample.proofs.BlendLaws.{list-of-four, read-back}
+use Rattle.integer.proofs.Laws.{read-back}
+use Rattle.sample.specs.Blend.{controlOf}
+use Rattle.sample.proofs.BlendLaws.{list-of-four}
 use Rattle.sample.proofs.bernstein.column.Statement.{statement}
 use Rattle.sample.proofs.bernstein.column.Tie as tie
 

@@ -4,8 +4,9 @@ use lib.IntN.{ℤ}
 use mir.Syntax.{w32, w64}
 use mir.Val.{toZ, ofZ}
 use Rattle.integer.specs.Nearest.{nearest}
-use Rattle.sample.specs.Private.{controlOf, Fine, Mean, blendedTwice}
-use Rattle.sample.proofs.BlendLaws.{read-back, blended-list, curve-fine}
+use Rattle.integer.proofs.Laws.{read-back}
+use Rattle.sample.specs.Blend.{controlOf, Fine, Mean, blendedTwice}
+use Rattle.sample.proofs.BlendLaws.{blended-list, curve-fine}
 use Rattle.sample.proofs.bernstein.coordinate.Statement.{statement}
 use Rattle.sample.proofs.bernstein.coordinate.Tie as tie
 

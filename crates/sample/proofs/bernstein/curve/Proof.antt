@@ -1,43 +1,56 @@
 -- `curve` meets its contract: the four columns are small, so that they can be blended, and the four sums are the curve.
-use mathlib.Core.Path.{sym, subst}
+use mathlib.Core.Path.{_≡_, sym, subst}
+use mathlib.Core.List.{List}
+use Prim.Native.Nat.{ℕ, _+_, _*_, _<_}
 use native.Mathlib.Omega.{arith}
+use lib.IntN.{ℤ}
 use mir.Syntax.{w64}
-use Rattle.sample.specs.Private.{Fine}
-use Rattle.sample.proofs.BlendLaws.{list-of-four, read-back, blended-list, column-fine}
+use Rattle.integer.proofs.Laws.{read-back}
+use Rattle.finite.specs.Filled.{listBelow}
+use Rattle.sample.specs.Blend.{controlOf, Light, Fine}
+use Rattle.sample.proofs.BlendLaws.{list-of-four, blended-list, column-fine}
 use Rattle.sample.proofs.bernstein.curve.Statement.{statement}
 use Rattle.sample.proofs.bernstein.curve.Tie as tie
 
+-- ---- at the entry: what the blend of column i asks
+asked : (s : tie.Start) (i : ℕ) → i < 4 → {values : List ℤ} → values ≡ listBelow (λ j. controlOf (s .args .patch .now) (s .args .k) (i + 4 * j)) 4
+    → Light (s .args .v) × Fine values
+asked s i l e = (s .pre .2, subst Fine (sym e) (column-fine (s .pre .0) (s .args .k) (s .pre .1) i l))
+
+-- ---- the way back from each blend
+abbrev start : tie.After-blend → tie.Start
+start c = c .before .before
+
+abbrev start-2 : tie.After-blend2 → tie.Start
+start-2 c = start (c .before .before)
+
+abbrev start-3 : tie.After-blend3 → tie.Start
+start-3 c = start-2 (c .before .before)
+
+-- ---- the answers, in the order of the code
 column-requires : tie.Need-column-requires
 column-requires c κs = omega arith
 
 blend-requires : tie.Need-blend-requires
-blend-requires c κs =
-    let s = c .before in
-    (s .pre .2, subst Fine (sym (c .column .ensures)) (column-fine (s .pre .0) (s .args .k) (s .pre .1) 0 (omega arith)))
+blend-requires c κs = asked (c .before) 0 (omega arith) (c .column .ensures)
 
 column-requires-2 : tie.Need-column-requires-2
 column-requires-2 c κs = omega arith
 
 blend-requires-2 : tie.Need-blend-requires-2
-blend-requires-2 c κs =
-    let s = c .before .before .before in
-    (s .pre .2, subst Fine (sym (c .column2 .ensures)) (column-fine (s .pre .0) (s .args .k) (s .pre .1) 1 (omega arith)))
+blend-requires-2 c κs = asked (start (c .before)) 1 (omega arith) (c .column2 .ensures)
 
 column-requires-3 : tie.Need-column-requires-3
 column-requires-3 c κs = omega arith
 
 blend-requires-3 : tie.Need-blend-requires-3
-blend-requires-3 c κs =
-    let s = c .before .before .before .before .before in
-    (s .pre .2, subst Fine (sym (c .column3 .ensures)) (column-fine (s .pre .0) (s .args .k) (s .pre .1) 2 (omega arith)))
+blend-requires-3 c κs = asked (start-2 (c .before)) 2 (omega arith) (c .column3 .ensures)
 
 column-requires-4 : tie.Need-column-requires-4
 column-requires-4 c κs = omega arith
 
 blend-requires-4 : tie.Need-blend-requires-4
-blend-requires-4 c κs =
-    let s = c .before .before .before .before .before .before .before in
-    (s .pre .2, subst Fine (sym (c .column4 .ensures)) (column-fine (s .pre .0) (s .args .k) (s .pre .1) 3 (omega arith)))
+blend-requires-4 c κs = asked (start-3 (c .before)) 3 (omega arith) (c .column4 .ensures)
 
 returns : tie.Need-returns
 returns c =

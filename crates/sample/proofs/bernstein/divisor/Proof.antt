@@ -3,7 +3,7 @@ use Prim.Native.Nat.{_*_, _≤_}
 use native.Mathlib.Nat.{mul-le-mul}
 use native.Mathlib.Omega.{arith}
 use lib.Pow.{pow-add}
-use Rattle.sample.proofs.WeightLaws.{pow-3}
+use Rattle.sample.proofs.BernsteinLaws.{pow-3}
 use Rattle.sample.proofs.bernstein.divisor.Statement.{statement}
 use Rattle.sample.proofs.bernstein.divisor.Tie as tie
 

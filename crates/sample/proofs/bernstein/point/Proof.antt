@@ -8,9 +8,10 @@ use lib.Signed.{mag}
 use mir.Syntax.{w32}
 use mir.Val.{toZ, ofZ}
 use Rattle.integer.specs.Nearest.{nearest}
+use Rattle.integer.proofs.Laws.{read-back}
 use Rattle.sample.specs.Bernstein.{rounded}
-use Rattle.sample.specs.Private.{controlOf, Small, Light, Mean, blendedTwice}
-use Rattle.sample.proofs.BlendLaws.{read-back, weights-light, sample-mean, blended-mean, rounded-blended}
+use Rattle.sample.specs.Blend.{controlOf, Small, Light, Mean, blendedTwice}
+use Rattle.sample.proofs.BlendLaws.{weights-light, sample-mean, blended-mean, rounded-blended}
 use Rattle.sample.proofs.bernstein.point.Statement.{statement}
 use Rattle.sample.proofs.bernstein.point.Tie as tie
 
@@ -49,7 +50,8 @@ module _ (c : tie.After-divisor) where
   asked : (k : ℕ) → k < 3 → (Small (start .args .patch .now) × (k < 3) × Light u × Light v) × Mean (sum k) (c .divisor .result)
   asked k l = (
     (start .pre .0, l, u-light, v-light),
-    blended-mean _ _ _ _ (c .before .before .weights .ensures) (c .before .weights2 .ensures) (c .divisor .ensures) (sample-mean (start .pre .0) k l (start .pre .1) (start .pre .2)),
+    blended-mean _ _ _ _ (c .before .before .weights .ensures) (c .before .weights2 .ensures) (c .divisor .ensures)
+        (sample-mean (start .pre .0) k l (start .pre .1) (start .pre .2)),
   )
 
   told : (k : ℕ) {r : ℤ} → mag r < 2 ^ 31 → r ≡ nearest (sum k) (c .divisor .result) → toZ w32 (ofZ w32 r) ≡ sampled k

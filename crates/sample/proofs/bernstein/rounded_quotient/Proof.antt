@@ -6,10 +6,9 @@ use mir.Syntax.{w32, w64}
 use mir.Val.{SFits, toZ, ofZ}
 use mir.Facts.{toZ-ofZ}
 use Rattle.integer.specs.Nearest.{nearest}
-use Rattle.integer.proofs.Laws.{sfits-abs}
+use Rattle.integer.proofs.Laws.{sfits-abs, read-back}
 use Rattle.integer.proofs.NearestLaws.{nearest-bounded}
 use Rattle.sample.specs.Refusal.{maxControl}
-use Rattle.sample.proofs.BlendLaws.{read-back}
 use Rattle.sample.proofs.bernstein.rounded_quotient.Statement.{statement}
 use Rattle.sample.proofs.bernstein.rounded_quotient.Tie as tie
 

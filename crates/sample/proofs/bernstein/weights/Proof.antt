@@ -4,7 +4,7 @@ use Prim.Native.Nat.{_-_, _≤_}
 use native.Mathlib.Nat.{mul-le-mul}
 use native.Mathlib.Omega.{arith}
 use Rattle.finite.specs.Filled.{listBelow}
-use Rattle.sample.specs.Bernstein.{weight}
+use Rattle.sample.specs.Bernstein.{bernstein}
 use Rattle.sample.proofs.bernstein.weights.Statement.{statement}
 use Rattle.sample.proofs.bernstein.weights.Tie as tie
 
@@ -56,7 +56,7 @@ mul-t15 : tie.Need-mul-t15
 mul-t15 c = omega (arith, mul-le-mul (mul-le-mul (s-≤ c) (s-≤ c)) (s-≤ c))
 
 returns : tie.Need-returns
-unfolding listBelow weight
+unfolding listBelow bernstein
 returns c = refl
 
 pub weights-spec : {M : Type 1} → statement M

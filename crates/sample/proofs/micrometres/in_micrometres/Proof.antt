@@ -15,9 +15,10 @@ over-256-requires-3 c κs = tt
 
 returns : tie.Need-returns
 returns c =
-    let p = c .before .before .before .before .before .before .args .p in
+    let first : tie.After-over-256 = c .before .before .before .before in
+    let p = first .before .before .args .p in
     let fits = c .before .struct-told3 .given in (
-      simp (toZ-ofZ {w = w32} {z = p .x} (record { sfits = fits .0 .1 })) at (c .before .before .before .before .over-256 .ensures),
+      simp (toZ-ofZ {w = w32} {z = p .x} (record { sfits = fits .0 .1 })) at (first .over-256 .ensures),
       simp (toZ-ofZ {w = w32} {z = p .y} (record { sfits = fits .1 .0 .1 })) at (c .before .before .over-2562 .ensures),
       simp (toZ-ofZ {w = w32} {z = p .z} (record { sfits = fits .1 .1 .0 .1 })) at (c .over-2563 .ensures),
     )

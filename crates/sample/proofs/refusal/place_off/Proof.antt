@@ -19,13 +19,17 @@ returns-3 : tie.Need-returns-3
 unfolding placeOff
 returns-3 c =
     let s = c .before .before .before .args in
-    or-no _ _ _ (le-ltb (s .n) minSteps (omega arith)) (or-no _ _ _ (le-ltb maxSteps (s .n) (omega arith)) (or-yes _ _ (lt-ltb (s .n) (s .a) (omega arith))))
+    or-no _ _ _ (le-ltb (s .n) minSteps (omega arith))
+    (or-no _ _ _ (le-ltb maxSteps (s .n) (omega arith))
+    (or-yes _ _ (lt-ltb (s .n) (s .a) (omega arith))))
 
 returns-4 : tie.Need-returns-4
 unfolding placeOff
 returns-4 c =
     let s = c .before .before .before .args in
-    or-no _ _ _ (le-ltb (s .n) minSteps (omega arith)) (or-no _ _ _ (le-ltb maxSteps (s .n) (omega arith)) (or-no _ _ _ (le-ltb (s .n) (s .a) (omega arith)) refl))
+    or-no _ _ _ (le-ltb (s .n) minSteps (omega arith))
+    (or-no _ _ _ (le-ltb maxSteps (s .n) (omega arith))
+    (or-no _ _ _ (le-ltb (s .n) (s .a) (omega arith)) refl))
 
 pub place-off-spec : {M : Type 1} → statement M
 place-off-spec = tie.close (tie.spec returns returns-2 returns-3 returns-4)

@@ -1,0 +1,39 @@
+-- What the writer of the patches reads, and the numbers that it writes.
+--
+--   Source ..          all that a patch is written from: the lists of the mesh, its twins, and the tables of weights and corner points
+--   kindOf q           the kind of point, for each case of the code's enum `Kind`
+--   pointFrom .. k c q   coordinate k of the point of kind q at corner c, in units: a corner point is looked up in the table `points`
+--   numberFrom .. g i  number i of the 48 of face g, likewise
+use mathlib.Core.List.{List}
+use Prim.Native.Nat.{ℕ, _+_, _*_, _/_, _%_, _<_}
+use lib.IntN.{ℤ, pos}
+use lib.ListN.{length, getD}
+use Rattle.mesh.specs.Corner.{turn}
+use Rattle.mesh.specs.Tables.{vertexOf}
+use Rattle.patch.specs.Point.{Kind, corner, along, before, inner, innerPoint, alongPoint, beforePoint}
+use Rattle.patch.specs.Patch.{owner, kind, units}
+use Rattle.patch.specs.Lists.{seen, Coordinates, Twins}
+use Rattle.patch.specs.PatchTables.{Weights}
+use Rattle.patch.specs.declared.writer.Kind as enum
+use Rattle.patch.specs.declared.writer.Kind.the-variants.{Corner, Along, Before, Inner}
+
+pub record Source (positions : List ℤ) (faces twins weights : List ℕ) (points : List ℤ) : Type 0 where
+  pub placed : (k : ℕ) → k < 3 → Coordinates positions faces k
+  pub weighed : Weights faces weights
+  pub twinned : Twins faces twins
+  pub pointed : (c k : ℕ) → c < length faces → k < 3 → 3 * vertexOf faces c + k < length points
+
+abbrev pub kindOf : enum.Kind → Kind
+kindOf Corner = corner
+kindOf Along = along
+kindOf Before = before
+kindOf Inner = inner
+
+unfoldable pub pointFrom : List ℤ → List ℕ → List ℤ → ℕ → ℕ → Kind → ℤ
+pointFrom positions faces points k c corner = getD points (3 * vertexOf faces c + k) (pos 0)
+pointFrom positions faces points k c along = units (alongPoint (seen positions faces k) c)
+pointFrom positions faces points k c before = units (beforePoint (seen positions faces k) c)
+pointFrom positions faces points k c inner = units (innerPoint (seen positions faces k) c)
+
+unfoldable pub numberFrom : List ℤ → List ℕ → List ℤ → ℕ → ℕ → ℤ
+numberFrom positions faces points g i = pointFrom positions faces points (i % 3) (turn (owner (i / 3)) (4 * g)) (kind (i / 3))
