@@ -80,13 +80,13 @@ module _ (M : IndexedMesh) where
   twice-none h = any-none _ (corners M) (λ c l. any-none _ 3 (λ i b. ne-eqb (at M (turn (suc i) c)) (at M c) (h c i l b)))
 
   -- ---- 7: a half-edge twice
-  pub half-edge-false : halfEdgeTwice M ≡ false → Simple (corners M) (at M)
+  pub half-edge-false : halfEdgeTwice M ≡ false → Simple (at M) (corners M)
   unfolding halfEdgeTwice
-  half-edge-false e = doubled-simple (corners M) (at M) e
+  half-edge-false e = doubled-simple (at M) (corners M) e
 
-  pub half-edge-none : Simple (corners M) (at M) → halfEdgeTwice M ≡ false
+  pub half-edge-none : Simple (at M) (corners M) → halfEdgeTwice M ≡ false
   unfolding halfEdgeTwice
-  half-edge-none h = simple-doubled (corners M) (at M) h
+  half-edge-none h = simple-doubled (at M) (corners M) h
 
 module _ (at : ℕ → ℕ) (n v : ℕ) where
   -- ---- 8: a vertex in no face

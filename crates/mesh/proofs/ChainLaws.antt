@@ -180,7 +180,7 @@ module _ (at : ℕ → ℕ) (n c : ℕ) (u : ℕ) (e : u ≡ latest (runs at (at
   unfolding twin isTwin
   twin-none z = sym (ap (λ (o : Option ℕ). Option·getD o noTwin) (least-miss (isTwin at c) n (λ k l. latest-past (isTwin at c) n k (rw (← e, z) zero-le) l)))
 
-  pub twin-found : Simple n at → (u ≡ 0 → ⊥) → u - 1 ≡ twin at n c
+  pub twin-found : Simple at n → (u ≡ 0 → ⊥) → u - 1 ≡ twin at n c
   twin-found h z = go u e z
     where
       go : (w : ℕ) → w ≡ latest (runs at (at (next c)) (at c)) n → (w ≡ 0 → ⊥) → w - 1 ≡ twin at n c

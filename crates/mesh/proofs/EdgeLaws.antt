@@ -63,9 +63,9 @@ leads at n p q c = lead (twin at n) c && joins at p q c
 
 -- a half-edge with two ends is not its own twin
 pub twin-other : {n : ℕ} (at : ℕ → ℕ) → Corners n → ((c : ℕ) → c < n → at (next c) ≡ at c → ⊥) → (c : ℕ) → c < n → twin at n c ≡ c → ⊥
-twin-other {n} at k ends c l e = ⊎-elim (λ w. ends c l (sym (w .1) ∙ ap at e)) (λ w. not-none k c l (sym e ∙ w .0)) (twin-cases n at c)
+twin-other {n} at k ends c l e = ⊎-elim (λ w. ends c l (sym (w .1) ∙ ap at e)) (λ w. not-none k c l (sym e ∙ w .0)) (twin-cases at n c)
 
-module _ {n : ℕ} (at : ℕ → ℕ) (k : Corners n) (simple : Simple n at) (ends : (c : ℕ) → c < n → at (next c) ≡ at c → ⊥) (p q : ℕ) where
+module _ {n : ℕ} (at : ℕ → ℕ) (k : Corners n) (simple : Simple at n) (ends : (c : ℕ) → c < n → at (next c) ≡ at c → ⊥) (p q : ℕ) where
   -- no two of the half-edges that join p and q come first
   leads-one : (c d : ℕ) → c < n → d < n → leads at n p q c ≡ true → leads at n p q d ≡ true → c ≡ d
   leads-one c d lc ld e f =
@@ -92,7 +92,7 @@ module _ {n : ℕ} (at : ℕ → ℕ) (k : Corners n) (simple : Simple n at) (en
       let back = ⊎-elim (λ u. joins-back at p q d (cc) (cc)) (λ u. joins-on at p q d (cc) (cc)) (joins-cases at p q c e) in
       (d, w .0, rw (first, back)))
       (λ w. absurd (omega arith))
-      (twin-cases n at c))
+      (twin-cases at n c))
 
   -- so one comes first where p and q are joined, and none where they are not
   edge-leads : indicator (anyBelow (joins at p q) n) ≡ countBelow (leads at n p q) n
@@ -146,7 +146,7 @@ either-before c d other =
 abbrev flip : (ℕ → ℕ) → ℕ → ℕ
 flip tw c = cond (eqb (tw c) noTwin) c (tw c)
 
-module _ {n : ℕ} {tw : ℕ → ℕ} (k : Corners n) (p : Paired n tw) where
+module _ {n : ℕ} {tw : ℕ → ℕ} (k : Corners n) (p : Paired tw n) where
   flip-cases : (c : ℕ) → c < n → (flip tw c ≡ c) ⊎ ((tw c < n) × (tw (tw c) ≡ c) × (flip tw c ≡ tw c))
   flip-cases c l =
       ⊎-elim
@@ -201,7 +201,7 @@ unfolding boundaries boundary
 boundaries-are at n = refl
 
 -- ---- edges
-module _ {n v : ℕ} (at : ℕ → ℕ) (k : Corners n) (simple : Simple n at) (named : (c : ℕ) → c < n → at c < v)
+module _ {n v : ℕ} (at : ℕ → ℕ) (k : Corners n) (simple : Simple at n) (named : (c : ℕ) → c < n → at c < v)
     (ends : (c : ℕ) → c < n → at (next c) ≡ at c → ⊥) where
   -- E is the number of half-edges that come before their twins
   pub edges-lead : edges at n v ≡ countBelow (λ c. ltb c (twin at n c)) n

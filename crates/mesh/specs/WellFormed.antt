@@ -27,7 +27,7 @@ pub record WellFormed (M : IndexedMesh) : Type 0 where
   pub tags-known : (p : ℕ) → p < M .vertices → tag M p ≤ cornerTag
   pub named : (c : ℕ) → c < corners M → at M c < M .vertices
   pub distinct : (c i : ℕ) → c < corners M → i < 3 → at M (turn (suc i) c) ≡ at M c → ⊥
-  pub simple : Simple (corners M) (at M)
+  pub simple : Simple (at M) (corners M)
   pub used : (p : ℕ) → p < M .vertices → 0 < valence (at M) (corners M) p
   pub fans : (p : ℕ) → p < M .vertices → fan (at M) (corners M) p ≡ true
   pub inner-low : (p : ℕ) → p < M .vertices → onBoundary (at M) (corners M) p ≡ false → minValence ≤ valence (at M) (corners M) p
