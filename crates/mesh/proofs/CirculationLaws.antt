@@ -133,10 +133,6 @@ module _ {n : ℕ} {s b : ℕ → ℕ} (g : Turning s b n) where
   pub step-injective : (c d : ℕ) → c < n → d < n → s c ≡ s d → s c < n → c ≡ d
   step-injective c d a q e h = sym (g .back c a h) ∙ ap b e ∙ g .back d q (rw e at h)
 
-pub around-injective : {n : ℕ} {tw : ℕ → ℕ} → Corners n → Paired tw n
-    → (c d : ℕ) → c < n → d < n → around tw n c ≡ around tw n d → around tw n c < n → c ≡ d
-around-injective k p = step-injective (turning k p)
-
 -- ---- twins that are the same for each corner
 module _ {n : ℕ} (k : Corners n) {tw tw′ : ℕ → ℕ} (same : (c : ℕ) → c < n → tw c ≡ tw′ c) where
   pub around-ext : around tw n ≡ around tw′ n

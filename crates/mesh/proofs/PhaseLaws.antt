@@ -1,9 +1,9 @@
 -- From the phases of the check to its answer: the first cause met, what the tables say of a cause, and what passed phases give.
-use mathlib.Core.Path.{_≡_, refl, sym, ap, ap₂, _∙_}
+use mathlib.Core.Path.{_≡_, sym, ap, ap₂, _∙_}
 use mathlib.Core.Bool.{Bool, false, not, cond, _&&_, _||_}
 use mathlib.Core.List.{List, [], _++_}
 use mathlib.Core.Option.{Option, none, some}
-use Prim.Native.Nat.{_≤_, _+_, ℕ, zero, suc, _*_, _<_}
+use Prim.Native.Nat.{ℕ, _+_, _*_, _≤_, _<_}
 use native.Mathlib.Nat.{lt-of-lt-of-le}
 use native.Mathlib.Omega.{arith}
 use lib.Dec.{eqb, ltb}
@@ -12,16 +12,16 @@ use borrow.Author.Tests.{eq-eqb, ne-eqb}
 use Rattle.finite.specs.Fold.{anyBelow, countBelow, indicator}
 use Rattle.finite.specs.Filled.{filled}
 use Rattle.finite.proofs.FoldLaws.{bool-cases, fold-ext}
-use Rattle.finite.specs.Table.{Row, firstMet, Answer, result, refusal, answerBy, refusalOf}
+use Rattle.finite.specs.Table.{Row, firstMet, result, refusal, answerBy, refusalOf}
 use Rattle.finite.proofs.TableLaws.{refusal-some, met-here, skipped, none-met, orElse, orElse-assoc, first-append, some-append, none-append, append-none}
 use Rattle.mesh.specs.Limits.{maxVertices, noTwin, cornerTag}
 use Rattle.mesh.specs.Corner.{next}
 use Rattle.mesh.specs.HalfEdge.{twin, edges, boundaries}
 use Rattle.mesh.specs.IndexedMesh.{IndexedMesh, corners, at}
 use Rattle.mesh.specs.Refusal.{meshSizesOff, coordinateOff, tagOff, vertexOff, vertexTwice, halfEdgeTwice, valenceBad, entryRows, earlyRows, lateRows}
-use Rattle.mesh.specs.WellFormed.{Sized}
+use Rattle.mesh.specs.WellFormed.{MeshSized}
 use Rattle.mesh.specs.Answer.{countsOf, meshRefusal, meshAnswer, twinsAfter}
-use Rattle.mesh.proofs.SizeLaws.{sizes-false, indices-corners}
+use Rattle.mesh.proofs.SizeLaws.{sizes-false, sized-indices, indices-corners}
 use Rattle.mesh.proofs.EdgeLaws.{edges-lead, edges-twice}
 use Rattle.mesh.proofs.AcceptedLaws.{vertex-false, twice-false, half-edge-false}
 use Rattle.mesh.specs.Tables.{Holds, vertexOf, twinOf, Indices, Counted}
@@ -31,11 +31,14 @@ module _ (v : ℕ) (few : v ≤ maxVertices) (valences : List ℕ) (m : ℕ → 
   pub unused-table : anyBelow (λ p. eqb (getD valences p 0) 0) v ≡ anyBelow (λ p. eqb (m p) 0) v
   unused-table = fold-ext false _||_ v (λ p l. ap (λ (x : ℕ). eqb x 0) (h p (lt-of-lt-of-le l few)))
 
-  pub valence-table : (boundary : List Bool) (b : ℕ → Bool) → Holds false boundary maxVertices b → anyBelow (λ p. valenceBad (getD boundary p false) (getD valences p 0)) v ≡ anyBelow (λ p. valenceBad (b p) (m p)) v
+  pub valence-table : (boundary : List Bool) (b : ℕ → Bool) → Holds false boundary maxVertices b
+      → anyBelow (λ p. valenceBad (getD boundary p false) (getD valences p 0)) v ≡ anyBelow (λ p. valenceBad (b p) (m p)) v
   valence-table boundary b k = fold-ext false _||_ v (λ p l. ap₂ valenceBad (k p (lt-of-lt-of-le l few)) (h p (lt-of-lt-of-le l few)))
 
-pub tagged-table : (v : ℕ) → v ≤ maxVertices → (tags : List ℕ) (boundary : List Bool) (b : ℕ → Bool) → Holds false boundary maxVertices b → anyBelow (λ p. eqb (getD tags p 0) cornerTag && not (getD boundary p false)) v ≡ anyBelow (λ p. eqb (getD tags p 0) cornerTag && not (b p)) v
-tagged-table v few tags boundary b k = fold-ext false _||_ v (λ p l. ap (λ (t : Bool). eqb (getD tags p 0) cornerTag && not t) (k p (lt-of-lt-of-le l few)))
+pub tagged-table : (v : ℕ) → v ≤ maxVertices → (tags : List ℕ) (boundary : List Bool) (b : ℕ → Bool) → Holds false boundary maxVertices b
+    → anyBelow (λ p. eqb (getD tags p 0) cornerTag && not (getD boundary p false)) v ≡ anyBelow (λ p. eqb (getD tags p 0) cornerTag && not (b p)) v
+tagged-table v few tags boundary b k =
+    fold-ext false _||_ v (λ p l. ap (λ (t : Bool). eqb (getD tags p 0) cornerTag && not t) (k p (lt-of-lt-of-le l few)))
 
 -- ---- the counts from the list of twins
 module _ {faces twins : List ℕ} {v f : ℕ} (k : Counted faces twins v f) where
@@ -50,15 +53,11 @@ module _ {faces twins : List ℕ} {v f : ℕ} (k : Counted faces twins v f) wher
 
 -- ---- what the early phases give where they meet no cause
 pub record Passed (M : IndexedMesh) : Type 0 where
-  pub sized : Sized (M .vertices) (M .faces) (length (M .positions)) (length (M .tags)) (length (M .indices))
+  pub sized : MeshSized M
   pub indices : Indices (M .indices) (corners M)
   pub named : (c : ℕ) → c < corners M → at M c < M .vertices
   pub simple : (c d : ℕ) → c < corners M → d < corners M → at M c ≡ at M d → at M (next c) ≡ at M (next d) → c ≡ d
   pub ends : (c : ℕ) → c < corners M → at M (next c) ≡ at M c → ⊥
-
--- the face list is one of whole faces
-pub sized-indices : (M : IndexedMesh) → Sized (M .vertices) (M .faces) (length (M .positions)) (length (M .tags)) (length (M .indices)) → ((c : ℕ) → c < corners M → at M c < M .vertices) → Indices (M .indices) (corners M)
-sized-indices M s named = record { whole = omega arith; few = omega arith; listed = omega arith; named = λ c l. lt-of-lt-of-le (named c l) (s .vertices-high) }
 
 pub early-passed : (M : IndexedMesh) (own : List Row) → firstMet (earlyRows M own) ≡ none → (firstMet own ≡ none) × Passed M
 early-passed M own e =
@@ -127,16 +126,21 @@ module _ (M : IndexedMesh) (own own' : List Row) where
   early-alike alike =
       bool-cases (meshSizesOff M)
       (λ e. met-here 1 _ e ∙ sym (met-here 1 _ e))
-      (λ e. skipped 1 _ e ∙ first-append own (entryRows M) ∙ ap (λ (m : Option ℕ). orElse m (firstMet (entryRows M))) (alike e) ∙ sym (skipped 1 _ e ∙ first-append own' (entryRows M)))
+      (λ e.
+      skipped 1 _ e ∙ first-append own (entryRows M)
+      ∙ ap (λ (m : Option ℕ). orElse m (firstMet (entryRows M))) (alike e)
+      ∙ sym (skipped 1 _ e ∙ first-append own' (entryRows M)))
 
-  pub refusal-alike : (meshSizesOff M ≡ false → firstMet own ≡ firstMet own') → (after : List Row) → meshRefusal M own after ≡ meshRefusal M own' after
+  pub refusal-alike : (meshSizesOff M ≡ false → firstMet own ≡ firstMet own') → (after : List Row)
+      → meshRefusal M own after ≡ meshRefusal M own' after
   unfolding meshRefusal
   refusal-alike alike after =
       first-append (earlyRows M own) (lateRows M ++ after)
       ∙ ap (λ (m : Option ℕ). orElse m (firstMet (lateRows M ++ after))) (early-alike alike)
       ∙ sym (first-append (earlyRows M own') (lateRows M ++ after))
 
-  pub twins-alike : (meshSizesOff M ≡ false → firstMet own ≡ firstMet own') → (after : List Row) (d : List ℕ) → twinsAfter M own after d ≡ twinsAfter M own' after d
+  pub twins-alike : (meshSizesOff M ≡ false → firstMet own ≡ firstMet own') → (after : List Row) (d : List ℕ)
+      → twinsAfter M own after d ≡ twinsAfter M own' after d
   unfolding twinsAfter
   twins-alike alike after d = rw (early-alike alike)
 

@@ -163,7 +163,12 @@ pub(crate) fn late_refusal(
 // The record of an accepted mesh: its counts. Each edge has two half-edges, or one on the boundary: 4F + B = 2E.
 pub(crate) fn accepted(v: usize, f: usize, faces: &[u16], twins: &[u16]) -> Mesh
     requires { ⌜ Counted (now faces) (now twins) v f ⌝ }
-    ensures { λ r. ⌜ r ≡ record { vertices = v; faces = f; edges = edges (vertexOf (now (faces .entry))) (4 * f) v; boundary = boundaries (vertexOf (now (faces .entry))) (4 * f) } ⌝ }
+    ensures { λ r. ⌜ r ≡ record {
+      vertices = v;
+      faces = f;
+      edges = edges (vertexOf (now (faces .entry))) (4 * f) v;
+      boundary = boundaries (vertexOf (now (faces .entry))) (4 * f);
+    } ⌝ }
 {
     let n = 4 * f;
     let edges = count_edges(twins, n);

@@ -3,7 +3,6 @@ use mathlib.Core.Path.{_≡_, _∙_}
 use mathlib.Core.Bool.{Bool, false, cond}
 use mathlib.Core.List.{List}
 use Prim.Native.Nat.{ℕ, _+_, _*_, _≤_, _<_}
-use native.Mathlib.Nat.{lt-of-lt-of-le}
 use native.Mathlib.Omega.{arith}
 use lib.Dec.{eqb}
 use lib.IntN.{ℤ, pos, natAbs}
@@ -20,6 +19,7 @@ use Rattle.mesh.specs.IndexedMesh.{IndexedMesh, corners, at, tag}
 use Rattle.mesh.specs.WellFormed.{WellFormed}
 use Rattle.mesh.proofs.CornerLaws.{turn-below}
 use Rattle.mesh.proofs.BoundaryLaws.{boundary-vertex}
+use Rattle.mesh.proofs.SizeLaws.{sized-indices}
 use Rattle.mesh.proofs.AcceptedLaws.{accepted-corners}
 use Rattle.mesh.specs.Tables.{Corners, Holds, Indices}
 use Rattle.patch.specs.Point.{Shape, View, x, ringTerm, sharpTerm, faces, inside, weight, sharp, sharpSum, ringSum, fixed, cornerPoint}
@@ -78,12 +78,7 @@ module _ {M : IndexedMesh} (a : WellFormed M) where
   accepted-whole = a .sized .indices-are
 
   pub accepted-indices : Indices (M .indices) (length (M .indices))
-  accepted-indices = record {
-    whole = omega (arith, accepted-whole);
-    few = omega (arith, a .sized .faces-high, accepted-whole);
-    listed = omega arith;
-    named = λ c l. lt-of-lt-of-le (a .named c (rw accepted-whole at l)) (a .sized .vertices-high);
-  }
+  accepted-indices = rw accepted-whole (sized-indices M (a .sized) (a .named))
 
   -- how many faces a vertex has
   faces-range : (p : ℕ) → p < M .vertices → (0 < faces (shape M) p) × (faces (shape M) p ≤ maxValence)

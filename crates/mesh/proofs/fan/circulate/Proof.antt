@@ -2,7 +2,8 @@
 use Prim.Native.Nat.{_-_}
 use native.Mathlib.Omega.{arith}
 use borrow.Author.Needs.{needs}
-use Rattle.mesh.proofs.WalkLaws.{Onward, Backward, onward-start, onward-in, onward-more, onward-less, onward-end, backward-start, backward-in, backward-more, backward-less, backward-end}
+use Rattle.mesh.proofs.WalkLaws.{Onward, onward-start, onward-in, onward-more, onward-less, onward-end}
+use Rattle.mesh.proofs.WalkLaws.{Backward, backward-start, backward-in, backward-more, backward-less, backward-end}
 use Rattle.mesh.proofs.fan.circulate.Statement.{statement}
 use Rattle.mesh.proofs.fan.circulate.Tie as tie
 use Rattle.mesh.specs.Tables.{twinOf}

@@ -7,7 +7,7 @@ use native.Mathlib.Nat.{suc-ne-zero}
 use native.Mathlib.Omega.{arith}
 use lib.ListN.{getD-replicate}
 use borrow.Author.Needs.{needs}
-use Rattle.finite.specs.Table.{row}
+use Rattle.finite.specs.Table.{Row, row}
 use Rattle.finite.proofs.TableLaws.{From, all-rows, row-met, row-passed}
 use Rattle.mesh.specs.Limits.{maxVertices}
 use Rattle.mesh.specs.Refusal.{vertexUnused, fanBroken, valenceOff, fanRows}
@@ -24,6 +24,16 @@ module _ (s : tie.Start) where
 
   abbrev n : ℕ
   n = 4 * s .args .f
+
+  -- the rows of the corners at each vertex, all of them and from each on
+  abbrev rows : List Row
+  rows = fanRows vertex n (s .args .v)
+
+  abbrev from-10 : List Row
+  from-10 = row (valenceOff vertex n (s .args .v)) 10 ∷ []
+
+  abbrev from-9 : List Row
+  from-9 = row (fanBroken vertex n (s .args .v)) 9 ∷ from-10
 
 abbrev entry : tie.After-slice-known → tie.Start
 entry c = c .before .before .before .before
@@ -53,8 +63,8 @@ module _ (c : tie.Else1) where
   used : vertexUnused (vertex start₈) (n start₈) (start₈ .args .v) ≡ false
   used = sym (unused (c .before)) ∙ c .if1 .left
 
-  after-8 : From (fanRows (vertex start₈) (n start₈) (start₈ .args .v)) (row (fanBroken (vertex start₈) (n start₈) (start₈ .args .v)) 9 ∷ (row (valenceOff (vertex start₈) (n start₈) (start₈ .args .v)) 10 ∷ []))
-  after-8 = row-passed (all-rows (fanRows (vertex start₈) (n start₈) (start₈ .args .v))) used
+  after-8 : From (rows start₈) (from-9 start₈)
+  after-8 = row-passed (all-rows (rows start₈)) used
 
 -- ---- past 9: the corners at each vertex form one turn or one chain
 module _ (c : tie.Else2) where
@@ -64,7 +74,7 @@ module _ (c : tie.Else2) where
   abbrev start₉ : tie.Start
   start₉ = start₈ passed-8
 
-  after-9 : From (fanRows (vertex start₉) (n start₉) (start₉ .args .v)) (row (valenceOff (vertex start₉) (n start₉) (start₉ .args .v)) 10 ∷ [])
+  after-9 : From (rows start₉) (from-10 start₉)
   unfolding fanBroken
   after-9 = row-passed (after-8 passed-8) (sym (c .before .any-fan-broken .ensures) ∙ c .if2 .left)
 
@@ -83,8 +93,9 @@ module _ (c : tie.After-any-valence-off) where
   unfolding valenceOff
   valence =
       let k = counted (passed-8 (passed-9 marks) .before) in
+      let b = marks .mark-boundary in
       c .any-valence-off .ensures
-      ∙ valence-table _ (start₁₀ .pre .0 .2) (valences k) _ (k .count-corners .ensures) (marks .mark-boundary .last .1 .1 .1 .0) _ (marks .mark-boundary .ensures)
+      ∙ valence-table _ (start₁₀ .pre .0 .2) (valences k) _ (k .count-corners .ensures) (b .last .1 .1 .1 .0) _ (b .ensures)
 
 -- ---- the answers, in the order of the code
 mul-n : tie.Need-mul-n
@@ -105,7 +116,7 @@ any-unused-requires c κs = let s = start (c .before .before) in omega arith
 returns : tie.Need-returns
 returns c =
     let s = start (counted (c .before)) in
-    record { first = row-met (all-rows (fanRows (vertex s) (n s) (s .args .v))) (sym (unused (c .before)) ∙ c .if1 .taken); marked = λ e. absurd (suc-ne-zero _ e) }
+    record { first = row-met (all-rows (rows s)) (sym (unused (c .before)) ∙ c .if1 .taken); marked = λ e. absurd (suc-ne-zero _ e) }
 
 slice-aggregate-any-fan-broken : tie.Need-slice-aggregate-any-fan-broken
 slice-aggregate-any-fan-broken c = search needs
@@ -115,7 +126,8 @@ any-fan-broken-requires c κs =
     let e₁ = c .before in
     let s = start₈ e₁ in
     let p = s .pre in
-    (p .0, ((p .1 .0 .0, omega arith, p .1 .0 .1), (p .1 .1 .0, (counted (e₁ .before) .count-corners .ensures, (p .1 .1 .1 .0, unused-false (vertex s) (n s) (s .args .v) (used e₁))))))
+    let some = unused-false (vertex s) (n s) (s .args .v) (used e₁) in
+    (p .0, ((p .1 .0 .0, omega arith, p .1 .0 .1), (p .1 .1 .0, (counted (e₁ .before) .count-corners .ensures, (p .1 .1 .1 .0, some)))))
 
 returns-2 : tie.Need-returns-2
 unfolding fanBroken
