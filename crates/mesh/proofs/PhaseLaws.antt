@@ -7,23 +7,23 @@ use Prim.Native.Nat.{ℕ, _+_, _*_, _≤_, _<_}
 use native.Mathlib.Nat.{lt-of-lt-of-le}
 use native.Mathlib.Omega.{arith}
 use lib.Dec.{eqb, ltb}
-use lib.ListN.{length, getD}
+use lib.ListN.{getD}
 use borrow.Author.Tests.{eq-eqb, ne-eqb}
 use Rattle.finite.specs.Fold.{anyBelow, countBelow, indicator}
 use Rattle.finite.specs.Filled.{filled}
 use Rattle.finite.proofs.FoldLaws.{bool-cases, fold-ext}
 use Rattle.finite.specs.Table.{Row, firstMet, result, refusal, answerBy, refusalOf}
-use Rattle.finite.proofs.TableLaws.{refusal-some, met-here, skipped, none-met, orElse, orElse-assoc, first-append, some-append, none-append, append-none}
+use Rattle.finite.proofs.TableLaws.{refusal-some, met-here, skipped, orElse, orElse-assoc, first-append, some-append, none-append}
 use Rattle.mesh.specs.Limits.{maxVertices, noTwin, cornerTag}
 use Rattle.mesh.specs.Corner.{next}
-use Rattle.mesh.specs.HalfEdge.{twin, edges, boundaries}
+use Rattle.mesh.specs.HalfEdge.{twin, edges, boundaries, Simple}
 use Rattle.mesh.specs.IndexedMesh.{IndexedMesh, corners, at}
-use Rattle.mesh.specs.Refusal.{meshSizesOff, coordinateOff, tagOff, vertexOff, vertexTwice, halfEdgeTwice, valenceBad, entryRows, earlyRows, lateRows}
+use Rattle.mesh.specs.Refusal.{meshSizesOff, valenceBad, entryRows, earlyRows, lateRows}
 use Rattle.mesh.specs.WellFormed.{MeshSized}
 use Rattle.mesh.specs.Answer.{countsOf, meshRefusal, meshAnswer, twinsAfter}
-use Rattle.mesh.proofs.SizeLaws.{sizes-false, sized-indices, indices-corners}
+use Rattle.mesh.proofs.SizeLaws.{mesh-sizes-false, sized-indices, indices-corners}
 use Rattle.mesh.proofs.EdgeLaws.{edges-lead, edges-twice}
-use Rattle.mesh.proofs.AcceptedLaws.{vertex-false, twice-false, half-edge-false}
+use Rattle.mesh.proofs.AcceptedLaws.{early-unmet, vertex-false, twice-false, half-edge-false}
 use Rattle.mesh.specs.Tables.{Holds, vertexOf, twinOf, Indices, Counted}
 
 -- ---- what a table by vertex says of a cause, of the first v vertices
@@ -56,26 +56,21 @@ pub record Passed (M : IndexedMesh) : Type 0 where
   pub sized : MeshSized M
   pub indices : Indices (M .indices) (corners M)
   pub named : (c : ℕ) → c < corners M → at M c < M .vertices
-  pub simple : (c d : ℕ) → c < corners M → d < corners M → at M c ≡ at M d → at M (next c) ≡ at M (next d) → c ≡ d
+  pub simple : Simple (at M) (corners M)
   pub ends : (c : ℕ) → c < corners M → at M (next c) ≡ at M c → ⊥
 
 pub early-passed : (M : IndexedMesh) (own : List Row) → firstMet (earlyRows M own) ≡ none → (firstMet own ≡ none) × Passed M
 early-passed M own e =
-    let h₁ = none-met (meshSizesOff M) 1 _ e in
-    let h₂ = append-none own (entryRows M) (h₁ .1) in
-    let h₃ = none-met (coordinateOff M) 3 _ (h₂ .1) in
-    let h₄ = none-met (tagOff M) 4 _ (h₃ .1) in
-    let h₅ = none-met (vertexOff M) 5 _ (h₄ .1) in
-    let h₆ = none-met (vertexTwice M) 6 _ (h₅ .1) in
-    let h₇ = none-met (halfEdgeTwice M) 7 _ (h₆ .1) in
-    let s = sizes-false (M .vertices) (M .faces) (length (M .positions)) (length (M .tags)) (length (M .indices)) (h₁ .0) in (
-      h₂ .0,
+    let u = early-unmet M own e in
+    let s = mesh-sizes-false M (u .sizes) in
+    let named = vertex-false M (u .vertex) in (
+      u .rows,
       record {
         sized = s;
-        indices = sized-indices M s (vertex-false M (h₅ .0));
-        named = vertex-false M (h₅ .0);
-        simple = half-edge-false M (h₇ .0);
-        ends = λ c l. twice-false M (h₆ .0) c 0 l (omega arith);
+        indices = sized-indices M s named;
+        named = named;
+        simple = half-edge-false M (u .half-edge);
+        ends = λ c l. twice-false M (u .twice) c 0 l (omega arith);
       },
     )
 

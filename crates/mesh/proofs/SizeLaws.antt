@@ -12,7 +12,7 @@ use Rattle.finite.specs.Fold.{foldBelow, anyBelow}
 use Rattle.finite.proofs.AnyAll.{or-false}
 use Rattle.mesh.specs.Limits.{minVertices, maxVertices, minFaces, maxFaces}
 use Rattle.mesh.specs.IndexedMesh.{IndexedMesh, corners, at}
-use Rattle.mesh.specs.Refusal.{off, sizesOff}
+use Rattle.mesh.specs.Refusal.{off, sizesOff, meshSizesOff}
 use Rattle.mesh.specs.WellFormed.{Sized, MeshSized}
 use Rattle.mesh.specs.Answer.{faceCorners}
 use Rattle.mesh.specs.Tables.{Corners, Indices}
@@ -38,6 +38,9 @@ sizes-false v f positions tags indices e =
       tags-are = eqb-true tags v (not-false (eqb tags v) (h₄ .0));
       indices-are = eqb-true indices (4 * f) (not-false (eqb indices (4 * f)) (h₄ .1));
     }
+
+pub mesh-sizes-false : (M : IndexedMesh) → meshSizesOff M ≡ false → MeshSized M
+mesh-sizes-false M e = sizes-false (M .vertices) (M .faces) (length (M .positions)) (length (M .tags)) (length (M .indices)) e
 
 -- the corners of a face list are whole faces
 pub indices-corners : {faces : List ℕ} {n : ℕ} → Indices faces n → Corners n

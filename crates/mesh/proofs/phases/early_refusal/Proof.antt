@@ -6,7 +6,7 @@ use Rattle.finite.specs.Table.{refusalOf}
 use Rattle.finite.proofs.TableLaws.{met-here, skipped, some-append, none-append, refusal-some}
 use Rattle.mesh.specs.IndexedMesh.{IndexedMesh, indexed}
 use Rattle.mesh.specs.Refusal.{meshSizesOff, entryRows}
-use Rattle.mesh.proofs.SizeLaws.{sizes-false}
+use Rattle.mesh.proofs.SizeLaws.{mesh-sizes-false}
 use Rattle.mesh.proofs.phases.early_refusal.Statement.{statement}
 use Rattle.mesh.proofs.phases.early_refusal.Tie as tie
 
@@ -55,7 +55,7 @@ returns-2 c =
 entry-refusal-requires : tie.Need-entry-refusal-requires
 entry-refusal-requires c κs =
     let e₁ = unmet c .before in
-    (sizes-false _ _ _ _ _ (sizes e₁), start e₁ .pre)
+    (mesh-sizes-false (mesh (start e₁)) (sizes e₁), start e₁ .pre)
 
 same-length : tie.Need-same-length
 same-length c = entries c .entry-refusal .kept .1 .1 .1 .1 .1 .0
