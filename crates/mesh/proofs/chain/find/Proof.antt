@@ -13,7 +13,7 @@ use Rattle.mesh.proofs.SizeLaws.{indices-corners}
 use Rattle.mesh.proofs.CornerLaws.{next-below}
 use Rattle.mesh.proofs.chain.find.Statement.{statement}
 use Rattle.mesh.proofs.chain.find.Tie as tie
-use Rattle.mesh.specs.Tables.{vertexOf, latest}
+use Rattle.mesh.specs.Tables.{Holds, vertexOf, latest}
 
 abbrev Inv-loop : tie.InvT-loop
 Inv-loop faces n link c p start q u₀ u = Walked (vertexOf faces) p q c u
@@ -21,10 +21,13 @@ Inv-loop faces n link c p start q u₀ u = Walked (vertexOf faces) p q c u
 abbrev μ-loop : tie.MeasureT-loop
 μ-loop faces n link c p start q u₀ u = u
 
--- ---- at the entry: the vertices of the corners
+-- ---- at the entry: the vertices of the corners, and what the links hold below c
 module _ (s : tie.Start Inv-loop μ-loop) where
   abbrev vertex : ℕ → ℕ
   vertex = vertexOf (s .args .faces .now)
+
+  links-are : Holds 0 (s .args .link .now) (s .args .c) (λ e. latest (λ d. eqb (vertex d) (vertex e)) e)
+  links-are = s .pre .1 .1
 
 abbrev entry : tie.At-loop Inv-loop μ-loop → tie.Start Inv-loop μ-loop
 entry c = c .before .before .before
@@ -55,7 +58,7 @@ module _ (c : tie.After-wide Inv-loop μ-loop) where
   same-vertex d = eqb (vertex start d) (vertex start e)
 
   link-is : getD (start .args .link .now) e 0 ≡ latest same-vertex e
-  link-is = start .pre .1 .1 e e-below
+  link-is = links-are start e e-below
 
 -- ---- the corner after e is read: its vertex is where half-edge e ends
 module _ (c : tie.After-shared-slice-known3 Inv-loop μ-loop) where

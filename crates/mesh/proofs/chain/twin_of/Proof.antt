@@ -13,7 +13,7 @@ use Rattle.mesh.proofs.SizeLaws.{indices-corners}
 use Rattle.mesh.proofs.CornerLaws.{next-below}
 use Rattle.mesh.proofs.chain.twin_of.Statement.{statement}
 use Rattle.mesh.proofs.chain.twin_of.Tie as tie
-use Rattle.mesh.specs.Tables.{vertexOf, latest, Indices}
+use Rattle.mesh.specs.Tables.{vertexOf, latest, Chained, Indices}
 
 -- ---- at the entry: the half-edge c, by its two vertices, and those that run the other way
 module _ (s : tie.Start) where
@@ -31,6 +31,9 @@ module _ (s : tie.Start) where
 
   abbrev indices : Indices (s .args .faces .now) (s .args .n)
   indices = s .pre .0 .0
+
+  chains : Chained vertex (s .args .n) (s .args .head .now) (s .args .link .now)
+  chains = s .pre .1 .0
 
   end-named : end < maxVertices
   end-named = indices .named (next (s .args .c)) (next-below (indices-corners indices) (s .args .c) (s .pre .0 .1))
@@ -94,8 +97,7 @@ find-requires : tie.Need-find-requires
 find-requires c κs =
     let w = c .before .before in
     let s = start w in
-    let chains = s .pre .1 .0 in
-    ((indices s, le-refl (s .args .n), s .pre .0 .3), (chains .heads (w .wide .result) (p-named w), chains .links))
+    ((indices s, le-refl (s .args .n), s .pre .0 .3), (chains s .heads (w .wide .result) (p-named w), chains s .links))
 
 returns : tie.Need-returns
 returns c = twin-none _ _ _ _ (u-is (c .before)) (c .if1 .taken)

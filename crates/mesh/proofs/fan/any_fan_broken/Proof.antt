@@ -5,14 +5,17 @@ use mathlib.Core.Bool.{Bool, false, not}
 use Prim.Native.Nat.{ℕ, _-_, _<_, _≤_}
 use native.Mathlib.Numerals.{add-one-le, add-one-dec}
 use native.Mathlib.Omega.{arith}
+use lib.Dec.{eqb}
 use borrow.Author.Needs.{needs}
 use Rattle.finite.specs.Fold.{anyBelow}
 use Rattle.finite.proofs.AnyAll.{any-start, any-more, any-found, any-not}
-use Rattle.mesh.specs.Fan.{fan}
+use Rattle.mesh.specs.Limits.{maxVertices}
+use Rattle.mesh.specs.HalfEdge.{twin}
+use Rattle.mesh.specs.Fan.{valence, fan}
 use Rattle.mesh.proofs.ChainLaws.{latest-corner}
 use Rattle.mesh.proofs.fan.any_fan_broken.Statement.{statement}
 use Rattle.mesh.proofs.fan.any_fan_broken.Tie as tie
-use Rattle.mesh.specs.Tables.{vertexOf}
+use Rattle.mesh.specs.Tables.{Holds, vertexOf, latest}
 
 abbrev Inv-loop : tie.InvT-loop
 Inv-loop faces n v twins valences head p₀ p = (p ≤ v) × (anyBelow (λ q. not (fan (vertexOf faces) n q)) p ≡ false)
@@ -20,10 +23,22 @@ Inv-loop faces n v twins valences head p₀ p = (p ≤ v) × (anyBelow (λ q. no
 abbrev μ-loop : tie.MeasureT-loop
 μ-loop faces n v twins valences head p₀ p = v - p
 
--- ---- at the entry: the vertices of the corners, and whether the corners at p are no fan
+-- ---- at the entry: the vertices of the corners, what the lists hold, and whether the corners at p are no fan
 module _ (s : tie.Start Inv-loop μ-loop) where
   abbrev vertex : ℕ → ℕ
   vertex = vertexOf (s .args .faces .now)
+
+  twins-are : Holds 0 (s .args .twins .now) (s .args .n) (twin vertex (s .args .n))
+  twins-are = s .pre .1 .1 .0
+
+  valences-are : Holds 0 (s .args .valences .now) maxVertices (valence vertex (s .args .n))
+  valences-are = s .pre .1 .1 .1 .0
+
+  heads-are : Holds 0 (s .args .head .now) maxVertices (λ p. latest (λ d. eqb (vertex d) p) (s .args .n))
+  heads-are = s .pre .1 .1 .1 .1 .0
+
+  used : (p : ℕ) → p < s .args .v → 0 < valence vertex (s .args .n) p
+  used = s .pre .1 .1 .1 .1 .1
 
   abbrev broken : ℕ → Bool
   broken p = not (fan vertex (s .args .n) p)
@@ -47,9 +62,8 @@ module _ (c : tie.After-wide Inv-loop μ-loop) where
 
   corner-is : (0 < c .wide .result) × (corner < start .args .n) × (vertex start corner ≡ p)
   corner-is =
-      let tables = start .pre .1 .1 .1 .1 in
       latest-corner (vertex start) (start .args .n) p (c .wide .result)
-      (c .wide .ensures ∙ tables .0 p (omega arith)) (tables .1 p (passing .loop-test .taken))
+      (c .wide .ensures ∙ heads-are start p (omega arith)) (used start p (passing .loop-test .taken))
 
 -- ---- the corners at p are circulated
 module _ (c : tie.After-fan-broken Inv-loop μ-loop) where
@@ -77,8 +91,9 @@ sub-start c = let h = corner-is c .0 in omega arith
 
 fan-broken-requires : tie.Need-fan-broken-requires Inv-loop μ-loop
 fan-broken-requires c κs =
-    let p = start c .pre in
-    ((p .0 .0, p .0 .1, corner-is c .1), ((p .1 .0 .0, p .1 .0 .1), (p .1 .1 .0, p .1 .1 .1 .0)))
+    let s = start c in
+    let long = s .pre .1 .0 in
+    ((s .pre .0 .0, s .pre .0 .1, corner-is c .1), ((long .0, long .1), (twins-are s, valences-are s)))
 
 returns : tie.Need-returns Inv-loop μ-loop
 returns c = let f = c .before in any-found _ _ _ _ (passing (read f) .loop-test .taken) (told f) (c .if1 .taken)

@@ -6,13 +6,14 @@ use native.Mathlib.Omega.{arith}
 use lib.Dec.{eqb}
 use lib.ListN.{getD}
 use Rattle.mesh.specs.Limits.{maxVertices}
+use Rattle.mesh.specs.HalfEdge.{twin, Simple}
 use Rattle.mesh.proofs.FanLaws.{table-fan}
 use Rattle.mesh.proofs.TwinLaws.{twin-paired, paired-ext}
 use Rattle.mesh.proofs.SizeLaws.{indices-corners}
 use Rattle.mesh.proofs.fan.fan_broken.Statement.{statement}
 use Rattle.mesh.proofs.fan.fan_broken.Tie as tie
 use Rattle.mesh.specs.Fan.{valence}
-use Rattle.mesh.specs.Tables.{Corners, vertexOf, twinOf}
+use Rattle.mesh.specs.Tables.{Corners, Holds, vertexOf, twinOf}
 
 -- ---- at the entry: the vertices of the corners, their twins as listed, and the vertex to tell of
 module _ (s : tie.Start) where
@@ -27,6 +28,15 @@ module _ (s : tie.Start) where
 
   corners : Corners (s .args .n)
   corners = indices-corners (s .pre .0 .0)
+
+  simple : Simple vertex (s .args .n)
+  simple = s .pre .0 .1
+
+  twins-are : Holds 0 (s .args .twins .now) (s .args .n) (twin vertex (s .args .n))
+  twins-are = s .pre .1 .1 .0
+
+  valences-are : Holds 0 (s .args .valences .now) maxVertices (valence vertex (s .args .n))
+  valences-are = s .pre .1 .1 .1
 
   own-named : own < maxVertices
   own-named = s .pre .0 .0 .named (s .args .start) (s .pre .0 .2)
@@ -54,7 +64,7 @@ module _ (c : tie.After-wide2) where
   valence-is =
       c .wide2 .ensures
       ∙ ap (λ (p : ℕ). getD (start .args .valences .now) p 0) (circulated .before .wide .ensures)
-      ∙ start .pre .1 .1 .1 (own start) (own-named start)
+      ∙ valences-are start (own start) (own-named start)
 
 -- ---- the answers, in the order of the code
 mul-wide : tie.Need-mul-wide
@@ -69,8 +79,7 @@ wide-requires c κs = tt
 circulate-requires : tie.Need-circulate-requires
 circulate-requires c κs =
     let s = begun c in
-    let p = s .pre in
-    (p .1 .0 .0, p .0 .2, corners s, paired-ext (twins s) (p .1 .1 .0) (twin-paired _ (corners s) (p .0 .1)))
+    (s .pre .1 .0 .0, s .pre .0 .2, corners s, paired-ext (twins s) (twins-are s) (twin-paired _ (corners s) (simple s)))
 
 mul-wide-2 : tie.Need-mul-wide-2
 mul-wide-2 c = let h = p-named (c .before) in omega arith
@@ -87,7 +96,7 @@ returns c =
     let s = start c in
     ap not
     (ap (eqb (k .result)) (valence-is c)
-    ∙ sym (table-fan (vertex s) (corners s) (s .pre .0 .1) (twins s) (s .pre .1 .1 .0) (s .args .start) (k .result) (k .ensures)))
+    ∙ sym (table-fan (vertex s) (corners s) (simple s) (twins s) (twins-are s) (s .args .start) (k .result) (k .ensures)))
 
 pub fan-broken-spec : {M : Type 1} → statement M
 fan-broken-spec =

@@ -74,8 +74,11 @@ slice-aggregate-fan-refusal c = search needs
 
 fan-refusal-requires : tie.Need-fan-refusal-requires
 fan-refusal-requires c κs =
-    let p = entry c .pre in
-    ((p .0 .0, p .0 .1, p .0 .2), ((p .1 .0 .0, p .1 .0 .1, omega arith), (p .1 .1 .0, (p .1 .1 .1, λ q l. getD-replicate maxVertices q false false l))))
+    let s = entry c in
+    let mesh-is = s .pre .0 in
+    let long = s .pre .1 .0 in
+    let tables = s .pre .1 .1 in
+    ((mesh-is .0, mesh-is .1, mesh-is .2), ((long .0, long .1, omega arith), (tables .0, (tables .1, λ p l. getD-replicate maxVertices p false false l))))
 
 returns : tie.Need-returns
 returns c positions =

@@ -11,12 +11,12 @@ use borrow.Author.Needs.{needs}
 use Rattle.finite.proofs.Gather.{Gathered, gathered-none, gathered-more}
 use Rattle.finite.proofs.AnyAll.{any-monoid}
 use Rattle.finite.specs.Fold.{gather}
-use Rattle.mesh.specs.HalfEdge.{boundary}
+use Rattle.mesh.specs.HalfEdge.{twin, boundary}
 use Rattle.mesh.specs.Limits.{noTwin, maxVertices}
 use Rattle.mesh.specs.Fan.{onBoundary}
 use Rattle.mesh.proofs.vertex.mark_boundary.Statement.{statement}
 use Rattle.mesh.proofs.vertex.mark_boundary.Tie as tie
-use Rattle.mesh.specs.Tables.{vertexOf}
+use Rattle.mesh.specs.Tables.{Holds, vertexOf}
 
 abbrev Inv-loop : tie.InvT-loop
 Inv-loop faces n twins on-boundary₀ c₀ on-boundary c =
@@ -26,13 +26,16 @@ Inv-loop faces n twins on-boundary₀ c₀ on-boundary c =
 abbrev μ-loop : tie.MeasureT-loop
 μ-loop faces n twins on-boundary₀ c₀ on-boundary c = n - c
 
--- ---- at the entry: the vertices of the corners, and the boundary half-edges
+-- ---- at the entry: the vertices of the corners, the boundary half-edges, and what the list of twins holds
 module _ (s : tie.Start Inv-loop μ-loop) where
   abbrev vertex : ℕ → ℕ
   vertex = vertexOf (s .args .faces .now)
 
   abbrev on : ℕ → Bool
   on = boundary vertex (s .args .n)
+
+  twins-are : Holds 0 (s .args .twins .now) (s .args .n) (twin vertex (s .args .n))
+  twins-are = s .pre .1 .0
 
 abbrev entry : tie.At-loop Inv-loop μ-loop → tie.Start Inv-loop μ-loop
 entry c = c .before .before .before .before
@@ -67,7 +70,7 @@ module _ (c : tie.After-either Inv-loop μ-loop) where
   mark-is =
       c .either .ensures
       ∙ ap (λ (x : ℕ). getD (at-read .loop .on-boundary) (p read) false || eqb x noTwin)
-      (start read .pre .1 .0 (at-read .loop .c) (passing read .loop-test .taken))
+      (twins-are (start read) (at-read .loop .c) (passing read .loop-test .taken))
 
 -- ---- the answers, in the order of the code
 loop-holds : tie.Need-loop-holds Inv-loop μ-loop
