@@ -37,10 +37,10 @@ module _ {z : Sense} {M M′ : IndexedMesh} (a : WellFormed M) (r : Alike z M M�
   abbrev v : ℕ
   v = M .vertices
 
-  abbrev s : Sound n v (at M)
+  abbrev s : Sound (at M) n v
   s = sound a
 
-  abbrev i : Iso z n v (at M) (at M′)
+  abbrev i : Iso z (at M) (at M′) n v
   i = r .shape
 
   abbrev φ : ℕ → ℕ
@@ -158,7 +158,7 @@ module _ {z : Sense} {M M′ : IndexedMesh} (a : WellFormed M) (r : Alike z M M�
         (λ e.
         let w = twin-same (leaving z c) h e in
         rw (leaving-moves s i c, w .1)
-        (edge-moves (leaving z c) (twin (at M) n (leaving z c)) h (w .0) (twin-ends n (at M) (leaving z c) (s .whole) (w .0))))
+        (edge-moves (leaving z c) (twin (at M) n (leaving z c)) h (w .0) (twin-ends (at M) n (leaving z c) (s .whole) (w .0))))
         ∙ along-in S c z
 
     before-moves : (c : ℕ) → c < n → beforePoint S′ (φ c) ≡ point S c (kindIn z before)
@@ -169,7 +169,7 @@ module _ {z : Sense} {M M′ : IndexedMesh} (a : WellFormed M) (r : Alike z M M�
         (λ e. rw (x-moves c l, x-prev c l))
         (λ e.
         let w = twin-same (entering z c) h e in
-        let ends = twin-ends n (at M) (entering z c) (s .whole) (w .0) in
+        let ends = twin-ends (at M) n (entering z c) (s .whole) (w .0) in
         rw (entering-moves s i c l, w .1)
         (edge-moves (twin (at M) n (entering z c)) (entering z c) (w .0) h (sym (ends .1), sym (ends .0))))
         ∙ before-in S c z

@@ -9,21 +9,22 @@ use Prim.Native.Nat.{ℕ, suc, _+_, _*_, _≤_, _<_}
 use native.Mathlib.Omega.{arith}
 use lib.Dec.{eqb}
 use lib.IntN.{natAbs}
-use lib.ListN.{length}
 use borrow.Author.Tests.{ltb-false, leb-false, eqb-true, eqb-false, not-false, le-ltb, lt-leb, eq-eqb, ne-eqb}
 use Rattle.finite.proofs.FoldLaws.{bool-cases}
 use Rattle.finite.proofs.AnyAll.{any-false, any-none}
 use Rattle.finite.specs.Table.{Row, firstMet}
 use Rattle.finite.proofs.TableLaws.{skipped, none-met, none-append, append-none}
-use Rattle.mesh.specs.Limits.{minVertices, maxVertices, minFaces, maxFaces, maxCoordinate, minValence, maxValence, minBoundaryFaces, maxBoundaryFaces, cornerTag}
+use Rattle.mesh.specs.Limits.{minVertices, maxVertices, minFaces, maxFaces, maxCoordinate, cornerTag}
+use Rattle.mesh.specs.Limits.{minValence, maxValence, minBoundaryFaces, maxBoundaryFaces}
 use Rattle.mesh.specs.Corner.{turn, next}
 use Rattle.mesh.specs.HalfEdge.{edges, boundaries, Simple}
 use Rattle.mesh.specs.Fan.{valence, onBoundary, fan}
 use Rattle.mesh.specs.IndexedMesh.{IndexedMesh, corners, at, tag, coordinate}
-use Rattle.mesh.specs.Refusal.{off, sizesOff, meshSizesOff, coordinateOff, tagOff, vertexOff, vertexTwice, halfEdgeTwice, vertexUnused, fanBroken, valenceOff, innerTagged, entryRows, earlyRows, lateRows, Accepted}
+use Rattle.mesh.specs.Refusal.{off, sizesOff, meshSizesOff, coordinateOff, tagOff, vertexOff, vertexTwice, halfEdgeTwice}
+use Rattle.mesh.specs.Refusal.{vertexUnused, fanBroken, valenceOff, innerTagged, entryRows, earlyRows, lateRows, Accepted}
 use Rattle.mesh.specs.WellFormed.{Sized, WellFormed}
 use Rattle.mesh.proofs.TwinLaws.{doubled-simple, simple-doubled}
-use Rattle.mesh.proofs.SizeLaws.{off-false, sizes-false}
+use Rattle.mesh.proofs.SizeLaws.{off-false, mesh-sizes-false}
 use Rattle.mesh.proofs.EdgeLaws.{edges-twice}
 use Rattle.mesh.specs.Tables.{Corners}
 
@@ -80,13 +81,13 @@ module _ (M : IndexedMesh) where
   twice-none h = any-none _ (corners M) (λ c l. any-none _ 3 (λ i b. ne-eqb (at M (turn (suc i) c)) (at M c) (h c i l b)))
 
   -- ---- 7: a half-edge twice
-  pub half-edge-false : halfEdgeTwice M ≡ false → Simple (corners M) (at M)
+  pub half-edge-false : halfEdgeTwice M ≡ false → Simple (at M) (corners M)
   unfolding halfEdgeTwice
-  half-edge-false e = doubled-simple (corners M) (at M) e
+  half-edge-false e = doubled-simple (at M) (corners M) e
 
-  pub half-edge-none : Simple (corners M) (at M) → halfEdgeTwice M ≡ false
+  pub half-edge-none : Simple (at M) (corners M) → halfEdgeTwice M ≡ false
   unfolding halfEdgeTwice
-  half-edge-none h = simple-doubled (corners M) (at M) h
+  half-edge-none h = simple-doubled (at M) (corners M) h
 
 module _ (at : ℕ → ℕ) (n v : ℕ) where
   -- ---- 8: a vertex in no face
@@ -163,8 +164,18 @@ accepted-late {M} a =
     (λ p l b. (a .boundary-low p l b, a .boundary-high p l b)))
     ∙ skipped 11 _ (tagged-none M (a .tagged-boundary))
 
-pub accepted-from : (M : IndexedMesh) (own : List Row) → firstMet (earlyRows M own) ≡ none → firstMet (lateRows M) ≡ none → WellFormed M
-accepted-from M own early late =
+-- the causes that are checked before the twins are written, none of them met, nor a row of the call's own
+pub record EarlyUnmet (M : IndexedMesh) (own : List Row) : Type 0 where
+  pub sizes : meshSizesOff M ≡ false
+  pub rows : firstMet own ≡ none
+  pub coordinate : coordinateOff M ≡ false
+  pub tag : tagOff M ≡ false
+  pub vertex : vertexOff M ≡ false
+  pub twice : vertexTwice M ≡ false
+  pub half-edge : halfEdgeTwice M ≡ false
+
+pub early-unmet : (M : IndexedMesh) (own : List Row) → firstMet (earlyRows M own) ≡ none → EarlyUnmet M own
+early-unmet M own early =
     let h₁ = none-met (meshSizesOff M) 1 _ early in
     let h₂ = append-none own (entryRows M) (h₁ .1) in
     let h₃ = none-met (coordinateOff M) 3 _ (h₂ .1) in
@@ -172,6 +183,11 @@ accepted-from M own early late =
     let h₅ = none-met (vertexOff M) 5 _ (h₄ .1) in
     let h₆ = none-met (vertexTwice M) 6 _ (h₅ .1) in
     let h₇ = none-met (halfEdgeTwice M) 7 _ (h₆ .1) in
+    record { sizes = h₁ .0; rows = h₂ .0; coordinate = h₃ .0; tag = h₄ .0; vertex = h₅ .0; twice = h₆ .0; half-edge = h₇ .0 }
+
+pub accepted-from : (M : IndexedMesh) (own : List Row) → firstMet (earlyRows M own) ≡ none → firstMet (lateRows M) ≡ none → WellFormed M
+accepted-from M own early late =
+    let u = early-unmet M own early in
     let h₈ = none-met (vertexUnused (at M) (corners M) (M .vertices)) 8 _ late in
     let h₉ = none-met (fanBroken (at M) (corners M) (M .vertices)) 9 _ (h₈ .1) in
     let h₁₀ = none-met (valenceOff (at M) (corners M) (M .vertices)) 10 _ (h₉ .1) in
@@ -179,12 +195,12 @@ accepted-from M own early late =
     let inner = inner-false (at M) (corners M) (M .vertices) (h₁₀ .0) in
     let outer = boundary-false (at M) (corners M) (M .vertices) (h₁₀ .0) in
     record {
-      sized = sizes-false (M .vertices) (M .faces) (length (M .positions)) (length (M .tags)) (length (M .indices)) (h₁ .0);
-      coordinates = coordinate-false M (h₃ .0);
-      tags-known = tag-false M (h₄ .0);
-      named = vertex-false M (h₅ .0);
-      distinct = twice-false M (h₆ .0);
-      simple = half-edge-false M (h₇ .0);
+      sized = mesh-sizes-false M (u .sizes);
+      coordinates = coordinate-false M (u .coordinate);
+      tags-known = tag-false M (u .tag);
+      named = vertex-false M (u .vertex);
+      distinct = twice-false M (u .twice);
+      simple = half-edge-false M (u .half-edge);
       used = unused-false (at M) (corners M) (M .vertices) (h₈ .0);
       fans = fan-false (at M) (corners M) (M .vertices) (h₉ .0);
       inner-low = λ p l b. inner p l b .0;

@@ -1,9 +1,9 @@
 -- The boundary at a vertex whose corners form one fan: no boundary half-edge at all, or exactly one that leaves it and exactly one that enters it.
 -- Half-edge c leaves the vertex of corner c, and half-edge prev c enters it.
 --
---   One n at p t             exactly one corner at p has t
---   InnerVertex n at p       no boundary half-edge leaves or enters p
---   BoundaryVertex n at p    exactly one leaves p, and exactly one enters it
+--   One at n p t             exactly one corner at p has t
+--   InnerVertex at n p       no boundary half-edge leaves or enters p
+--   BoundaryVertex at n p    exactly one leaves p, and exactly one enters it
 use mathlib.Core.Path.{_≡_, sym, ap, _∙_}
 use mathlib.Core.Bool.{Bool, true, false, true≢false}
 use mathlib.Core.Logic.{_⊎_, inl, inr, ⊎-elim}
@@ -26,24 +26,24 @@ use Rattle.mesh.proofs.FanLaws.{fan-turning, fan-keeps, fan-means}
 use Rattle.mesh.specs.Tables.{Corners}
 use Rattle.mesh.specs.Circulation.{backAround, Turn}
 
-pub record One (n : ℕ) (at : ℕ → ℕ) (p : ℕ) (t : ℕ → Bool) : Type 0 where
+pub record One (at : ℕ → ℕ) (n p : ℕ) (t : ℕ → Bool) : Type 0 where
   pub corner : ℕ
   pub below : corner < n
   pub here : at corner ≡ p
   pub has : t corner ≡ true
   pub alone : (c : ℕ) → c < n → at c ≡ p → t c ≡ true → c ≡ corner
 
-pub record InnerVertex (n : ℕ) (at : ℕ → ℕ) (p : ℕ) : Type 0 where
+pub record InnerVertex (at : ℕ → ℕ) (n p : ℕ) : Type 0 where
   pub leaving : (c : ℕ) → c < n → at c ≡ p → boundary at n c ≡ false
   pub entering : (c : ℕ) → c < n → at c ≡ p → boundary at n (prev c) ≡ false
 
-pub record BoundaryVertex (n : ℕ) (at : ℕ → ℕ) (p : ℕ) : Type 0 where
-  pub leaving : One n at p (boundary at n)
-  pub entering : One n at p (λ c. boundary at n (prev c))
+pub record BoundaryVertex (at : ℕ → ℕ) (n p : ℕ) : Type 0 where
+  pub leaving : One at n p (boundary at n)
+  pub entering : One at n p (λ c. boundary at n (prev c))
 
 -- ---- in a turn of all the corners at p only the first can have none before it, and only the last none after it
-module _ {n : ℕ} {s b : ℕ → ℕ} (g : Turning n s b) (at : ℕ → ℕ) (p o k : ℕ)
-    (t : Turn n s b o (suc k)) (cover : Covers s n at p o (suc k)) where
+module _ {n : ℕ} {s b : ℕ → ℕ} (g : Turning s b n) (at : ℕ → ℕ) (p o k : ℕ)
+    (t : Turn s b n o (suc k)) (cover : Covers s at n p o (suc k)) where
   first-at : (i c : ℕ) → i < suc k → iterate s i o ≡ c → b c ≡ noTwin → c ≡ o
   unfolding iterate
   first-at zero c l e r = sym e
@@ -62,7 +62,7 @@ module _ {n : ℕ} {s b : ℕ → ℕ} (g : Turning n s b) (at : ℕ → ℕ) (p
       (λ e. sym (w .2) ∙ ap (λ (j : ℕ). iterate s j o) e)
       (λ q. absurd (omega (arith, t .inside (suc (w .0)) (omega arith), ap s (w .2) ∙ r, g .few)))
 
-module _ {n : ℕ} (at : ℕ → ℕ) (k : Corners n) (simple : Simple n at) where
+module _ {n : ℕ} (at : ℕ → ℕ) (k : Corners n) (simple : Simple at n) where
   abbrev s : ℕ → ℕ
   s = around (twin at n) n
 
@@ -82,7 +82,7 @@ module _ {n : ℕ} (at : ℕ → ℕ) (k : Corners n) (simple : Simple n at) whe
       let some = back-some (twin at n) n c l (not-none k (twin at n c) (w .0)) in
       absurd (not-none k (next (twin at n c)) (next-below k (twin at n c) (w .0)) (sym some ∙ e)))
       (λ w. eq-eqb (twin at n c) noTwin (w .0))
-      (twin-cases n at c)
+      (twin-cases at n c)
 
   enters : (c : ℕ) → c < n → boundary at n (prev c) ≡ true → s c ≡ noTwin
   unfolding boundary
@@ -92,7 +92,7 @@ module _ {n : ℕ} (at : ℕ → ℕ) (k : Corners n) (simple : Simple n at) whe
   unfolding boundary
   enters-back c l e = eq-eqb (twin at n (prev c)) noTwin (sym (around-in (twin at n) n c l) ∙ e)
 
-  module _ (p o m : ℕ) (here : at o ≡ p) (t : Turn n s b o (suc m)) (cover : Covers s n at p o (suc m)) where
+  module _ (p o m : ℕ) (here : at o ≡ p) (t : Turn s b n o (suc m)) (cover : Covers s at n p o (suc m)) where
     first-below : o < n
     first-below = turn-first (fan-turning at k simple) o (suc m) t
 
@@ -106,7 +106,7 @@ module _ {n : ℕ} (at : ℕ → ℕ) (k : Corners n) (simple : Simple n at) whe
     none-after c l h e = only-last (fan-turning at k simple) at p o m t cover c l h (enters c l e)
 
     -- a closed turn
-    inner : s (iterate s m o) ≡ o → InnerVertex n at p
+    inner : s (iterate s m o) ≡ o → InnerVertex at n p
     inner u = record {
       leaving = λ c l h. eq-false-of-not-eq-true (λ e.
           let before : b o ≡ iterate s m o = rw u at (fan-turning at k simple .back (iterate s m o) last-below (rw u first-below)) in
@@ -116,7 +116,7 @@ module _ {n : ℕ} (at : ℕ → ℕ) (k : Corners n) (simple : Simple n at) whe
     }
 
     -- a chain
-    outer : s (iterate s m o) ≡ noTwin → b o ≡ noTwin → BoundaryVertex n at p
+    outer : s (iterate s m o) ≡ noTwin → b o ≡ noTwin → BoundaryVertex at n p
     outer u v = record {
       leaving = record { corner = o; below = first-below; here = here; has = leaves-back o first-below v; alone = none-before };
       entering = record {
@@ -128,13 +128,13 @@ module _ {n : ℕ} (at : ℕ → ℕ) (k : Corners n) (simple : Simple n at) whe
       };
     }
 
-  kinds : (p o m : ℕ) → at o ≡ p → Turn n s b o m → Covers s n at p o m → InnerVertex n at p ⊎ BoundaryVertex n at p
+  kinds : (p o m : ℕ) → at o ≡ p → Turn s b n o m → Covers s at n p o m → InnerVertex at n p ⊎ BoundaryVertex at n p
   unfolding iterate
   kinds p o zero here t cover = absurd (not-suc-le-zero (t .some))
   kinds p o (suc m) here t cover =
       ⊎-elim (λ u. inl (inner p o m here t cover u)) (λ u. inr (outer p o m here t cover (u .0) (u .1))) (t .ends)
 
-  pub fan-boundary : (p : ℕ) → fan at n p ≡ true → InnerVertex n at p ⊎ BoundaryVertex n at p
+  pub fan-boundary : (p : ℕ) → fan at n p ≡ true → InnerVertex at n p ⊎ BoundaryVertex at n p
   fan-boundary p f = let w = fan-means at k simple p f in kinds p (w .first) (valence at n p) (w .here) (w .turn) (w .covers)
 
   -- a boundary half-edge enters p exactly when one leaves it
@@ -150,7 +150,7 @@ module _ {n : ℕ} (at : ℕ → ℕ) (k : Corners n) (simple : Simple n at) whe
       ∙ sym (any-at-hit at n p (λ c. boundary at n (prev c)) (b .corner) (b .below) (b .here) (b .has)))
       (fan-boundary p f)
 
-  pub inner-vertex : (p : ℕ) → fan at n p ≡ true → onBoundary at n p ≡ false → InnerVertex n at p
+  pub inner-vertex : (p : ℕ) → fan at n p ≡ true → onBoundary at n p ≡ false → InnerVertex at n p
   unfolding onBoundary
   inner-vertex p f e =
       ⊎-elim
@@ -160,7 +160,7 @@ module _ {n : ℕ} (at : ℕ → ℕ) (k : Corners n) (simple : Simple n at) whe
       absurd (true≢false (sym (a .has) ∙ any-at-false at n p (boundary at n) e (a .corner) (a .below) (a .here))))
       (fan-boundary p f)
 
-  pub boundary-vertex : (p : ℕ) → fan at n p ≡ true → onBoundary at n p ≡ true → BoundaryVertex n at p
+  pub boundary-vertex : (p : ℕ) → fan at n p ≡ true → onBoundary at n p ≡ true → BoundaryVertex at n p
   unfolding onBoundary
   boundary-vertex p f e =
       ⊎-elim (λ w. absurd (true≢false (sym e ∙ any-at-none at n p (boundary at n) (w .leaving)))) (λ w. w) (fan-boundary p f)

@@ -21,7 +21,7 @@ use Rattle.mesh.specs.Limits.{maxVertices, noTwin}
 use Rattle.mesh.specs.Corner.{next}
 use Rattle.mesh.specs.HalfEdge.{runs, isTwin, twin, sameWay, doubled, Simple}
 use Rattle.mesh.specs.Fan.{valence}
-use Rattle.mesh.proofs.TwinLaws.{twin-is}
+use Rattle.mesh.proofs.TwinLaws.{runs-ends, runs-so, twin-is}
 use Rattle.mesh.proofs.VertexLaws.{valence-count}
 use Rattle.mesh.specs.Tables.{Holds, latest, Chained}
 
@@ -90,13 +90,14 @@ module _ (at : ℕ → ℕ) (p q c u : ℕ) where
 
   pub walked-found : Walked at p q c u → (e : ℕ) → u ≡ suc e → at (next e) ≡ q → u ≡ latest (runs at p q) c
   walked-found w e s t =
-      s ∙ sym (latest-is (runs at p q) c e (omega (arith, w .low)) (ap₂ _&&_ (eq-eqb (at e) p (w .here e s)) (eq-eqb (at (next e)) q t)) (λ j a b. w .passed j (omega arith) b))
+      s ∙ sym (latest-is (runs at p q) c e (omega (arith, w .low)) (runs-so at p q e (w .here e s) t) (λ j a b. w .passed j (omega arith) b))
 
   pub walked-none : Walked at p q c u → u ≡ 0 → 0 ≡ latest (runs at p q) c
   walked-none w z = sym (latest-none (runs at p q) c (λ k l. w .passed k (omega arith) l))
 
 -- one corner further back along the chain
-pub walked-more : (at : ℕ → ℕ) (p q c u e u′ : ℕ) → Walked at p q c u → u ≡ suc e → (at (next e) ≡ q → ⊥) → u′ ≡ latest (λ d. eqb (at d) (at e)) e → Walked at p q c u′
+pub walked-more : (at : ℕ → ℕ) (p q c u e u′ : ℕ) → Walked at p q c u → u ≡ suc e → (at (next e) ≡ q → ⊥)
+    → u′ ≡ latest (λ d. eqb (at d) (at e)) e → Walked at p q c u′
 walked-more at p q c u e u′ w s t h =
     let r : Walked at p q e u′ = walked-start at p q e u′ (h ∙ ap (λ (x : ℕ). latest (λ d. eqb (at d) x) e) (w .here e s)) in
     record {
@@ -131,7 +132,8 @@ module _ (at : ℕ → ℕ) (c p : ℕ) (head link : List ℕ) (k : Chained at c
       (λ z. getD-set-other link c j u 0 (λ s. omega arith) ∙ k .links j z)
 
   -- corner c, at p, is chained before the earlier ones
-  pub chained-more : (u v : ℕ) → u ≡ getD head p 0 → v ≡ c + 1 → p < maxVertices → p < length head → c < length link → Chained at (c + 1) (set head p v) (set link c u)
+  pub chained-more : (u v : ℕ) → u ≡ getD head p 0 → v ≡ c + 1 → p < maxVertices → p < length head → c < length link
+      → Chained at (c + 1) (set head p v) (set link c u)
   chained-more u v q r b lh ll = rw add-one (record { heads = heads-more v r lh; links = links-more u q b ll })
 
 -- ---- half-edges that occur twice: one of them has an earlier one that runs the same way
@@ -144,8 +146,8 @@ doubled-earlier at n = same-test (doubled at n) (anyBelow (λ c. anyBelow (same 
 
     turned : (c d : ℕ) → same c d ≡ true → same d c ≡ true
     turned c d h =
-        let w = and-true (eqb (at d) (at c)) (eqb (at (next d)) (at (next c))) h in
-        ap₂ _&&_ (eq-eqb (at c) (at d) (sym (eqb-true (at d) (at c) (w .0)))) (eq-eqb (at (next c)) (at (next d)) (sym (eqb-true (at (next d)) (at (next c)) (w .1))))
+        let w = runs-ends at (at c) (at (next c)) d h in
+        runs-so at (at d) (at (next d)) c (sym (w .0)) (sym (w .1))
 
     hit : (c d : ℕ) → c < n → d < c → same c d ≡ true → anyBelow (λ c. anyBelow (same c) c) n ≡ true
     hit c d l k h = any-hit (λ c. anyBelow (same c) c) n c l (any-hit (same c) c d k h)
@@ -180,15 +182,15 @@ module _ (at : ℕ → ℕ) (n c : ℕ) (u : ℕ) (e : u ≡ latest (runs at (at
   unfolding twin isTwin
   twin-none z = sym (ap (λ (o : Option ℕ). Option·getD o noTwin) (least-miss (isTwin at c) n (λ k l. latest-past (isTwin at c) n k (rw (← e, z) zero-le) l)))
 
-  pub twin-found : Simple n at → (u ≡ 0 → ⊥) → u - 1 ≡ twin at n c
+  pub twin-found : Simple at n → (u ≡ 0 → ⊥) → u - 1 ≡ twin at n c
   twin-found h z = go u e z
     where
       go : (w : ℕ) → w ≡ latest (runs at (at (next c)) (at c)) n → (w ≡ 0 → ⊥) → w - 1 ≡ twin at n c
       go zero q z = absurd (z refl)
       go (suc d) q z =
           let l : d < n = let m = latest-le (runs at (at (next c)) (at c)) n in omega arith in
-          let b = and-true (eqb (at d) (at (next c))) (eqb (at (next d)) (at c)) (latest-has (runs at (at (next c)) (at c)) n d (sym q)) in
-          (let s : suc d - 1 ≡ d = omega arith in s) ∙ sym (twin-is at h c d l (eqb-true (at d) (at (next c)) (b .0)) (eqb-true (at (next d)) (at c) (b .1)))
+          let b = runs-ends at (at (next c)) (at c) d (latest-has (runs at (at (next c)) (at c)) n d (sym q)) in
+          (let s : suc d - 1 ≡ d = omega arith in s) ∙ sym (twin-is at h c d l (b .0) (b .1))
 
 -- ---- where a vertex has corners, the last one is a corner at it
 pub latest-corner : (at : ℕ → ℕ) (n p u : ℕ) → u ≡ latest (λ d. eqb (at d) p) n → 0 < valence at n p → (0 < u) × (u - 1 < n) × (at (u - 1) ≡ p)

@@ -1,8 +1,8 @@
 -- Steps about a vertex: `around` and `backAround` undo each other, so they are a partial permutation of the corners with its inverse;
 -- and what follows for any such steps.
 --
---   Turning n s b    s and b are steps on and back among the corners below n, `noTwin` for none, and undo each other
---   Keeps n at s     a step s stays at the vertex
+--   Turning s b n    s and b are steps on and back among the corners below n, `noTwin` for none, and undo each other
+--   Keeps s at n     a step s stays at the vertex
 use mathlib.Core.Path.{_≡_, refl, sym, ap, _∙_, subst, fun-ext}
 use mathlib.Core.Logic.{_⊎_, inl, inr, ⊎-elim}
 use Prim.Native.Nat.{ℕ, zero, suc, _+_, _≤_, _<_}
@@ -51,7 +51,7 @@ back-read-none tw n c d l e q = sym (back-none tw n c l (sym e ∙ q))
 pub back-read-some : (tw : ℕ → ℕ) (n c d r : ℕ) → c < n → d ≡ tw c → (d ≡ noTwin → ⊥) → r ≡ next d → r ≡ backAround tw n c
 back-read-some tw n c d r l e q s = s ∙ ap next e ∙ sym (back-some tw n c l (λ x. q (e ∙ x)))
 
-pub record Turning (n : ℕ) (s b : ℕ → ℕ) : Type 0 where
+pub record Turning (s b : ℕ → ℕ) (n : ℕ) : Type 0 where
   pub few : n ≤ noTwin
   pub stop : s noTwin ≡ noTwin
   pub stop-back : b noTwin ≡ noTwin
@@ -60,11 +60,11 @@ pub record Turning (n : ℕ) (s b : ℕ → ℕ) : Type 0 where
   pub back : (c : ℕ) → c < n → s c < n → b (s c) ≡ c
   pub forth : (c : ℕ) → c < n → b c < n → s (b c) ≡ c
 
-abbrev pub Keeps : ℕ → (ℕ → ℕ) → (ℕ → ℕ) → Type 0
-Keeps n at s = (c : ℕ) → c < n → s c < n → at (s c) ≡ at c
+abbrev pub Keeps : (ℕ → ℕ) → (ℕ → ℕ) → ℕ → Type 0
+Keeps s at n = (c : ℕ) → c < n → s c < n → at (s c) ≡ at c
 
 -- the steps that twins give
-module _ {n : ℕ} {tw : ℕ → ℕ} (k : Corners n) (p : Paired n tw) where
+module _ {n : ℕ} {tw : ℕ → ℕ} (k : Corners n) (p : Paired tw n) where
   pub back-around : (c : ℕ) → c < n → around tw n c < n → backAround tw n (around tw n c) ≡ c
   back-around c l q =
       let t : tw (prev c) < n = rw around-in at q in
@@ -84,7 +84,7 @@ module _ {n : ℕ} {tw : ℕ → ℕ} (k : Corners n) (p : Paired n tw) where
       around-in tw n (backAround tw n c) q ∙ ap (λ (d : ℕ). tw (prev d)) e ∙ ap tw (prev-next (tw c)) ∙ w .1)
       (p .pairs c l)
 
-  pub turning : Turning n (around tw n) (backAround tw n)
+  pub turning : Turning (around tw n) (backAround tw n) n
   turning = record {
     few = omega arith;
     stop = around-out tw n noTwin (omega arith);
@@ -100,7 +100,7 @@ module _ {n : ℕ} {tw : ℕ → ℕ} (k : Corners n) (p : Paired n tw) where
     forth = around-back;
   }
 
-  pub keeps : (at : ℕ → ℕ) → Joins n at tw → Keeps n at (around tw n)
+  pub keeps : (at : ℕ → ℕ) → Joins tw at n → Keeps (around tw n) at n
   keeps at j c l q =
       let e = around-in tw n c l in
       let t : tw (prev c) < n = rw e at q in
@@ -117,7 +117,7 @@ unfolding iterate
 iterate-add s zero j c = rw zero-add
 iterate-add s (suc i) j c = rw suc-add (ap s (iterate-add s i j c))
 
-module _ {n : ℕ} {s b : ℕ → ℕ} (g : Turning n s b) where
+module _ {n : ℕ} {s b : ℕ → ℕ} (g : Turning s b n) where
   -- a number of steps leads to a corner or to none
   pub reach : (i c : ℕ) → c < n → (iterate s i c ≡ noTwin) ⊎ (iterate s i c < n)
   unfolding iterate
@@ -133,10 +133,6 @@ module _ {n : ℕ} {s b : ℕ → ℕ} (g : Turning n s b) where
   pub step-injective : (c d : ℕ) → c < n → d < n → s c ≡ s d → s c < n → c ≡ d
   step-injective c d a q e h = sym (g .back c a h) ∙ ap b e ∙ g .back d q (rw e at h)
 
-pub around-injective : {n : ℕ} {tw : ℕ → ℕ} → Corners n → Paired n tw
-    → (c d : ℕ) → c < n → d < n → around tw n c ≡ around tw n d → around tw n c < n → c ≡ d
-around-injective k p = step-injective (turning k p)
-
 -- ---- twins that are the same for each corner
 module _ {n : ℕ} (k : Corners n) {tw tw′ : ℕ → ℕ} (same : (c : ℕ) → c < n → tw c ≡ tw′ c) where
   pub around-ext : around tw n ≡ around tw′ n
@@ -147,11 +143,11 @@ module _ {n : ℕ} (k : Corners n) {tw tw′ : ℕ → ℕ} (same : (c : ℕ) �
   unfolding backAround
   back-ext = fun-ext (λ c. bool-cases (ltb c n) (λ t. rw (same c (ltb-true c n t))) (λ t. rw t))
 
-  pub circulated-ext : (c m : ℕ) → Circulated n tw c m → Circulated n tw′ c m
+  pub circulated-ext : (c m : ℕ) → Circulated tw n c m → Circulated tw′ n c m
   circulated-ext c m w = record {
     first = w .first;
-    turn = subst (λ (s : ℕ → ℕ). Turn n s (backAround tw′ n) (w .first) m) around-ext
-        (subst (λ (b : ℕ → ℕ). Turn n (around tw n) b (w .first) m) back-ext (w .turn));
+    turn = subst (λ (s : ℕ → ℕ). Turn s (backAround tw′ n) n (w .first) m) around-ext
+        (subst (λ (b : ℕ → ℕ). Turn (around tw n) b n (w .first) m) back-ext (w .turn));
     steps = w .steps;
     few = w .few;
     through = ap (λ (s : ℕ → ℕ). iterate s (w .steps) (w .first)) (sym around-ext) ∙ w .through;

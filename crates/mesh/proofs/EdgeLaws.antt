@@ -5,7 +5,7 @@ use mathlib.Core.Logic.{_⊎_, inl, inr, ⊎-elim}
 use Prim.Native.Nat.{ℕ, _+_, _*_, _<_, min, max}
 use native.Mathlib.Omega.{arith}
 use lib.Dec.{eqb, ltb}
-use borrow.Author.Tests.{eq-eqb, ne-eqb, eqb-true, eqb-false, lt-ltb, le-ltb, ltb-true, ltb-false}
+use borrow.Author.Tests.{eq-eqb, ne-eqb, eqb-false, lt-ltb, le-ltb, ltb-true, ltb-false}
 use Rattle.finite.specs.Fold.{anyBelow, sumBelow, countBelow, indicator}
 use Rattle.finite.specs.Permutation.{Permutation}
 use Rattle.finite.proofs.FoldLaws.{fold-ext, fold-unit, fold-op, fold-swap, fold-select, fold-reindex, bool-cases}
@@ -13,9 +13,9 @@ use Rattle.finite.proofs.AnyAll.{and-true, any-true, any-false}
 use Rattle.finite.proofs.Counting.{sum-monoid, sum-ones}
 use Rattle.mesh.specs.Limits.{noTwin}
 use Rattle.mesh.specs.Corner.{next}
-use Rattle.mesh.specs.HalfEdge.{twin, boundary, joins, edges, boundaries, Simple}
+use Rattle.mesh.specs.HalfEdge.{runs, twin, boundary, joins, edges, boundaries, Simple}
 use Rattle.mesh.proofs.CornerLaws.{next-below, not-none}
-use Rattle.mesh.proofs.TwinLaws.{twin-cases, twin-is, twin-twin, twin-paired}
+use Rattle.mesh.proofs.TwinLaws.{runs-ends, runs-so, twin-cases, twin-is, twin-twin, twin-paired}
 use Rattle.mesh.specs.Tables.{Corners}
 use Rattle.mesh.specs.Circulation.{Paired}
 
@@ -30,19 +30,15 @@ module _ (at : ℕ → ℕ) (p q c : ℕ) where
   joins-cases : joins at p q c ≡ true → ((at c ≡ p) × (at (next c) ≡ q)) ⊎ ((at c ≡ q) × (at (next c) ≡ p))
   unfolding joins
   joins-cases e =
-      bool-cases (eqb (at c) p && eqb (at (next c)) q)
-      (λ t. let w = and-true (eqb (at c) p) (eqb (at (next c)) q) t in inl (eqb-true (at c) p (w .0), eqb-true (at (next c)) q (w .1)))
-      (λ t.
-      let w = and-true (eqb (at c) q) (eqb (at (next c)) p) (rw t at e) in
-      inr (eqb-true (at c) q (w .0), eqb-true (at (next c)) p (w .1)))
+      bool-cases (runs at p q c) (λ t. inl (runs-ends at p q c t)) (λ t. inr (runs-ends at q p c (rw t at e)))
 
   joins-on : at c ≡ p → at (next c) ≡ q → joins at p q c ≡ true
   unfolding joins
-  joins-on a b = rw (eq-eqb (at c) p a, eq-eqb (at (next c)) q b)
+  joins-on a b = rw (runs-so at p q c a b)
 
   joins-back : at c ≡ q → at (next c) ≡ p → joins at p q c ≡ true
   unfolding joins
-  joins-back a b = rw (eq-eqb (at c) q a, eq-eqb (at (next c)) p b) (or-true (eqb (at c) p && eqb (at (next c)) q))
+  joins-back a b = rw (runs-so at q p c a b) (or-true (runs at p q c))
 
 -- two that join the same vertices run the same way, or opposite ways
 joins-both : (at : ℕ → ℕ) (p q c d : ℕ) → joins at p q c ≡ true → joins at p q d ≡ true
@@ -63,9 +59,9 @@ leads at n p q c = lead (twin at n) c && joins at p q c
 
 -- a half-edge with two ends is not its own twin
 pub twin-other : {n : ℕ} (at : ℕ → ℕ) → Corners n → ((c : ℕ) → c < n → at (next c) ≡ at c → ⊥) → (c : ℕ) → c < n → twin at n c ≡ c → ⊥
-twin-other {n} at k ends c l e = ⊎-elim (λ w. ends c l (sym (w .1) ∙ ap at e)) (λ w. not-none k c l (sym e ∙ w .0)) (twin-cases n at c)
+twin-other {n} at k ends c l e = ⊎-elim (λ w. ends c l (sym (w .1) ∙ ap at e)) (λ w. not-none k c l (sym e ∙ w .0)) (twin-cases at n c)
 
-module _ {n : ℕ} (at : ℕ → ℕ) (k : Corners n) (simple : Simple n at) (ends : (c : ℕ) → c < n → at (next c) ≡ at c → ⊥) (p q : ℕ) where
+module _ {n : ℕ} (at : ℕ → ℕ) (k : Corners n) (simple : Simple at n) (ends : (c : ℕ) → c < n → at (next c) ≡ at c → ⊥) (p q : ℕ) where
   -- no two of the half-edges that join p and q come first
   leads-one : (c d : ℕ) → c < n → d < n → leads at n p q c ≡ true → leads at n p q d ≡ true → c ≡ d
   leads-one c d lc ld e f =
@@ -92,7 +88,7 @@ module _ {n : ℕ} (at : ℕ → ℕ) (k : Corners n) (simple : Simple n at) (en
       let back = ⊎-elim (λ u. joins-back at p q d (cc) (cc)) (λ u. joins-on at p q d (cc) (cc)) (joins-cases at p q c e) in
       (d, w .0, rw (first, back)))
       (λ w. absurd (omega arith))
-      (twin-cases n at c))
+      (twin-cases at n c))
 
   -- so one comes first where p and q are joined, and none where they are not
   edge-leads : indicator (anyBelow (joins at p q) n) ≡ countBelow (leads at n p q) n
@@ -146,7 +142,7 @@ either-before c d other =
 abbrev flip : (ℕ → ℕ) → ℕ → ℕ
 flip tw c = cond (eqb (tw c) noTwin) c (tw c)
 
-module _ {n : ℕ} {tw : ℕ → ℕ} (k : Corners n) (p : Paired n tw) where
+module _ {n : ℕ} {tw : ℕ → ℕ} (k : Corners n) (p : Paired tw n) where
   flip-cases : (c : ℕ) → c < n → (flip tw c ≡ c) ⊎ ((tw c < n) × (tw (tw c) ≡ c) × (flip tw c ≡ tw c))
   flip-cases c l =
       ⊎-elim
@@ -201,7 +197,7 @@ unfolding boundaries boundary
 boundaries-are at n = refl
 
 -- ---- edges
-module _ {n v : ℕ} (at : ℕ → ℕ) (k : Corners n) (simple : Simple n at) (named : (c : ℕ) → c < n → at c < v)
+module _ {n v : ℕ} (at : ℕ → ℕ) (k : Corners n) (simple : Simple at n) (named : (c : ℕ) → c < n → at c < v)
     (ends : (c : ℕ) → c < n → at (next c) ≡ at c → ⊥) where
   -- E is the number of half-edges that come before their twins
   pub edges-lead : edges at n v ≡ countBelow (λ c. ltb c (twin at n c)) n

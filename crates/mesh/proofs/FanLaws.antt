@@ -1,6 +1,6 @@
 -- What a fan is: one turn, closed or a chain, of all the corners at the vertex; and how counting the corners of any one turn at the vertex tells it.
 --
---   OneTurn n s b at p   one turn of all the corners at p
+--   OneTurn s b at n p   one turn of all the corners at p
 use mathlib.Core.Path.{_≡_, refl, sym, ap, _∙_, subst}
 use mathlib.Core.Bool.{Bool, true}
 use mathlib.Core.Logic.{_⊎_, inl, inr, ⊎-elim}
@@ -23,23 +23,23 @@ use Rattle.mesh.specs.Tables.{Corners}
 use Rattle.mesh.specs.Circulation.{backAround, Turn, Circulated}
 
 -- ---- the test, as a statement
-module _ (s : ℕ → ℕ) (n : ℕ) (at : ℕ → ℕ) (p : ℕ) where
+module _ (s at : ℕ → ℕ) (n p : ℕ) where
   -- d is fewer steps than p has corners from c
   abbrev reached : ℕ → ℕ → Bool
   reached c d = anyBelow (λ i. eqb (iterate s i c) d) (valence at n p)
 
-  reached-covers : (c : ℕ) → allAt at n p (reached c) ≡ true → Covers s n at p c (valence at n p)
+  reached-covers : (c : ℕ) → allAt at n p (reached c) ≡ true → Covers s at n p c (valence at n p)
   reached-covers c h d l e =
       let w = any-true (λ i. eqb (iterate s i c) d) (valence at n p) (all-at-true at n p (reached c) h d l e) in
       (w .0, w .1, eqb-true (iterate s (w .0) c) d (w .2))
 
-  pub fan-covers : fanBy s n at p ≡ true → (c : ℕ) × (c < n) × (at c ≡ p) × Covers s n at p c (valence at n p)
+  pub fan-covers : fanBy s at n p ≡ true → (c : ℕ) × (c < n) × (at c ≡ p) × Covers s at n p c (valence at n p)
   unfolding fanBy
   fan-covers h =
       let w = any-at-true at n p (λ c. allAt at n p (reached c)) h in
       (w .0, w .1, w .2, reached-covers (w .0) (w .3))
 
-  pub covers-fan : (c : ℕ) → c < n → at c ≡ p → Covers s n at p c (valence at n p) → fanBy s n at p ≡ true
+  pub covers-fan : (c : ℕ) → c < n → at c ≡ p → Covers s at n p c (valence at n p) → fanBy s at n p ≡ true
   unfolding fanBy
   covers-fan c l e cover =
       any-at-hit at n p (λ c. allAt at n p (reached c)) c l e
@@ -47,26 +47,26 @@ module _ (s : ℕ → ℕ) (n : ℕ) (at : ℕ → ℕ) (p : ℕ) where
       let w = cover d k q in
       any-hit (λ i. eqb (iterate s i c) d) (valence at n p) (w .0) (w .1) (eq-eqb (iterate s (w .0) c) d (w .2))))
 
-pub record OneTurn (n : ℕ) (s b at : ℕ → ℕ) (p : ℕ) : Type 0 where
+pub record OneTurn (s b at : ℕ → ℕ) (n p : ℕ) : Type 0 where
   pub first : ℕ
   pub here : at first ≡ p
-  pub turn : Turn n s b first (valence at n p)
-  pub covers : Covers s n at p first (valence at n p)
+  pub turn : Turn s b n first (valence at n p)
+  pub covers : Covers s at n p first (valence at n p)
 
-module _ {n : ℕ} {s b : ℕ → ℕ} (g : Turning n s b) (at : ℕ → ℕ) (keeps : Keeps n at s) where
+module _ {n : ℕ} {s b : ℕ → ℕ} (g : Turning s b n) (at : ℕ → ℕ) (keeps : Keeps s at n) where
   -- the corners at a turn's vertex form one fan exactly when the turn has as many
-  pub fan-turn : (o m : ℕ) → Turn n s b o m → fanBy s n at (at o) ≡ eqb m (valence at n (at o))
+  pub fan-turn : (o m : ℕ) → Turn s b n o m → fanBy s at n (at o) ≡ eqb m (valence at n (at o))
   fan-turn o m t =
-      same-test (fanBy s n at (at o)) (eqb m (valence at n (at o)))
+      same-test (fanBy s at n (at o)) (eqb m (valence at n (at o)))
       (λ f.
-      let w = fan-covers s n at (at o) f in
+      let w = fan-covers s at n (at o) f in
       eq-eqb m (valence at n (at o)) (turn-full g o m t at keeps (w .0) (valence at n (at o)) (w .1) (w .3)))
       (λ e.
       let q = eqb-true m (valence at n (at o)) e in
-      covers-fan s n at (at o) o (turn-first g o m t) refl (subst (Covers s n at (at o) o) q (turn-covers g o m t at keeps q)))
+      covers-fan s at n (at o) o (turn-first g o m t) refl (subst (Covers s at n (at o) o) q (turn-covers g o m t at keeps q)))
 
   -- k + 1 places from o on cover its vertex, which has no fewer corners: they are one turn
-  module _ (o k : ℕ) (lo : o < n) (cover : Covers s n at (at o) o (suc k)) (full : suc k ≤ countBelow (λ d. eqb (at d) (at o)) n) where
+  module _ (o k : ℕ) (lo : o < n) (cover : Covers s at n (at o) o (suc k)) (full : suc k ≤ countBelow (λ d. eqb (at d) (at o)) n) where
     covered : (d : ℕ) → d < n → eqb (at d) (at o) ≡ true → (i : ℕ) × (i < suc k) × (iterate s i o ≡ d)
     covered d l q = cover d l (eqb-true (at d) (at o) q)
 
@@ -111,17 +111,17 @@ module _ {n : ℕ} {s b : ℕ → ℕ} (g : Turning n s b) (at : ℕ → ℕ) (k
         inl (closes (w .0) (w .1) (w .2) l))
         (g .on (iterate s k o) (inside k (omega arith) .0))
 
-    places : Turn n s b o (suc k)
+    places : Turn s b n o (suc k)
     places = record { some = omega arith; inside = λ i l. inside i l .0; apart = apart; ends = ends }
 
-  pub covers-turn : (o m : ℕ) → o < n → Covers s n at (at o) o m → m ≡ valence at n (at o) → Turn n s b o m
+  pub covers-turn : (o m : ℕ) → o < n → Covers s at n (at o) o m → m ≡ valence at n (at o) → Turn s b n o m
   covers-turn o zero l cover e = absurd (not-suc-le-zero (cover o l refl .1))
   covers-turn o (suc k) l cover e = places o k l cover (le-of-eq (e ∙ valence-count at n (at o)))
 
-  pub fanBy-means : (p : ℕ) → fanBy s n at p ≡ true → OneTurn n s b at p
+  pub fanBy-means : (p : ℕ) → fanBy s at n p ≡ true → OneTurn s b at n p
   fanBy-means p f =
-      let w = fan-covers s n at p f in
-      let cover : Covers s n at (at (w .0)) (w .0) (valence at n p) = rw (w .2) (w .3) in
+      let w = fan-covers s at n p f in
+      let cover : Covers s at n (at (w .0)) (w .0) (valence at n p) = rw (w .2) (w .3) in
       record {
         first = w .0;
         here = w .2;
@@ -129,28 +129,28 @@ module _ {n : ℕ} {s b : ℕ → ℕ} (g : Turning n s b) (at : ℕ → ℕ) (k
         covers = w .3;
       }
 
-  pub means-fanBy : (p o : ℕ) → at o ≡ p → Turn n s b o (valence at n p) → fanBy s n at p ≡ true
+  pub means-fanBy : (p o : ℕ) → at o ≡ p → Turn s b n o (valence at n p) → fanBy s at n p ≡ true
   means-fanBy p o e t =
       rw e at (fan-turn o (valence at n p) t ∙ eq-eqb (valence at n p) (valence at n (at o)) (ap (valence at n) (sym e)))
 
 -- ---- the fans of a mesh
-module _ {n : ℕ} (at : ℕ → ℕ) (k : Corners n) (simple : Simple n at) where
-  pub fan-turning : Turning n (around (twin at n) n) (backAround (twin at n) n)
+module _ {n : ℕ} (at : ℕ → ℕ) (k : Corners n) (simple : Simple at n) where
+  pub fan-turning : Turning (around (twin at n) n) (backAround (twin at n) n) n
   fan-turning = turning k (twin-paired at k simple)
 
-  pub fan-keeps : Keeps n at (around (twin at n) n)
+  pub fan-keeps : Keeps (around (twin at n) n) at n
   fan-keeps = keeps k (twin-paired at k simple) at (twin-joins at k)
 
   -- it is one closed turn, or one chain from a boundary half-edge to a boundary half-edge, of all the corners at p
-  pub fan-means : (p : ℕ) → fan at n p ≡ true → OneTurn n (around (twin at n) n) (backAround (twin at n) n) at p
+  pub fan-means : (p : ℕ) → fan at n p ≡ true → OneTurn (around (twin at n) n) (backAround (twin at n) n) at n p
   unfolding fan
   fan-means p f = fanBy-means fan-turning at fan-keeps p f
 
-  pub means-fan : (p o : ℕ) → at o ≡ p → Turn n (around (twin at n) n) (backAround (twin at n) n) o (valence at n p) → fan at n p ≡ true
+  pub means-fan : (p o : ℕ) → at o ≡ p → Turn (around (twin at n) n) (backAround (twin at n) n) n o (valence at n p) → fan at n p ≡ true
   unfolding fan
   means-fan p o e t = means-fanBy fan-turning at fan-keeps p o e t
 
-  pub circulated-fan : (c m : ℕ) → Circulated n (twin at n) c m → fan at n (at c) ≡ eqb m (valence at n (at c))
+  pub circulated-fan : (c m : ℕ) → Circulated (twin at n) n c m → fan at n (at c) ≡ eqb m (valence at n (at c))
   unfolding fan
   circulated-fan c m w =
       let here = turn-at fan-turning (w .first) m (w .turn) at fan-keeps (w .steps) (w .few) in
@@ -159,5 +159,5 @@ module _ {n : ℕ} (at : ℕ → ℕ) (k : Corners n) (simple : Simple n at) whe
 
   -- the same with a table of the twins
   pub table-fan : (tw : ℕ → ℕ) → ((c : ℕ) → c < n → tw c ≡ twin at n c)
-      → (c m : ℕ) → Circulated n tw c m → fan at n (at c) ≡ eqb m (valence at n (at c))
+      → (c m : ℕ) → Circulated tw n c m → fan at n (at c) ≡ eqb m (valence at n (at c))
   table-fan tw holds c m w = circulated-fan c m (circulated-ext k holds c m w)

@@ -1,29 +1,29 @@
 -- From the phases of the check to its answer: the first cause met, what the tables say of a cause, and what passed phases give.
-use mathlib.Core.Path.{_≡_, refl, sym, ap, ap₂, _∙_}
+use mathlib.Core.Path.{_≡_, sym, ap, ap₂, _∙_}
 use mathlib.Core.Bool.{Bool, false, not, cond, _&&_, _||_}
 use mathlib.Core.List.{List, [], _++_}
 use mathlib.Core.Option.{Option, none, some}
-use Prim.Native.Nat.{_≤_, _+_, ℕ, zero, suc, _*_, _<_}
+use Prim.Native.Nat.{ℕ, _+_, _*_, _≤_, _<_}
 use native.Mathlib.Nat.{lt-of-lt-of-le}
 use native.Mathlib.Omega.{arith}
 use lib.Dec.{eqb, ltb}
-use lib.ListN.{length, getD}
+use lib.ListN.{getD}
 use borrow.Author.Tests.{eq-eqb, ne-eqb}
 use Rattle.finite.specs.Fold.{anyBelow, countBelow, indicator}
 use Rattle.finite.specs.Filled.{filled}
 use Rattle.finite.proofs.FoldLaws.{bool-cases, fold-ext}
-use Rattle.finite.specs.Table.{Row, firstMet, Answer, result, refusal, answerBy, refusalOf}
-use Rattle.finite.proofs.TableLaws.{refusal-some, met-here, skipped, none-met, orElse, orElse-assoc, first-append, some-append, none-append, append-none}
+use Rattle.finite.specs.Table.{Row, firstMet, result, refusal, answerBy, refusalOf}
+use Rattle.finite.proofs.TableLaws.{refusal-some, met-here, skipped, orElse, orElse-assoc, first-append, some-append, none-append}
 use Rattle.mesh.specs.Limits.{maxVertices, noTwin, cornerTag}
 use Rattle.mesh.specs.Corner.{next}
-use Rattle.mesh.specs.HalfEdge.{twin, edges, boundaries}
+use Rattle.mesh.specs.HalfEdge.{twin, edges, boundaries, Simple}
 use Rattle.mesh.specs.IndexedMesh.{IndexedMesh, corners, at}
-use Rattle.mesh.specs.Refusal.{meshSizesOff, coordinateOff, tagOff, vertexOff, vertexTwice, halfEdgeTwice, valenceBad, entryRows, earlyRows, lateRows}
-use Rattle.mesh.specs.WellFormed.{Sized}
+use Rattle.mesh.specs.Refusal.{meshSizesOff, valenceBad, entryRows, earlyRows, lateRows}
+use Rattle.mesh.specs.WellFormed.{MeshSized}
 use Rattle.mesh.specs.Answer.{countsOf, meshRefusal, meshAnswer, twinsAfter}
-use Rattle.mesh.proofs.SizeLaws.{sizes-false, indices-corners}
+use Rattle.mesh.proofs.SizeLaws.{mesh-sizes-false, sized-indices, indices-corners}
 use Rattle.mesh.proofs.EdgeLaws.{edges-lead, edges-twice}
-use Rattle.mesh.proofs.AcceptedLaws.{vertex-false, twice-false, half-edge-false}
+use Rattle.mesh.proofs.AcceptedLaws.{early-unmet, vertex-false, twice-false, half-edge-false}
 use Rattle.mesh.specs.Tables.{Holds, vertexOf, twinOf, Indices, Counted}
 
 -- ---- what a table by vertex says of a cause, of the first v vertices
@@ -31,11 +31,14 @@ module _ (v : ℕ) (few : v ≤ maxVertices) (valences : List ℕ) (m : ℕ → 
   pub unused-table : anyBelow (λ p. eqb (getD valences p 0) 0) v ≡ anyBelow (λ p. eqb (m p) 0) v
   unused-table = fold-ext false _||_ v (λ p l. ap (λ (x : ℕ). eqb x 0) (h p (lt-of-lt-of-le l few)))
 
-  pub valence-table : (boundary : List Bool) (b : ℕ → Bool) → Holds false boundary maxVertices b → anyBelow (λ p. valenceBad (getD boundary p false) (getD valences p 0)) v ≡ anyBelow (λ p. valenceBad (b p) (m p)) v
+  pub valence-table : (boundary : List Bool) (b : ℕ → Bool) → Holds false boundary maxVertices b
+      → anyBelow (λ p. valenceBad (getD boundary p false) (getD valences p 0)) v ≡ anyBelow (λ p. valenceBad (b p) (m p)) v
   valence-table boundary b k = fold-ext false _||_ v (λ p l. ap₂ valenceBad (k p (lt-of-lt-of-le l few)) (h p (lt-of-lt-of-le l few)))
 
-pub tagged-table : (v : ℕ) → v ≤ maxVertices → (tags : List ℕ) (boundary : List Bool) (b : ℕ → Bool) → Holds false boundary maxVertices b → anyBelow (λ p. eqb (getD tags p 0) cornerTag && not (getD boundary p false)) v ≡ anyBelow (λ p. eqb (getD tags p 0) cornerTag && not (b p)) v
-tagged-table v few tags boundary b k = fold-ext false _||_ v (λ p l. ap (λ (t : Bool). eqb (getD tags p 0) cornerTag && not t) (k p (lt-of-lt-of-le l few)))
+pub tagged-table : (v : ℕ) → v ≤ maxVertices → (tags : List ℕ) (boundary : List Bool) (b : ℕ → Bool) → Holds false boundary maxVertices b
+    → anyBelow (λ p. eqb (getD tags p 0) cornerTag && not (getD boundary p false)) v ≡ anyBelow (λ p. eqb (getD tags p 0) cornerTag && not (b p)) v
+tagged-table v few tags boundary b k =
+    fold-ext false _||_ v (λ p l. ap (λ (t : Bool). eqb (getD tags p 0) cornerTag && not t) (k p (lt-of-lt-of-le l few)))
 
 -- ---- the counts from the list of twins
 module _ {faces twins : List ℕ} {v f : ℕ} (k : Counted faces twins v f) where
@@ -50,33 +53,24 @@ module _ {faces twins : List ℕ} {v f : ℕ} (k : Counted faces twins v f) wher
 
 -- ---- what the early phases give where they meet no cause
 pub record Passed (M : IndexedMesh) : Type 0 where
-  pub sized : Sized (M .vertices) (M .faces) (length (M .positions)) (length (M .tags)) (length (M .indices))
+  pub sized : MeshSized M
   pub indices : Indices (M .indices) (corners M)
   pub named : (c : ℕ) → c < corners M → at M c < M .vertices
-  pub simple : (c d : ℕ) → c < corners M → d < corners M → at M c ≡ at M d → at M (next c) ≡ at M (next d) → c ≡ d
+  pub simple : Simple (at M) (corners M)
   pub ends : (c : ℕ) → c < corners M → at M (next c) ≡ at M c → ⊥
-
--- the face list is one of whole faces
-pub sized-indices : (M : IndexedMesh) → Sized (M .vertices) (M .faces) (length (M .positions)) (length (M .tags)) (length (M .indices)) → ((c : ℕ) → c < corners M → at M c < M .vertices) → Indices (M .indices) (corners M)
-sized-indices M s named = record { whole = omega arith; few = omega arith; listed = omega arith; named = λ c l. lt-of-lt-of-le (named c l) (s .vertices-high) }
 
 pub early-passed : (M : IndexedMesh) (own : List Row) → firstMet (earlyRows M own) ≡ none → (firstMet own ≡ none) × Passed M
 early-passed M own e =
-    let h₁ = none-met (meshSizesOff M) 1 _ e in
-    let h₂ = append-none own (entryRows M) (h₁ .1) in
-    let h₃ = none-met (coordinateOff M) 3 _ (h₂ .1) in
-    let h₄ = none-met (tagOff M) 4 _ (h₃ .1) in
-    let h₅ = none-met (vertexOff M) 5 _ (h₄ .1) in
-    let h₆ = none-met (vertexTwice M) 6 _ (h₅ .1) in
-    let h₇ = none-met (halfEdgeTwice M) 7 _ (h₆ .1) in
-    let s = sizes-false (M .vertices) (M .faces) (length (M .positions)) (length (M .tags)) (length (M .indices)) (h₁ .0) in (
-      h₂ .0,
+    let u = early-unmet M own e in
+    let s = mesh-sizes-false M (u .sizes) in
+    let named = vertex-false M (u .vertex) in (
+      u .rows,
       record {
         sized = s;
-        indices = sized-indices M s (vertex-false M (h₅ .0));
-        named = vertex-false M (h₅ .0);
-        simple = half-edge-false M (h₇ .0);
-        ends = λ c l. twice-false M (h₆ .0) c 0 l (omega arith);
+        indices = sized-indices M s named;
+        named = named;
+        simple = half-edge-false M (u .half-edge);
+        ends = λ c l. twice-false M (u .twice) c 0 l (omega arith);
       },
     )
 
@@ -127,16 +121,21 @@ module _ (M : IndexedMesh) (own own' : List Row) where
   early-alike alike =
       bool-cases (meshSizesOff M)
       (λ e. met-here 1 _ e ∙ sym (met-here 1 _ e))
-      (λ e. skipped 1 _ e ∙ first-append own (entryRows M) ∙ ap (λ (m : Option ℕ). orElse m (firstMet (entryRows M))) (alike e) ∙ sym (skipped 1 _ e ∙ first-append own' (entryRows M)))
+      (λ e.
+      skipped 1 _ e ∙ first-append own (entryRows M)
+      ∙ ap (λ (m : Option ℕ). orElse m (firstMet (entryRows M))) (alike e)
+      ∙ sym (skipped 1 _ e ∙ first-append own' (entryRows M)))
 
-  pub refusal-alike : (meshSizesOff M ≡ false → firstMet own ≡ firstMet own') → (after : List Row) → meshRefusal M own after ≡ meshRefusal M own' after
+  pub refusal-alike : (meshSizesOff M ≡ false → firstMet own ≡ firstMet own') → (after : List Row)
+      → meshRefusal M own after ≡ meshRefusal M own' after
   unfolding meshRefusal
   refusal-alike alike after =
       first-append (earlyRows M own) (lateRows M ++ after)
       ∙ ap (λ (m : Option ℕ). orElse m (firstMet (lateRows M ++ after))) (early-alike alike)
       ∙ sym (first-append (earlyRows M own') (lateRows M ++ after))
 
-  pub twins-alike : (meshSizesOff M ≡ false → firstMet own ≡ firstMet own') → (after : List Row) (d : List ℕ) → twinsAfter M own after d ≡ twinsAfter M own' after d
+  pub twins-alike : (meshSizesOff M ≡ false → firstMet own ≡ firstMet own') → (after : List Row) (d : List ℕ)
+      → twinsAfter M own after d ≡ twinsAfter M own' after d
   unfolding twinsAfter
   twins-alike alike after d = rw (early-alike alike)
 

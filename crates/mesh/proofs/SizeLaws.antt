@@ -3,6 +3,7 @@ use mathlib.Core.Path.{_≡_, sym, ap, _∙_}
 use mathlib.Core.Bool.{Bool, true, false, not, cond, _||_, or-assoc}
 use mathlib.Core.List.{List, []}
 use Prim.Native.Nat.{ℕ, _+_, _-_, _*_, _/_, _≤_, _<_}
+use native.Mathlib.Nat.{lt-of-lt-of-le}
 use native.Mathlib.Omega.{arith}
 use lib.Dec.{eqb, ltb}
 use lib.ListN.{length, take, drop}
@@ -10,8 +11,9 @@ use borrow.Author.Tests.{le-leb, lt-leb, ltb-false, eqb-true, not-false}
 use Rattle.finite.specs.Fold.{foldBelow, anyBelow}
 use Rattle.finite.proofs.AnyAll.{or-false}
 use Rattle.mesh.specs.Limits.{minVertices, maxVertices, minFaces, maxFaces}
-use Rattle.mesh.specs.Refusal.{off, sizesOff}
-use Rattle.mesh.specs.WellFormed.{Sized}
+use Rattle.mesh.specs.IndexedMesh.{IndexedMesh, corners, at}
+use Rattle.mesh.specs.Refusal.{off, sizesOff, meshSizesOff}
+use Rattle.mesh.specs.WellFormed.{Sized, MeshSized}
 use Rattle.mesh.specs.Answer.{faceCorners}
 use Rattle.mesh.specs.Tables.{Corners, Indices}
 
@@ -37,9 +39,21 @@ sizes-false v f positions tags indices e =
       indices-are = eqb-true indices (4 * f) (not-false (eqb indices (4 * f)) (h₄ .1));
     }
 
+pub mesh-sizes-false : (M : IndexedMesh) → meshSizesOff M ≡ false → MeshSized M
+mesh-sizes-false M e = sizes-false (M .vertices) (M .faces) (length (M .positions)) (length (M .tags)) (length (M .indices)) e
+
 -- the corners of a face list are whole faces
 pub indices-corners : {faces : List ℕ} {n : ℕ} → Indices faces n → Corners n
 indices-corners i = record { whole = i .whole; fits = omega arith }
+
+-- a face list of the right size whose vertices are known is one of whole faces
+pub sized-indices : (M : IndexedMesh) → MeshSized M → ((c : ℕ) → c < corners M → at M c < M .vertices) → Indices (M .indices) (corners M)
+sized-indices M s named = record {
+  whole = omega arith;
+  few = omega arith;
+  listed = omega arith;
+  named = λ c l. lt-of-lt-of-le (named c l) (s .vertices-high);
+}
 
 pub any-of-three : (p : ℕ → Bool) → anyBelow p 3 ≡ (p 0 || (p 1 || p 2))
 unfolding foldBelow

@@ -1,7 +1,7 @@
 -- The corners of a turn: they are at one vertex and closed under steps on and back, and a turn of as many corners as its vertex has all of them.
 --
 --   On s o m d           d is one of the m corners from o on
---   Covers s n at p o m  every corner at p is one of the m corners from o on
+--   Covers s at n p o m  every corner at p is one of the m corners from o on
 use mathlib.Core.Path.{_≡_, refl, sym, ap, _∙_, subst}
 use mathlib.Core.Bool.{true}
 use mathlib.Core.Logic.{⊎-elim}
@@ -19,10 +19,10 @@ use Rattle.mesh.specs.Circulation.{Turn}
 abbrev pub On : (ℕ → ℕ) → ℕ → ℕ → ℕ → Type 0
 On s o m d = (i : ℕ) × (i < m) × (iterate s i o ≡ d)
 
-abbrev pub Covers : (ℕ → ℕ) → ℕ → (ℕ → ℕ) → ℕ → ℕ → ℕ → Type 0
-Covers s n at p o m = (d : ℕ) → d < n → at d ≡ p → On s o m d
+abbrev pub Covers : (ℕ → ℕ) → (ℕ → ℕ) → ℕ → ℕ → ℕ → ℕ → Type 0
+Covers s at n p o m = (d : ℕ) → d < n → at d ≡ p → On s o m d
 
-module _ {n : ℕ} {s b : ℕ → ℕ} (g : Turning n s b) (o m : ℕ) (t : Turn n s b o m) where
+module _ {n : ℕ} {s b : ℕ → ℕ} (g : Turning s b n) (o m : ℕ) (t : Turn s b n o m) where
   pub turn-first : o < n
   unfolding iterate
   turn-first = t .inside 0 (t .some)
@@ -67,7 +67,7 @@ module _ {n : ℕ} {s b : ℕ → ℕ} (g : Turning n s b) (o m : ℕ) (t : Turn
       let r : b (s (iterate s j d)) ≡ iterate s j d = g .back (iterate s j d) k h in
       on-from j d l (subst (On s o m) r (on-less (w .0) (s (iterate s j d)) (w .1) (w .2) (rw r k)))
 
-  module _ (at : ℕ → ℕ) (keeps : Keeps n at s) where
+  module _ (at : ℕ → ℕ) (keeps : Keeps s at n) where
     pub turn-at : (i : ℕ) → i < m → at (iterate s i o) ≡ at o
     unfolding iterate
     turn-at zero l = refl
@@ -82,13 +82,13 @@ module _ {n : ℕ} {s b : ℕ → ℕ} (g : Turning n s b) (o m : ℕ) (t : Turn
     turn-le = rw valence-count (at-least (λ d. eqb (at d) (at o)) n m (λ i. iterate s i o) (t .inside) has (t .apart))
 
     -- where it has as many, it has them all
-    pub turn-covers : m ≡ valence at n (at o) → Covers s n at (at o) o m
+    pub turn-covers : m ≡ valence at n (at o) → Covers s at n (at o) o m
     turn-covers e d l q =
         pigeons (λ d. eqb (at d) (at o)) n m (λ i. iterate s i o) (t .inside) has (t .apart)
         (sym (e ∙ valence-count at n (at o))) d l (eq-eqb (at d) (at o) q)
 
     -- where any steps from one corner cover the vertex, the turn has as many
-    pub turn-full : (c k : ℕ) → c < n → Covers s n at (at o) c k → m ≡ valence at n (at o)
+    pub turn-full : (c k : ℕ) → c < n → Covers s at n (at o) c k → m ≡ valence at n (at o)
     unfolding iterate
     turn-full c k lc cover =
         let first = cover o turn-first refl in

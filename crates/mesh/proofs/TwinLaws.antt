@@ -11,22 +11,24 @@ use Rattle.finite.proofs.AnyAll.{and-true, any-false, any-none}
 use Rattle.finite.proofs.Least.{least-cases}
 use Rattle.mesh.specs.Limits.{noTwin}
 use Rattle.mesh.specs.Corner.{next}
-use Rattle.mesh.specs.HalfEdge.{isTwin, twin, sameWay, doubled, Simple}
+use Rattle.mesh.specs.HalfEdge.{runs, isTwin, twin, sameWay, doubled, Simple}
 use Rattle.mesh.proofs.CornerLaws.{not-none}
 use Rattle.mesh.specs.Tables.{Corners}
 use Rattle.mesh.specs.Circulation.{Paired}
 
 -- a twin starts where its half-edge ends
-abbrev pub Joins : ℕ → (ℕ → ℕ) → (ℕ → ℕ) → Type 0
-Joins n at tw = (c : ℕ) → c < n → tw c < n → at (tw c) ≡ at (next c)
+abbrev pub Joins : (ℕ → ℕ) → (ℕ → ℕ) → ℕ → Type 0
+Joins tw at n = (c : ℕ) → c < n → tw c < n → at (tw c) ≡ at (next c)
 
-both : (a b c d : ℕ) → (eqb a b && eqb c d) ≡ true → (a ≡ b) × (c ≡ d)
-both a b c d e = let p = and-true (eqb a b) (eqb c d) e in (eqb-true a b (p .0), eqb-true c d (p .1))
+-- from which vertex to which a half-edge runs
+module _ (at : ℕ → ℕ) (p q c : ℕ) where
+  pub runs-ends : runs at p q c ≡ true → (at c ≡ p) × (at (next c) ≡ q)
+  runs-ends e = let w = and-true (eqb (at c) p) (eqb (at (next c)) q) e in (eqb-true (at c) p (w .0), eqb-true (at (next c)) q (w .1))
 
-both-eqb : (a b c d : ℕ) → a ≡ b → c ≡ d → (eqb a b && eqb c d) ≡ true
-both-eqb a b c d p q = ap₂ _&&_ (eq-eqb a b p) (eq-eqb c d q)
+  pub runs-so : at c ≡ p → at (next c) ≡ q → runs at p q c ≡ true
+  runs-so a b = ap₂ _&&_ (eq-eqb (at c) p a) (eq-eqb (at (next c)) q b)
 
-module _ (n : ℕ) (at : ℕ → ℕ) (c : ℕ) where
+module _ (at : ℕ → ℕ) (n c : ℕ) where
   -- a half-edge has a twin, which joins its vertices the other way, or no half-edge does
   pub twin-cases : ((twin at n c < n) × (at (twin at n c) ≡ at (next c)) × (at (next (twin at n c)) ≡ at c))
       ⊎ ((twin at n c ≡ noTwin) × ((d : ℕ) → d < n → at d ≡ at (next c) → at (next d) ≡ at c → ⊥))
@@ -34,34 +36,34 @@ module _ (n : ℕ) (at : ℕ → ℕ) (c : ℕ) where
   twin-cases =
       ⊎-elim
       (λ w.
-      let p = both (at (w .0)) (at (next c)) (at (next (w .0))) (at c) (w .3) in
+      let p = runs-ends at (at (next c)) (at c) (w .0) (w .3) in
       inl (rw (w .1) (w .2), rw (w .1) (p .0), rw (w .1) (p .1)))
-      (λ w. inr (rw (w .0), λ d l p q. true≢false (sym (both-eqb (at d) (at (next c)) (at (next d)) (at c) p q) ∙ w .1 d l)))
+      (λ w. inr (rw (w .0), λ d l p q. true≢false (sym (runs-so at (at (next c)) (at c) d p q) ∙ w .1 d l)))
       (least-cases (isTwin at c) n)
 
   pub twin-ends : Corners n → twin at n c < n → (at (twin at n c) ≡ at (next c)) × (at (next (twin at n c)) ≡ at c)
   twin-ends k l = ⊎-elim (λ w. (w .1, w .2)) (λ w. absurd (not-none k (twin at n c) l (w .0))) twin-cases
 
-pub twin-joins : {n : ℕ} (at : ℕ → ℕ) → Corners n → Joins n at (twin at n)
-twin-joins {n} at k c l t = twin-ends n at c k t .0
+pub twin-joins : {n : ℕ} (at : ℕ → ℕ) → Corners n → Joins (twin at n) at n
+twin-joins {n} at k c l t = twin-ends at n c k t .0
 
 -- what joins the vertices of c the other way is its twin
-pub twin-is : {n : ℕ} (at : ℕ → ℕ) → Simple n at → (c d : ℕ) → d < n → at d ≡ at (next c) → at (next d) ≡ at c → twin at n c ≡ d
+pub twin-is : {n : ℕ} (at : ℕ → ℕ) → Simple at n → (c d : ℕ) → d < n → at d ≡ at (next c) → at (next d) ≡ at c → twin at n c ≡ d
 twin-is {n} at simple c d l p q =
     ⊎-elim
     (λ w. simple (twin at n c) d (w .0) l (w .1 ∙ sym p) (w .2 ∙ sym q))
     (λ w. absurd (w .1 d l p q))
-    (twin-cases n at c)
+    (twin-cases at n c)
 
-module _ {n : ℕ} (at : ℕ → ℕ) (k : Corners n) (simple : Simple n at) where
+module _ {n : ℕ} (at : ℕ → ℕ) (k : Corners n) (simple : Simple at n) where
   pub twin-twin : (c : ℕ) → c < n → twin at n c < n → twin at n (twin at n c) ≡ c
-  twin-twin c l t = let e = twin-ends n at c k t in twin-is at simple (twin at n c) c l (sym (e .1)) (sym (e .0))
+  twin-twin c l t = let e = twin-ends at n c k t in twin-is at simple (twin at n c) c l (sym (e .1)) (sym (e .0))
 
-  pub twin-paired : Paired n (twin at n)
-  twin-paired = record { pairs = λ c l. ⊎-elim (λ w. inr (w .0, twin-twin c l (w .0))) (λ w. inl (w .0)) (twin-cases n at c) }
+  pub twin-paired : Paired (twin at n) n
+  twin-paired = record { pairs = λ c l. ⊎-elim (λ w. inr (w .0, twin-twin c l (w .0))) (λ w. inl (w .0)) (twin-cases at n c) }
 
 -- a table of twins that come in pairs
-pub paired-ext : {n : ℕ} (tw : ℕ → ℕ) {tw′ : ℕ → ℕ} → ((c : ℕ) → c < n → tw c ≡ tw′ c) → Paired n tw′ → Paired n tw
+pub paired-ext : {n : ℕ} (tw : ℕ → ℕ) {tw′ : ℕ → ℕ} → ((c : ℕ) → c < n → tw c ≡ tw′ c) → Paired tw′ n → Paired tw n
 paired-ext tw same p = record {
   pairs = λ c l.
       ⊎-elim
@@ -74,21 +76,21 @@ paired-ext tw same p = record {
 abbrev again : (ℕ → ℕ) → ℕ → ℕ → Bool
 again at c d = not (eqb d c) && sameWay at c d
 
-pub doubled-simple : (n : ℕ) (at : ℕ → ℕ) → doubled at n ≡ false → Simple n at
+pub doubled-simple : (at : ℕ → ℕ) (n : ℕ) → doubled at n ≡ false → Simple at n
 unfolding doubled sameWay
-doubled-simple n at e c d lc ld p q =
+doubled-simple at n e c d lc ld p q =
     bool-cases (eqb d c)
     (λ t. sym (eqb-true d c t))
     (λ t.
     let miss = any-false (again at c) n (any-false (λ c. anyBelow (again at c) n) n e c lc) d ld in
-    let hit = ap₂ _&&_ (ap not t) (both-eqb (at d) (at c) (at (next d)) (at (next c)) (sym p) (sym q)) in
+    let hit = ap₂ _&&_ (ap not t) (runs-so at (at c) (at (next c)) d (sym p) (sym q)) in
     absurd (true≢false (sym hit ∙ miss)))
 
-pub simple-doubled : (n : ℕ) (at : ℕ → ℕ) → Simple n at → doubled at n ≡ false
+pub simple-doubled : (at : ℕ → ℕ) (n : ℕ) → Simple at n → doubled at n ≡ false
 unfolding doubled sameWay
-simple-doubled n at simple =
+simple-doubled at n simple =
     any-none (λ c. anyBelow (again at c) n) n (λ c lc.
     any-none (again at c) n (λ d ld.
     bool-cases (sameWay at c d)
-    (λ t. let w = both (at d) (at c) (at (next d)) (at (next c)) t in rw (eq-eqb d c (simple d c ld lc (w .0) (w .1))))
+    (λ t. let w = runs-ends at (at c) (at (next c)) d t in rw (eq-eqb d c (simple d c ld lc (w .0) (w .1))))
     (λ t. rw t (and-false (not (eqb d c))))))

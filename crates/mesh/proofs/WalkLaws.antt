@@ -1,9 +1,9 @@
 -- What circulating about a vertex has met: on from its start while it neither ends nor is back there, and then back from the start.
 --
---   Walk n s o m            m corners from o on, of which none after the first is o again
---   Chain n s start o m     m corners from o on, the last with no step on, and start among them
---   Onward n tw start met on       the loop on from start: a walk of met corners, and `on` the one after them
---   Backward n tw start met back   the loop back from start: a chain of met corners, and `back` the one before them
+--   Walk s n o m            m corners from o on, of which none after the first is o again
+--   Chain s n start o m     m corners from o on, the last with no step on, and start among them
+--   Onward tw n start met on       the loop on from start: a walk of met corners, and `on` the one after them
+--   Backward tw n start met back   the loop back from start: a chain of met corners, and `back` the one before them
 use mathlib.Core.Path.{_≡_, refl, sym, ap, _∙_}
 use mathlib.Core.Bool.{true}
 use mathlib.Core.Logic.{inl, inr, ⊎-elim}
@@ -22,12 +22,12 @@ use Rattle.mesh.proofs.TurnLaws.{On}
 use Rattle.mesh.specs.Tables.{Corners}
 use Rattle.mesh.specs.Circulation.{Paired, backAround, Turn, Circulated}
 
-pub record Walk (n : ℕ) (s : ℕ → ℕ) (o m : ℕ) : Type 0 where
+pub record Walk (s : ℕ → ℕ) (n o m : ℕ) : Type 0 where
   pub some : 0 < m
   pub inside : (i : ℕ) → i < m → iterate s i o < n
   pub away : (i : ℕ) → suc i < m → iterate s (suc i) o ≡ o → ⊥
 
-pub record Chain (n : ℕ) (s : ℕ → ℕ) (start o m : ℕ) : Type 0 where
+pub record Chain (s : ℕ → ℕ) (n start o m : ℕ) : Type 0 where
   pub some : 0 < m
   pub inside : (i : ℕ) → i < m → iterate s i o < n
   pub over : iterate s m o ≡ noTwin
@@ -52,9 +52,9 @@ ordered m e never i j a k q =
 short : (n m : ℕ) (e : ℕ → ℕ) → ((i : ℕ) → i < m → e i < n) → ((i j : ℕ) → i < m → j < m → e i ≡ e j → i ≡ j) → m ≤ n
 short n m e below apart = rw sum-ones at (at-least (λ d. true) n m e below (λ i l. refl) apart)
 
-module _ {n : ℕ} {s b : ℕ → ℕ} (g : Turning n s b) where
+module _ {n : ℕ} {s b : ℕ → ℕ} (g : Turning s b n) where
   -- ---- on
-  walk-start : (o : ℕ) → o < n → Walk n s o 1
+  walk-start : (o : ℕ) → o < n → Walk s n o 1
   unfolding iterate
   walk-start o l = record {
     some = omega arith;
@@ -62,7 +62,7 @@ module _ {n : ℕ} {s b : ℕ → ℕ} (g : Turning n s b) where
     away = λ i k. absurd (omega arith);
   }
 
-  walk-more : (o m : ℕ) → Walk n s o m → iterate s m o < n → (iterate s m o ≡ o → ⊥) → Walk n s o (suc m)
+  walk-more : (o m : ℕ) → Walk s n o m → iterate s m o < n → (iterate s m o ≡ o → ⊥) → Walk s n o (suc m)
   walk-more o m w l a = record {
     some = omega arith;
     inside = λ i k. lt-suc-cases k (λ e. rw e l) (w .inside i);
@@ -70,7 +70,7 @@ module _ {n : ℕ} {s b : ℕ → ℕ} (g : Turning n s b) where
   }
 
   -- the first corner that a walk meets again is its start
-  walk-away : (o m : ℕ) → Walk n s o m → (i d : ℕ) → i + suc d < m → iterate s i o ≡ iterate s (i + suc d) o → ⊥
+  walk-away : (o m : ℕ) → Walk s n o m → (i d : ℕ) → i + suc d < m → iterate s i o ≡ iterate s (i + suc d) o → ⊥
   unfolding iterate
   walk-away o m w zero d l e = w .away d (omega arith) (rw zero-add at (sym e))
   walk-away o m w (suc i) d l e =
@@ -78,18 +78,18 @@ module _ {n : ℕ} {s b : ℕ → ℕ} (g : Turning n s b) where
       (step-injective g (iterate s i o) (iterate s (i + suc d) o) (w .inside i (omega arith)) (w .inside (i + suc d) (omega arith))
       (rw suc-add at e) (w .inside (suc i) (omega arith)))
 
-  walk-apart : (o m : ℕ) → Walk n s o m → (i j : ℕ) → i < m → j < m → iterate s i o ≡ iterate s j o → i ≡ j
+  walk-apart : (o m : ℕ) → Walk s n o m → (i j : ℕ) → i < m → j < m → iterate s i o ≡ iterate s j o → i ≡ j
   walk-apart o m w = ordered m (λ i. iterate s i o) (walk-away o m w)
 
-  walk-short : (o m : ℕ) → Walk n s o m → m ≤ n
+  walk-short : (o m : ℕ) → Walk s n o m → m ≤ n
   walk-short o m w = short n m (λ i. iterate s i o) (w .inside) (walk-apart o m w)
 
   -- it is back: a closed turn
-  walk-closed : (o m : ℕ) → Walk n s o m → iterate s m o ≡ o → Turn n s b o m
+  walk-closed : (o m : ℕ) → Walk s n o m → iterate s m o ≡ o → Turn s b n o m
   walk-closed o m w e = record { some = w .some; inside = w .inside; apart = walk-apart o m w; ends = inl e }
 
   -- ---- back
-  chain-more : (start o m : ℕ) → Chain n s start o m → b o < n → Chain n s start (b o) (suc m)
+  chain-more : (start o m : ℕ) → Chain s n start o m → b o < n → Chain s n start (b o) (suc m)
   unfolding iterate
   chain-more start o m c l =
       let w = c .through in
@@ -103,7 +103,7 @@ module _ {n : ℕ} {s b : ℕ → ℕ} (g : Turning n s b) where
       inside (suc i) k = rw (shift i) (c .inside i (omega arith))
 
   -- a chain that met a corner again would never end
-  chain-away : (start o m : ℕ) → Chain n s start o m → (i d : ℕ) → i + suc d < m → iterate s i o ≡ iterate s (i + suc d) o → ⊥
+  chain-away : (start o m : ℕ) → Chain s n start o m → (i d : ℕ) → i + suc d < m → iterate s i o ≡ iterate s (i + suc d) o → ⊥
   chain-away start o m c i d l e =
       let r = m - (i + suc d) in
       let sum : r + (i + suc d) ≡ m = omega arith in
@@ -111,38 +111,38 @@ module _ {n : ℕ} {s b : ℕ → ℕ} (g : Turning n s b) where
       let early : iterate s (r + i) o ≡ noTwin = iterate-add s r i o ∙ ap (iterate s r) e ∙ sym (iterate-add s r (i + suc d) o) ∙ late in
       omega (arith, c .inside (r + i) (omega arith), early, g .few)
 
-  chain-apart : (start o m : ℕ) → Chain n s start o m → (i j : ℕ) → i < m → j < m → iterate s i o ≡ iterate s j o → i ≡ j
+  chain-apart : (start o m : ℕ) → Chain s n start o m → (i j : ℕ) → i < m → j < m → iterate s i o ≡ iterate s j o → i ≡ j
   chain-apart start o m c = ordered m (λ i. iterate s i o) (chain-away start o m c)
 
-  chain-short : (start o m : ℕ) → Chain n s start o m → m ≤ n
+  chain-short : (start o m : ℕ) → Chain s n start o m → m ≤ n
   chain-short start o m c = short n m (λ i. iterate s i o) (c .inside) (chain-apart start o m c)
 
-  chain-turn : (start o m : ℕ) → Chain n s start o m → b o ≡ noTwin → Turn n s b o m
+  chain-turn : (start o m : ℕ) → Chain s n start o m → b o ≡ noTwin → Turn s b n o m
   chain-turn start o m c e =
       record { some = c .some; inside = c .inside; apart = chain-apart start o m c; ends = inr (c .over, e) }
 
 -- ---- the two loops
-pub record Onward (n : ℕ) (tw : ℕ → ℕ) (start met on : ℕ) : Type 0 where
-  pub walk : Walk n (around tw n) start met
+pub record Onward (tw : ℕ → ℕ) (n start met on : ℕ) : Type 0 where
+  pub walk : Walk (around tw n) n start met
   pub here : on ≡ iterate (around tw n) met start
   pub short : met ≤ n
 
-pub record Backward (n : ℕ) (tw : ℕ → ℕ) (start met back : ℕ) : Type 0 where
+pub record Backward (tw : ℕ → ℕ) (n start met back : ℕ) : Type 0 where
   pub first : ℕ
-  pub chain : Chain n (around tw n) start first met
+  pub chain : Chain (around tw n) n start first met
   pub here : back ≡ backAround tw n first
   pub short : met ≤ n
 
-module _ {n : ℕ} {tw : ℕ → ℕ} (k : Corners n) (p : Paired n tw) (start : ℕ) (l : start < n) where
-  pub onward-start : (on : ℕ) → on ≡ around tw n start → Onward n tw start 1 on
+module _ {n : ℕ} {tw : ℕ → ℕ} (k : Corners n) (p : Paired tw n) (start : ℕ) (l : start < n) where
+  pub onward-start : (on : ℕ) → on ≡ around tw n start → Onward tw n start 1 on
   unfolding iterate
   onward-start on e = record { walk = walk-start (turning k p) start l; here = e; short = omega arith }
 
-  pub onward-in : (met on : ℕ) → Onward n tw start met on → (on ≡ noTwin → ⊥) → on < n
+  pub onward-in : (met on : ℕ) → Onward tw n start met on → (on ≡ noTwin → ⊥) → on < n
   onward-in met on w h = ⊎-elim (λ e. absurd (h (w .here ∙ e))) (λ q. rw (w .here) q) (reach (turning k p) met start l)
 
-  pub onward-more : (met on on′ : ℕ) → Onward n tw start met on → (on ≡ noTwin → ⊥) → (on ≡ start → ⊥)
-      → on′ ≡ around tw n on → Onward n tw start (met + 1) on′
+  pub onward-more : (met on on′ : ℕ) → Onward tw n start met on → (on ≡ noTwin → ⊥) → (on ≡ start → ⊥)
+      → on′ ≡ around tw n on → Onward tw n start (met + 1) on′
   unfolding iterate
   onward-more met on on′ w h a e =
       let more = walk-more (turning k p) start met (w .walk) (rw (w .here) at (onward-in met on w h)) (λ q. a (w .here ∙ q)) in
@@ -152,11 +152,11 @@ module _ {n : ℕ} {tw : ℕ → ℕ} (k : Corners n) (p : Paired n tw) (start :
         short = walk-short (turning k p) start (suc met) more;
       })
 
-  pub onward-less : (met on : ℕ) → Onward n tw start met on → (on ≡ noTwin → ⊥) → (on ≡ start → ⊥) → n - (met + 1) < n - met
+  pub onward-less : (met on : ℕ) → Onward tw n start met on → (on ≡ noTwin → ⊥) → (on ≡ start → ⊥) → n - (met + 1) < n - met
   onward-less met on w h a = omega (arith, onward-more met on (around tw n on) w h a refl .short)
 
   -- it is back at its start
-  pub onward-end : (met on : ℕ) → Onward n tw start met on → on ≡ start → Circulated n tw start met
+  pub onward-end : (met on : ℕ) → Onward tw n start met on → on ≡ start → Circulated tw n start met
   unfolding iterate
   onward-end met on w e =
       record {
@@ -167,8 +167,8 @@ module _ {n : ℕ} {tw : ℕ → ℕ} (k : Corners n) (p : Paired n tw) (start :
         through = refl;
       }
 
-  pub backward-start : (met on back : ℕ) → Onward n tw start met on → on ≡ noTwin
-      → back ≡ backAround tw n start → Backward n tw start met back
+  pub backward-start : (met on back : ℕ) → Onward tw n start met on → on ≡ noTwin
+      → back ≡ backAround tw n start → Backward tw n start met back
   unfolding iterate
   backward-start met on back w e q =
       let v = w .walk in
@@ -179,13 +179,13 @@ module _ {n : ℕ} {tw : ℕ → ℕ} (k : Corners n) (p : Paired n tw) (start :
         short = w .short;
       }
 
-  pub backward-in : (met back : ℕ) → Backward n tw start met back → (back ≡ noTwin → ⊥) → back < n
+  pub backward-in : (met back : ℕ) → Backward tw n start met back → (back ≡ noTwin → ⊥) → back < n
   unfolding iterate
   backward-in met back w h =
       ⊎-elim (λ e. absurd (h (w .here ∙ e))) (λ q. rw (w .here) q) (turning k p .off (w .first) (w .chain .inside 0 (w .chain .some)))
 
-  pub backward-more : (met back back′ : ℕ) → Backward n tw start met back → (back ≡ noTwin → ⊥)
-      → back′ ≡ backAround tw n back → Backward n tw start (met + 1) back′
+  pub backward-more : (met back back′ : ℕ) → Backward tw n start met back → (back ≡ noTwin → ⊥)
+      → back′ ≡ backAround tw n back → Backward tw n start (met + 1) back′
   backward-more met back back′ w h e =
       let more = chain-more (turning k p) start (w .first) met (w .chain) (rw (w .here) at (backward-in met back w h)) in
       rw add-one (record {
@@ -195,11 +195,11 @@ module _ {n : ℕ} {tw : ℕ → ℕ} (k : Corners n) (p : Paired n tw) (start :
         short = chain-short (turning k p) start (backAround tw n (w .first)) (suc met) more;
       })
 
-  pub backward-less : (met back : ℕ) → Backward n tw start met back → (back ≡ noTwin → ⊥) → n - (met + 1) < n - met
+  pub backward-less : (met back : ℕ) → Backward tw n start met back → (back ≡ noTwin → ⊥) → n - (met + 1) < n - met
   backward-less met back w h = omega (arith, backward-more met back (backAround tw n back) w h refl .short)
 
   -- nothing is before the first corner
-  pub backward-end : (met back : ℕ) → Backward n tw start met back → back ≡ noTwin → Circulated n tw start met
+  pub backward-end : (met back : ℕ) → Backward tw n start met back → back ≡ noTwin → Circulated tw n start met
   backward-end met back w e =
       let v = w .chain .through in
       record {

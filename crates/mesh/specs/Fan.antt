@@ -37,8 +37,8 @@ iterate s zero c = c
 iterate s (suc i) c = s (iterate s i c)
 
 -- the same for any step s about a vertex
-unfoldable pub fanBy : (ℕ → ℕ) → ℕ → (ℕ → ℕ) → ℕ → Bool
-fanBy s n at p = anyAt at n p (λ c. allAt at n p (λ d. anyBelow (λ i. eqb (iterate s i c) d) (valence at n p)))
+unfoldable pub fanBy : (ℕ → ℕ) → (ℕ → ℕ) → ℕ → ℕ → Bool
+fanBy s at n p = anyAt at n p (λ c. allAt at n p (λ d. anyBelow (λ i. eqb (iterate s i c) d) (valence at n p)))
 
 unfoldable pub fan : (ℕ → ℕ) → ℕ → ℕ → Bool
-fan at n p = fanBy (around (twin at n) n) n at p
+fan at n p = fanBy (around (twin at n) n) at n p

@@ -10,7 +10,7 @@
 --   joins at p q c   half-edge c joins the vertices p and q, one way or the other
 --   edges at n v     E: "E counts unordered pairs of vertices joined by a side", of the vertices below v
 --   boundaries at n  B: "B counts rim sides"
---   Simple n at      no half-edge occurs twice the same way round: `doubled at n` is false
+--   Simple at n      no half-edge occurs twice the same way round: `doubled at n` is false
 use mathlib.Core.Path.{_≡_}
 use mathlib.Core.Bool.{Bool, not, _&&_, _||_}
 use mathlib.Core.Option.{Option·getD}
@@ -48,5 +48,5 @@ edges at n v = sumBelow (λ q. countBelow (λ p. anyBelow (joins at p q) n) q) v
 unfoldable pub boundaries : (ℕ → ℕ) → ℕ → ℕ
 boundaries at n = countBelow (boundary at n) n
 
-abbrev pub Simple : ℕ → (ℕ → ℕ) → Type 0
-Simple n at = (c d : ℕ) → c < n → d < n → at c ≡ at d → at (next c) ≡ at (next d) → c ≡ d
+abbrev pub Simple : (ℕ → ℕ) → ℕ → Type 0
+Simple at n = (c d : ℕ) → c < n → d < n → at c ≡ at d → at (next c) ≡ at (next d) → c ≡ d

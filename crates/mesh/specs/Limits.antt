@@ -2,7 +2,7 @@
 --
 -- "A mesh has V vertices (4 to 512) and F faces (1 to 256)." "each from -1,048,576 to 1,048,576."
 -- "An inner vertex has n from 3 to 16, a rim vertex k from 1 to 8." "65535 for a rim side".
-use Prim.Native.Nat.{ℕ, _*_}
+use Prim.Native.Nat.{ℕ}
 
 abbrev pub minVertices : ℕ
 minVertices = 4

@@ -10,7 +10,8 @@ use lib.IntN.{natAbs}
 use lib.ListN.{length}
 use Rattle.finite.specs.Fold.{anyBelow}
 use Rattle.finite.specs.Table.{Row, row, firstMet}
-use Rattle.mesh.specs.Limits.{minVertices, maxVertices, minFaces, maxFaces, maxCoordinate, minValence, maxValence, minBoundaryFaces, maxBoundaryFaces, cornerTag}
+use Rattle.mesh.specs.Limits.{minVertices, maxVertices, minFaces, maxFaces, maxCoordinate, cornerTag}
+use Rattle.mesh.specs.Limits.{minValence, maxValence, minBoundaryFaces, maxBoundaryFaces}
 use Rattle.mesh.specs.Corner.{turn}
 use Rattle.mesh.specs.HalfEdge.{doubled}
 use Rattle.mesh.specs.Fan.{valence, onBoundary, fan}

@@ -48,7 +48,7 @@ pub record Indices (faces : List ℕ) (n : ℕ) : Type 0 where
 pub record Counted (faces twins : List ℕ) (v f : ℕ) : Type 0 where
   pub indices : Indices faces (4 * f)
   pub named : (c : ℕ) → c < 4 * f → vertexOf faces c < v
-  pub simple : Simple (4 * f) (vertexOf faces)
+  pub simple : Simple (vertexOf faces) (4 * f)
   pub ends : (c : ℕ) → c < 4 * f → vertexOf faces (next c) ≡ vertexOf faces c → ⊥
   pub twins-listed : 4 * f ≤ length twins
   pub twins-are : Holds 0 twins (4 * f) (twin (vertexOf faces) (4 * f))

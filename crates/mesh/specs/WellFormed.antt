@@ -5,7 +5,8 @@ use mathlib.Core.Bool.{true, false}
 use Prim.Native.Nat.{ℕ, suc, _*_, _≤_, _<_}
 use lib.IntN.{natAbs}
 use lib.ListN.{length}
-use Rattle.mesh.specs.Limits.{minVertices, maxVertices, minFaces, maxFaces, maxCoordinate, minValence, maxValence, minBoundaryFaces, maxBoundaryFaces, cornerTag}
+use Rattle.mesh.specs.Limits.{minVertices, maxVertices, minFaces, maxFaces, maxCoordinate, cornerTag}
+use Rattle.mesh.specs.Limits.{minValence, maxValence, minBoundaryFaces, maxBoundaryFaces}
 use Rattle.mesh.specs.Corner.{turn}
 use Rattle.mesh.specs.HalfEdge.{Simple}
 use Rattle.mesh.specs.Fan.{valence, onBoundary, fan}
@@ -21,13 +22,16 @@ pub record Sized (v f positions tags indices : ℕ) : Type 0 where
   pub tags-are : tags ≡ v
   pub indices-are : indices ≡ 4 * f
 
+abbrev pub MeshSized : IndexedMesh → Type 0
+MeshSized M = Sized (M .vertices) (M .faces) (length (M .positions)) (length (M .tags)) (length (M .indices))
+
 pub record WellFormed (M : IndexedMesh) : Type 0 where
-  pub sized : Sized (M .vertices) (M .faces) (length (M .positions)) (length (M .tags)) (length (M .indices))
+  pub sized : MeshSized M
   pub coordinates : (i : ℕ) → i < 3 * M .vertices → natAbs (coordinate M i) ≤ maxCoordinate
   pub tags-known : (p : ℕ) → p < M .vertices → tag M p ≤ cornerTag
   pub named : (c : ℕ) → c < corners M → at M c < M .vertices
   pub distinct : (c i : ℕ) → c < corners M → i < 3 → at M (turn (suc i) c) ≡ at M c → ⊥
-  pub simple : Simple (corners M) (at M)
+  pub simple : Simple (at M) (corners M)
   pub used : (p : ℕ) → p < M .vertices → 0 < valence (at M) (corners M) p
   pub fans : (p : ℕ) → p < M .vertices → fan (at M) (corners M) p ≡ true
   pub inner-low : (p : ℕ) → p < M .vertices → onBoundary (at M) (corners M) p ≡ false → minValence ≤ valence (at M) (corners M) p

@@ -67,7 +67,7 @@ pub(crate) fn link_corners(faces: &[u16], n: usize, head: &mut [u16], link: &mut
 fn twin_of(faces: &[u16], n: usize, head: &[u16], link: &[u16], c: usize) -> u16
     requires { ⌜ Indices (now faces) n × (c < n) × (maxVertices ≤ length (now head)) × (n ≤ length (now link)) ⌝ }
     requires { ⌜ Chained (vertexOf (now faces)) n (now head) (now link) ⌝ }
-    requires { ⌜ Simple n (vertexOf (now faces)) ⌝ }
+    requires { ⌜ Simple (vertexOf (now faces)) n ⌝ }
     ensures { λ r. ⌜ r ≡ twin (vertexOf (now (faces .entry))) n c ⌝ }
 {
     let p = wide(faces[next_corner(c)]);
@@ -83,7 +83,7 @@ fn twin_of(faces: &[u16], n: usize, head: &[u16], link: &[u16], c: usize) -> u16
 pub(crate) fn fill_twins(faces: &[u16], n: usize, head: &[u16], link: &[u16], twins: &mut [u16])
     requires { ⌜ Indices (now faces) n × (maxVertices ≤ length (now head)) × (n ≤ length (now link)) × (n ≤ length (now twins)) ⌝ }
     requires { ⌜ Chained (vertexOf (now faces)) n (now head) (now link) ⌝ }
-    requires { ⌜ Simple n (vertexOf (now faces)) ⌝ }
+    requires { ⌜ Simple (vertexOf (now faces)) n ⌝ }
     ensures { λ _. ⌜ now (twins .exit) ≡ filled (twin (vertexOf (now (faces .entry))) n) n (now (twins .entry)) ⌝ }
 {
     for c in 0..n {

@@ -42,8 +42,8 @@ fn back_around_from(twins: &[u16], n: usize, c: usize) -> usize
 // How many corners circulating about the vertex of start meets: on from start until it returns there or ends at the boundary,
 // and in the latter case back from start too.
 fn circulate(twins: &[u16], n: usize, start: usize) -> usize
-    requires { ⌜ (n ≤ length (now twins)) × (start < n) × Corners n × Paired n (twinOf (now twins)) ⌝ }
-    ensures { λ r. ⌜ Circulated n (twinOf (now (twins .entry))) start r ⌝ }
+    requires { ⌜ (n ≤ length (now twins)) × (start < n) × Corners n × Paired (twinOf (now twins)) n ⌝ }
+    ensures { λ r. ⌜ Circulated (twinOf (now (twins .entry))) n start r ⌝ }
 {
     let mut met = 1;
     let mut on = around_from(twins, n, start);
@@ -64,7 +64,7 @@ fn circulate(twins: &[u16], n: usize, start: usize) -> usize
 
 // Whether the corners at the vertex of start form neither one closed turn nor one chain.
 fn fan_broken(faces: &[u16], n: usize, twins: &[u16], valences: &[u16], start: usize) -> bool
-    requires { ⌜ Indices (now faces) n × Simple n (vertexOf (now faces)) × (start < n) ⌝ }
+    requires { ⌜ Indices (now faces) n × Simple (vertexOf (now faces)) n × (start < n) ⌝ }
     requires { ⌜ (n ≤ length (now twins)) × (maxVertices ≤ length (now valences)) ⌝ }
     requires { ⌜ Holds 0 (now twins) n (twin (vertexOf (now faces)) n) ⌝ }
     requires { ⌜ Holds 0 (now valences) maxVertices (valence (vertexOf (now faces)) n) ⌝ }
@@ -84,7 +84,7 @@ pub(crate) fn any_fan_broken(
     valences: &[u16],
     head: &[u16],
 ) -> bool
-    requires { ⌜ Indices (now faces) n × Simple n (vertexOf (now faces)) × (v ≤ maxVertices) ⌝ }
+    requires { ⌜ Indices (now faces) n × Simple (vertexOf (now faces)) n × (v ≤ maxVertices) ⌝ }
     requires { ⌜ (n ≤ length (now twins)) × (maxVertices ≤ length (now valences)) × (maxVertices ≤ length (now head)) ⌝ }
     requires { ⌜ Holds 0 (now twins) n (twin (vertexOf (now faces)) n) ⌝ }
     requires { ⌜ Holds 0 (now valences) maxVertices (valence (vertexOf (now faces)) n) ⌝ }

@@ -51,7 +51,8 @@ pub fn check(
     faces: &[u16],
     twins: &mut [u16],
 ) -> Checked
-    ensures { λ r. ⌜ (let M = indexed v f (now (positions .entry)) (now (tags .entry)) (now (faces .entry)) in MeshChecked M (lentRows M (now (twins .entry))) (now (twins .entry)) r (now (twins .exit))) ⌝ }
+    ensures { λ r. ⌜ (let M = indexed v f (now (positions .entry)) (now (tags .entry)) (now (faces .entry)) in
+        MeshChecked M (lentRows M (now (twins .entry))) (now (twins .entry)) r (now (twins .exit))) ⌝ }
 {
     check_after(0, v, f, positions, tags, faces, twins)
 }
@@ -77,7 +78,8 @@ pub fn check_after(
     faces: &[u16],
     twins: &mut [u16],
 ) -> Checked
-    ensures { λ r. ⌜ (let M = indexed v f (now (positions .entry)) (now (tags .entry)) (now (faces .entry)) in MeshChecked M (given own ∷ lentRows M (now (twins .entry))) (now (twins .entry)) r (now (twins .exit))) ⌝ }
+    ensures { λ r. ⌜ (let M = indexed v f (now (positions .entry)) (now (tags .entry)) (now (faces .entry)) in
+        MeshChecked M (given own ∷ lentRows M (now (twins .entry))) (now (twins .entry)) r (now (twins .exit))) ⌝ }
 {
     let mut head = [0u16; Mesh::MAX_VERTICES];
     let mut link = [0u16; 4 * Mesh::MAX_FACES];

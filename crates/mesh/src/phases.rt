@@ -110,7 +110,7 @@ fn fan_refusal(
     head: &[u16],
     on_boundary: &mut [bool],
 ) -> u8
-    requires { ⌜ Indices (now faces) (4 * f) × Simple (4 * f) (vertexOf (now faces)) × (v ≤ maxVertices) ⌝ }
+    requires { ⌜ Indices (now faces) (4 * f) × Simple (vertexOf (now faces)) (4 * f) × (v ≤ maxVertices) ⌝ }
     requires { ⌜ (4 * f ≤ length (now twins)) × (maxVertices ≤ length (now head)) × (maxVertices ≤ length (now «on_boundary»)) ⌝ }
     requires { ⌜ Holds 0 (now twins) (4 * f) (twin (vertexOf (now faces)) (4 * f)) ⌝ }
     requires { ⌜ Holds 0 (now head) maxVertices (λ p. latest (λ d. eqb (vertexOf (now faces) d) p) (4 * f)) ⌝ }
@@ -143,7 +143,7 @@ pub(crate) fn late_refusal(
     twins: &[u16],
     head: &[u16],
 ) -> u8
-    requires { ⌜ Indices (now faces) (4 * f) × Simple (4 * f) (vertexOf (now faces)) × (v ≤ maxVertices) × (v ≤ length (now tags)) ⌝ }
+    requires { ⌜ Indices (now faces) (4 * f) × Simple (vertexOf (now faces)) (4 * f) × (v ≤ maxVertices) × (v ≤ length (now tags)) ⌝ }
     requires { ⌜ (4 * f ≤ length (now twins)) × (maxVertices ≤ length (now head)) ⌝ }
     requires { ⌜ Holds 0 (now twins) (4 * f) (twin (vertexOf (now faces)) (4 * f)) ⌝ }
     requires { ⌜ Holds 0 (now head) maxVertices (λ p. latest (λ d. eqb (vertexOf (now faces) d) p) (4 * f)) ⌝ }
@@ -163,7 +163,12 @@ pub(crate) fn late_refusal(
 // The record of an accepted mesh: its counts. Each edge has two half-edges, or one on the boundary: 4F + B = 2E.
 pub(crate) fn accepted(v: usize, f: usize, faces: &[u16], twins: &[u16]) -> Mesh
     requires { ⌜ Counted (now faces) (now twins) v f ⌝ }
-    ensures { λ r. ⌜ r ≡ record { vertices = v; faces = f; edges = edges (vertexOf (now (faces .entry))) (4 * f) v; boundary = boundaries (vertexOf (now (faces .entry))) (4 * f) } ⌝ }
+    ensures { λ r. ⌜ r ≡ record {
+      vertices = v;
+      faces = f;
+      edges = edges (vertexOf (now (faces .entry))) (4 * f) v;
+      boundary = boundaries (vertexOf (now (faces .entry))) (4 * f);
+    } ⌝ }
 {
     let n = 4 * f;
     let edges = count_edges(twins, n);

@@ -29,7 +29,7 @@ use Rattle.patch.specs.Point.{Shape, View, x, sharp, sumAt, sharpSum, ri
 -- a half-edge that is not sharp has a twin
 pub twin-below : (G : Shape) (c : ℕ) → sharp G c ≡ false → twin (G .at) (G .n) c < G .n
 unfolding sharp boundary
-twin-below G c e = ⊎-elim (λ w. w .0) (λ w. absurd (eqb-false _ _ e (w .0))) (twin-cases (G .n) (G .at) c)
+twin-below G c e = ⊎-elim (λ w. w .0) (λ w. absurd (eqb-false _ _ e (w .0))) (twin-cases (G .at) (G .n) c)
 
 -- ---- the two boundary neighbours
 split : (t u v : Bool) (a b : ℤ) → cond t (cond u a (pos 0) +ℤ cond v b (pos 0)) (pos 0) ≡ cond (t && u) a (pos 0) +ℤ cond (t && v) b (pos 0)
@@ -37,7 +37,7 @@ split true u v a b = refl
 split false u v a b = refl
 
 -- of the corners at p the one with t is left
-sum-one : {n : ℕ} {at : ℕ → ℕ} {p : ℕ} {t : ℕ → Bool} (w : One n at p t) (f : ℕ → ℤ)
+sum-one : {n : ℕ} {at : ℕ → ℕ} {p : ℕ} {t : ℕ → Bool} (w : One at n p t) (f : ℕ → ℤ)
     → sumBelowℤ (λ c. cond (eqb (at c) p && t c) (f c) (pos 0)) n ≡ f (w .corner)
 sum-one {n} {at} {p} {t} w f =
     fold-only sumℤ-monoid (λ c. eqb (at c) p && t c) f n (w .corner) (w .below)
@@ -45,7 +45,7 @@ sum-one {n} {at} {p} {t} w f =
     (λ c l e. let b = and-true (eqb (at c) p) (t c) e in w .alone c l (eqb-true (at c) p (b .0)) (b .1))
 
 -- "r, r' the rim neighbours": the end of the boundary half-edge that leaves p, and the start of the one that enters it
-pub sharp-neighbours : (S : View) (p : ℕ) (w : BoundaryVertex (S .shape .n) (S .shape .at) p)
+pub sharp-neighbours : (S : View) (p : ℕ) (w : BoundaryVertex (S .shape .at) (S .shape .n) p)
     → sharpSum S p ≡ x S (next (w .leaving .corner)) +ℤ x S (prev (w .entering .corner))
 unfolding sharpSum sharp
 sharp-neighbours S p w =
@@ -71,7 +71,7 @@ turned N A (suc m) =
 +ℤ-cancel : (a b c d : ℤ) → a +ℤ c ≡ b +ℤ d → d ≡ c → a ≡ b
 +ℤ-cancel a b c d h e = eq-by a b (omega (arith, read-eq (int a ⊕ int c) (int b ⊕ int c) (h ∙ ap (λ (z : ℤ). b +ℤ z) e)))
 
-module _ (S : View) (k : Corners (S .shape .n)) (simple : Simple (S .shape .n) (S .shape .at)) (p : ℕ)
+module _ (S : View) (k : Corners (S .shape .n)) (simple : Simple (S .shape .at) (S .shape .n)) (p : ℕ)
     (f : fan (S .shape .at) (S .shape .n) p ≡ true) (e : onBoundary (S .shape .at) (S .shape .n) p ≡ false) where
   abbrev n : ℕ
   n = S .shape .n
@@ -89,7 +89,7 @@ module _ (S : View) (k : Corners (S .shape .n)) (simple : Simple (S .shape .n) (
   abbrev m : ℕ
   m = valence at n p
 
-  turn : Turn n s (backAround (twin at n) n) o m
+  turn : Turn s (backAround (twin at n) n) n o m
   turn = fan-means at k simple p f .turn
 
   turn-here : (i : ℕ) → i < m → at (iterate s i o) ≡ p
@@ -111,7 +111,7 @@ module _ (S : View) (k : Corners (S .shape .n)) (simple : Simple (S .shape .n) (
   unfolding sharp
   prev-next-around c l h =
       let t = twin-below (S .shape) (prev c) (inner-vertex at k simple p f e .entering c l h) in
-      ap (S .value) (sym (ap (λ (d : ℕ). at (next d)) (around-in (twin at n) n c l) ∙ twin-ends n at (prev c) k t .1))
+      ap (S .value) (sym (ap (λ (d : ℕ). at (next d)) (around-in (twin at n) n c l) ∙ twin-ends at n (prev c) k t .1))
 
   along : (g : ℕ → ℤ) → sumAt (S .shape) p g ≡ sumBelowℤ (λ i. g (iterate s i o)) m
   along g = gather-along sumℤ-monoid n m at (λ i. iterate s i o) p (turn .inside) turn-here (turn .apart) (fan-means at k simple p f .covers) g

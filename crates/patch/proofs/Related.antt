@@ -168,7 +168,7 @@ module _ {R : ℕ → ℤ → ℤ → Type 0} (L : Linear R) where
       along-related c l e =
           either (sharp (shape M) c) (λ _. boundary-edge-mask (here c l e) (near c l e 1)) (λ h.
           let t = twin-below (shape M) c h in
-          edge-related c (twin (at M) (corners M) c) l e t (twin-ends (corners M) (at M) c whole t .1 ∙ e))
+          edge-related c (twin (at M) (corners M) c) l e t (twin-ends (at M) (corners M) c whole t .1 ∙ e))
 
       before-related : (c : ℕ) → c < corners M → at M c ≡ p → Related R (beforePoint S c) (beforePoint S' c)
       unfolding beforePoint sharp
@@ -176,7 +176,7 @@ module _ {R : ℕ → ℤ → ℤ → Type 0} (L : Linear R) where
           let end : at M (next (prev c)) ≡ p = ap (at M) (next-prev c) ∙ e in
           either (sharp (shape M) (prev c)) (λ _. boundary-edge-mask (here c l e) (near c l e 3)) (λ h.
           let t = twin-below (shape M) (prev c) h in
-          edge-related (twin (at M) (corners M) (prev c)) (prev c) t (twin-ends (corners M) (at M) (prev c) whole t .0 ∙ end) (prev-below whole c l) end)
+          edge-related (twin (at M) (corners M) (prev c)) (prev c) t (twin-ends (at M) (corners M) (prev c) whole t .0 ∙ end) (prev-below whole c l) end)
 
     pub point-related : (c : ℕ) → c < corners M → Nearby R M X X' (at M c) → (k : Kind) → Related R (point (valued M X) c k) (point (valued M X') c k)
     unfolding point

@@ -19,6 +19,7 @@ use Rattle.mesh.specs.IndexedMesh.{IndexedMesh, corners, at, tag}
 use Rattle.mesh.specs.WellFormed.{WellFormed}
 use Rattle.mesh.proofs.CornerLaws.{turn-below}
 use Rattle.mesh.proofs.BoundaryLaws.{boundary-vertex}
+use Rattle.mesh.proofs.SizeLaws.{sized-indices}
 use Rattle.mesh.proofs.AcceptedLaws.{accepted-corners}
 use Rattle.mesh.proofs.PhaseLaws.{sized-indices}
 use Rattle.mesh.specs.Tables.{Corners, Holds, Indices}

@@ -27,7 +27,7 @@ before-inner : (S : View) (c : ℕ) → sharp (S .shape) c ≡ false → beforeP
 unfolding beforePoint
 before-inner S c e = rw (prev-next c, e)
 
-module _ (S : View) (k : Corners (S .shape .n)) (simple : Simple (S .shape .n) (S .shape .at)) (c : ℕ)
+module _ (S : View) (k : Corners (S .shape .n)) (simple : Simple (S .shape .at) (S .shape .n)) (c : ℕ)
     (l : c < S .shape .n) (e : boundary (S .shape .at) (S .shape .n) c ≡ false) where
   abbrev d : ℕ
   d = twin (S .shape .at) (S .shape .n) c
@@ -48,12 +48,12 @@ module _ (S : View) (k : Corners (S .shape .n)) (simple : Simple (S .shape .n) (
 
   twin-points : (i : ℕ) → i < 4 → patchPoint S d i ≡ patchPoint S c (3 - i)
   unfolding patchPoint owner kind point
-  twin-points zero b = ap (cornerPoint S) (ap (S .shape .at) (turn-none d) ∙ twin-ends (S .shape .n) (S .shape .at) c k twin-inside .0)
+  twin-points zero b = ap (cornerPoint S) (ap (S .shape .at) (turn-none d) ∙ twin-ends (S .shape .at) (S .shape .n) c k twin-inside .0)
   twin-points (suc zero) b = rw turn-none (along-inner S d inner-twin) ∙ ap (edgePoint S d) back ∙ sym (before-inner S c inner)
   twin-points (suc (suc zero)) b =
       before-inner S d inner-twin ∙ ap (λ (j : ℕ). edgePoint S j d) back ∙ sym (rw turn-none (along-inner S c inner))
   twin-points (suc (suc (suc zero))) b =
-      ap (cornerPoint S) (twin-ends (S .shape .n) (S .shape .at) c k twin-inside .1 ∙ ap (S .shape .at) (sym (turn-none c)))
+      ap (cornerPoint S) (twin-ends (S .shape .at) (S .shape .n) c k twin-inside .1 ∙ ap (S .shape .at) (sym (turn-none c)))
   twin-points (suc (suc (suc (suc i)))) b = absurd (omega arith)
 
   -- "the sample at place t of the side and the sample at place N - t of its mate"

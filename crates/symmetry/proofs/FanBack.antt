@@ -16,15 +16,15 @@ use Rattle.mesh.specs.Tables.{Corners}
 use Rattle.mesh.specs.Circulation.{backAround, Turn}
 
 -- steps on and back change places
-turning-back : {n : ℕ} {s b : ℕ → ℕ} → Turning n s b → Turning n b s
+turning-back : {n : ℕ} {s b : ℕ → ℕ} → Turning s b n → Turning b s n
 turning-back g = record { few = g .few; stop = g .stop-back; stop-back = g .stop; on = g .off; off = g .on; back = g .forth; forth = g .back }
 
-module _ {n : ℕ} {s b : ℕ → ℕ} (g : Turning n s b) (at : ℕ → ℕ) (keeps : Keeps n at s) where
-  keeps-back : Keeps n at b
+module _ {n : ℕ} {s b : ℕ → ℕ} (g : Turning s b n) (at : ℕ → ℕ) (keeps : Keeps s at n) where
+  keeps-back : Keeps b at n
   keeps-back c l h = let e : s (b c) ≡ c = g .forth c l h in sym (keeps (b c) h (rw e l)) ∙ ap at e
 
   -- i steps back undo the last i of i + j steps on
-  retraced : (o m : ℕ) → Turn n s b o m → (i j : ℕ) → i + j < m → iterate b i (iterate s (i + j) o) ≡ iterate s j o
+  retraced : (o m : ℕ) → Turn s b n o m → (i j : ℕ) → i + j < m → iterate b i (iterate s (i + j) o) ≡ iterate s j o
   unfolding iterate
   retraced o m t zero j l = ap (λ (k : ℕ). iterate s k o) (let e : 0 + j ≡ j = omega arith in e)
   retraced o m t (suc i) j l =
@@ -34,7 +34,7 @@ module _ {n : ℕ} {s b : ℕ → ℕ} (g : Turning n s b) (at : ℕ → ℕ) (k
       ∙ retraced o m t i j (omega arith)
 
   -- the last corner of a turn begins the same turn the other way
-  turn-back : (o k : ℕ) → Turn n s b o (suc k) → Turn n b s (iterate s k o) (suc k)
+  turn-back : (o k : ℕ) → Turn s b n o (suc k) → Turn b s n (iterate s k o) (suc k)
   unfolding iterate
   turn-back o k t = record { some = omega arith; inside = λ i l. rw (place i l) (t .inside (k - i) (omega arith)); apart = apart; ends = ends }
     where
@@ -57,21 +57,21 @@ module _ {n : ℕ} {s b : ℕ → ℕ} (g : Turning n s b) (at : ℕ → ℕ) (k
           ⊎-elim (λ e. inl (ap b (first ∙ sym e) ∙ g .back (iterate s k o) (t .inside k last) (rw e (t .inside 0 (t .some)))))
           (λ e. inr (ap b first ∙ e .1, e .0)) (t .ends)
 
-  fan-other : (p : ℕ) → fanBy s n at p ≡ true → fanBy b n at p ≡ true
+  fan-other : (p : ℕ) → fanBy s at n p ≡ true → fanBy b at n p ≡ true
   fan-other p f = let w = fanBy-means g at keeps p f in go (w .first) (w .here) (valence at n p) refl (w .turn)
     where
-      go : (o : ℕ) → at o ≡ p → (m : ℕ) → valence at n p ≡ m → Turn n s b o m → fanBy b n at p ≡ true
+      go : (o : ℕ) → at o ≡ p → (m : ℕ) → valence at n p ≡ m → Turn s b n o m → fanBy b at n p ≡ true
       go o q zero e t = absurd (not-suc-le-zero (t .some))
       go o q (suc k) e t =
           let last : k < suc k = omega arith in
           means-fanBy (turning-back g) at keeps-back p (iterate s k o) (turn-at g o (suc k) t at keeps k last ∙ q)
-          (subst (λ (m : ℕ). Turn n b s (iterate s k o) m) (sym e) (turn-back o k t))
+          (subst (λ (m : ℕ). Turn b s n (iterate s k o) m) (sym e) (turn-back o k t))
 
-fanBy-back : {n : ℕ} {s b : ℕ → ℕ} (g : Turning n s b) (at : ℕ → ℕ) (keeps : Keeps n at s) (p : ℕ) → fanBy b n at p ≡ fanBy s n at p
+fanBy-back : {n : ℕ} {s b : ℕ → ℕ} (g : Turning s b n) (at : ℕ → ℕ) (keeps : Keeps s at n) (p : ℕ) → fanBy b at n p ≡ fanBy s at n p
 fanBy-back {n} {s} {b} g at keeps p =
-    same-test (fanBy b n at p) (fanBy s n at p) (fan-other (turning-back g) at (keeps-back g at keeps) p) (fan-other g at keeps p)
+    same-test (fanBy b at n p) (fanBy s at n p) (fan-other (turning-back g) at (keeps-back g at keeps) p) (fan-other g at keeps p)
 
 -- the fans of a mesh
-pub fan-back : {n : ℕ} (at : ℕ → ℕ) → Corners n → Simple n at → (p : ℕ) → fanBy (backAround (twin at n) n) n at p ≡ fan at n p
+pub fan-back : {n : ℕ} (at : ℕ → ℕ) → Corners n → Simple at n → (p : ℕ) → fanBy (backAround (twin at n) n) at n p ≡ fan at n p
 unfolding fan
 fan-back at k simple p = fanBy-back (fan-turning at k simple) at (fan-keeps at k simple) p

@@ -39,19 +39,19 @@ module _ {n : ℕ} (at : ℕ → ℕ) (w : Corners n) where
   step-out same = around-out (twin at n) n noTwin (omega arith)
   step-out reversed = back-out (twin at n) n noTwin (omega arith)
 
-same-fans : (z : Sense) {n v : ℕ} {at : ℕ → ℕ} → Sound n v at → (p : ℕ) → fanBy (step z at n) n at p ≡ fan at n p
+same-fans : (z : Sense) {n v : ℕ} {at : ℕ → ℕ} → Sound at n v → (p : ℕ) → fanBy (step z at n) at n p ≡ fan at n p
 unfolding fan
 same-fans same s p = refl
 same-fans reversed {at = at} s p = fan-back at (s .whole) (s .simple) p
 
-module _ {z : Sense} {n v : ℕ} {at at′ : ℕ → ℕ} (s : Sound n v at) (i : Iso z n v at at′) where
+module _ {z : Sense} {n v : ℕ} {at at′ : ℕ → ℕ} (s : Sound at n v) (i : Iso z at at′ n v) where
   abbrev φ : ℕ → ℕ
   φ = i .corners .to
 
   abbrev step′ : ℕ → ℕ
   step′ = around (twin at′ n) n
 
-  corner-step : (e : ℕ) → e < n → Moved n φ (step z at n e) (step′ (φ e))
+  corner-step : (e : ℕ) → e < n → Moved φ n (step z at n e) (step′ (φ e))
   corner-step e l =
       let b = entering-below z (s .whole) e l in
       let there : step′ (φ e) ≡ twin at′ n (φ (origin z (entering z e))) =
@@ -63,14 +63,14 @@ module _ {z : Sense} {n v : ℕ} {at at′ : ℕ → ℕ} (s : Sound n v at) (i 
       (λ w. inr (step-none at (s .whole) z e l (w .0), there ∙ w .1))
       (twin-moves s i (entering z e) b)
 
-  step-moves : (e e′ : ℕ) → Moved n φ e e′ → Moved n φ (step z at n e) (step′ e′)
+  step-moves : (e e′ : ℕ) → Moved φ n e e′ → Moved φ n (step z at n e) (step′ e′)
   step-moves e e′ m =
       ⊎-elim
       (λ w. rw (w .1) (corner-step e (w .0)))
       (λ w. inr (rw (w .0) (step-out at (s .whole) z), rw (w .1) (step-out at′ (s .whole) same)))
       m
 
-  iterate-moves : (k c : ℕ) → c < n → Moved n φ (iterate (step z at n) k c) (iterate step′ k (φ c))
+  iterate-moves : (k c : ℕ) → c < n → Moved φ n (iterate (step z at n) k c) (iterate step′ k (φ c))
   unfolding iterate
   iterate-moves zero c l = inl (l, refl)
   iterate-moves (suc k) c l = step-moves (iterate (step z at n) k c) (iterate step′ k (φ c)) (iterate-moves k c l)

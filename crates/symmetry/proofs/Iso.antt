@@ -1,9 +1,9 @@
 -- Two meshes of one shape: the corners and the vertices renumbered, each face in the old turn or each in the opposite one. Half-edges keep their twins.
 --
---   Sound n v at      what is asked of the n corners of a mesh with v vertices: whole faces, known vertices, no half-edge twice
---   Iso z n v at at′  corner c of the one is corner `corners .to c` of the other, and vertex p is `vertices .to p`
+--   Sound at n v      what is asked of the n corners of a mesh with v vertices: whole faces, known vertices, no half-edge twice
+--   Iso z at at′ n v  corner c of the one is corner `corners .to c` of the other, and vertex p is `vertices .to p`
 --   halfEdges s i     half-edge c of the one is half-edge `halfEdges s i .to c` of the other: that of the corner which it leaves there
---   Moved n to e e′   e is one of the n corners and e′ is the one that it has become, or both are `noTwin`
+--   Moved to n e e′   e is one of the n corners and e′ is the one that it has become, or both are `noTwin`
 use mathlib.Core.Path.{_≡_, sym, ap, _∙_}
 use mathlib.Core.Logic.{_⊎_, inl, inr, ⊎-elim}
 use Prim.Native.Nat.{ℕ, zero, suc, _<_}
@@ -21,22 +21,22 @@ use Rattle.symmetry.proofs.Sense.{Sense, same, turned, ahead, behind, t
 use Rattle.symmetry.proofs.Sense.{leaving, entering, origin, target, origin-leaving, leaving-origin, origin-entering, target-origin}
 use Rattle.symmetry.proofs.Sense.{leaving-below, entering-below, origin-below, target-below, Opposite, opposite, opposite-same, simple-in}
 
-pub record Sound (n v : ℕ) (at : ℕ → ℕ) : Type 0 where
+pub record Sound (at : ℕ → ℕ) (n v : ℕ) : Type 0 where
   pub whole : Corners n
   pub named : (c : ℕ) → c < n → at c < v
-  pub simple : Simple n at
+  pub simple : Simple at n
 
-pub record Iso (z : Sense) (n v : ℕ) (at at′ : ℕ → ℕ) : Type 0 where
+pub record Iso (z : Sense) (at at′ : ℕ → ℕ) (n v : ℕ) : Type 0 where
   pub corners : Permutation n
   pub vertices : Permutation v
   pub next-moves : (c : ℕ) → c < n → next (corners .to c) ≡ corners .to (ahead z c)
   pub at-moves : (c : ℕ) → c < n → at′ (corners .to c) ≡ vertices .to (at c)
 
-abbrev pub Moved : ℕ → (ℕ → ℕ) → ℕ → ℕ → Type 0
-Moved n to e e′ = ((e < n) × (e′ ≡ to e)) ⊎ ((e ≡ noTwin) × (e′ ≡ noTwin))
+abbrev pub Moved : (ℕ → ℕ) → ℕ → ℕ → ℕ → Type 0
+Moved to n e e′ = ((e < n) × (e′ ≡ to e)) ⊎ ((e ≡ noTwin) × (e′ ≡ noTwin))
 
 -- which corner it is, and whether there is one, is the same
-module _ {n : ℕ} (w : Corners n) (r : Permutation n) (e e′ : ℕ) (m : Moved n (r .to) e e′) where
+module _ {n : ℕ} (w : Corners n) (r : Permutation n) (e e′ : ℕ) (m : Moved (r .to) n e e′) where
   pub moved-same : (d : ℕ) → d < n → eqb e′ (r .to d) ≡ eqb e d
   moved-same d l =
       ⊎-elim
@@ -55,7 +55,7 @@ module _ {n : ℕ} (w : Corners n) (r : Permutation n) (e e′ : ℕ) (m : Moved
       (λ u. rw (u .0, u .1))
       m
 
-module _ {z : Sense} {n v : ℕ} {at at′ : ℕ → ℕ} (s : Sound n v at) (i : Iso z n v at at′) where
+module _ {z : Sense} {n v : ℕ} {at at′ : ℕ → ℕ} (s : Sound at n v) (i : Iso z at at′ n v) where
   abbrev φ : ℕ → ℕ
   φ = i .corners .to
 
@@ -130,7 +130,7 @@ module _ {z : Sense} {n v : ℕ} {at at′ : ℕ → ℕ} (s : Sound n v at) (i 
   reflects : (c d : ℕ) → c < n → d < n → {p q : ℕ} → p ≡ π (at c) → p ≡ q → q ≡ π (at d) → at c ≡ at d
   reflects c d l k a e b = at-reflects c d l k (sym a ∙ e ∙ b)
 
-  pub sound-moves : Sound n v at′
+  pub sound-moves : Sound at′ n v
   unfolding halfEdges
   sound-moves = record {
     whole = s .whole;
@@ -154,7 +154,7 @@ module _ {z : Sense} {n v : ℕ} {at at′ : ℕ → ℕ} (s : Sound n v at) (i 
         reflects _ _ (target-below z (s .whole) (τ d) b) (origin-below z (s .whole) c l) (target-from d k) (o .1) (origin-moves c l),
       )
 
-  pub twin-moves : (c : ℕ) → c < n → Moved n (λ (d : ℕ). φ (origin z d)) (twin at n c) (twin at′ n (φ (origin z c)))
+  pub twin-moves : (c : ℕ) → c < n → Moved (λ (d : ℕ). φ (origin z d)) n (twin at n c) (twin at′ n (φ (origin z c)))
   unfolding halfEdges
   twin-moves c l =
       ⊎-elim
@@ -174,9 +174,9 @@ module _ {z : Sense} {n v : ℕ} {at at′ : ℕ → ℕ} (s : Sound n v at) (i 
             let o = opposite-from c (twin at′ n (σ c)) l (u .0) (u .1, u .2) in
             absurd (w .1 (τ (twin at′ n (σ c))) (halfEdges .from-below _ (u .0)) (o .0) (o .1)))
             (λ u. u .0)
-            (twin-cases n at′ (σ c)),
+            (twin-cases at′ n (σ c)),
       ))
-      (twin-cases n at c)
+      (twin-cases at n c)
 
   pub boundary-moves : (c : ℕ) → c < n → boundary at′ n (φ (origin z c)) ≡ boundary at n c
   unfolding boundary halfEdges

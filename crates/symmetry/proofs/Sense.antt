@@ -127,7 +127,7 @@ pub opposite-same : (z : Sense) (at : ℕ → ℕ) (c d : ℕ) → Opposite z at
 opposite-same same at c d o = o
 opposite-same reversed at c d o = (o .1, o .0)
 
-pub simple-in : (z : Sense) {n : ℕ} {at : ℕ → ℕ} → Simple n at → (c d : ℕ) → c < n → d < n
+pub simple-in : (z : Sense) {n : ℕ} {at : ℕ → ℕ} → Simple at n → (c d : ℕ) → c < n → d < n
     → at (origin z c) ≡ at (origin z d) → at (target z c) ≡ at (target z d) → c ≡ d
 simple-in same s c d l k p q = s c d l k p q
 simple-in reversed s c d l k p q = s c d l k q p

@@ -15,13 +15,13 @@ use Rattle.symmetry.proofs.Sense.{Sense, same, reversed, leaving}
 use Rattle.symmetry.proofs.Iso.{Sound, Iso, leaving-boundary}
 
 -- a boundary half-edge leaves a vertex exactly when one leaves it with the faces turned the other way
-leaves : (z : Sense) {n v : ℕ} {at : ℕ → ℕ} → Sound n v at → (p : ℕ) → fan at n p ≡ true
+leaves : (z : Sense) {n v : ℕ} {at : ℕ → ℕ} → Sound at n v → (p : ℕ) → fan at n p ≡ true
     → anyAt at n p (λ c. boundary at n (leaving z c)) ≡ onBoundary at n p
 unfolding onBoundary
 leaves same s p f = refl
 leaves reversed {at = at} s p f = sym (boundary-entering at (s .whole) (s .simple) p f)
 
-module _ {z : Sense} {n v : ℕ} {at at′ : ℕ → ℕ} (s : Sound n v at) (i : Iso z n v at at′) where
+module _ {z : Sense} {n v : ℕ} {at at′ : ℕ → ℕ} (s : Sound at n v) (i : Iso z at at′ n v) where
   abbrev φ : ℕ → ℕ
   φ = i .corners .to
 

@@ -29,11 +29,11 @@ pub record Alike (z : Sense) (M M′ : IndexedMesh) : Type 0 where
   pub same-positions : length (M′ .positions) ≡ length (M .positions)
   pub same-tags : length (M′ .tags) ≡ length (M .tags)
   pub same-indices : length (M′ .indices) ≡ length (M .indices)
-  pub shape : Iso z (corners M) (M .vertices) (at M) (at M′)
+  pub shape : Iso z (at M) (at M′) (corners M) (M .vertices)
   pub sizes-move : (p k : ℕ) → p < M .vertices → k < 3 → natAbs (coordinate M′ (3 * shape .vertices .to p + k)) ≡ natAbs (coordinate M (3 * p + k))
   pub tags-move : (p : ℕ) → p < M .vertices → tag M′ (shape .vertices .to p) ≡ tag M p
 
-pub sound : {M : IndexedMesh} → WellFormed M → Sound (corners M) (M .vertices) (at M)
+pub sound : {M : IndexedMesh} → WellFormed M → Sound (at M) (corners M) (M .vertices)
 sound a = record { whole = accepted-corners a; named = a .named; simple = a .simple }
 
 -- another corner of a face is another one whichever way the face is turned
@@ -45,10 +45,10 @@ another reversed (suc (suc zero)) c l = (0, omega arith, let e : turn 9 c ≡ tu
 another reversed (suc (suc (suc j))) c l = absurd (let bad : ⊥ = omega arith in bad)
 
 module _ {z : Sense} {M M′ : IndexedMesh} (a : WellFormed M) (r : Alike z M M′) where
-  abbrev s : Sound (corners M) (M .vertices) (at M)
+  abbrev s : Sound (at M) (corners M) (M .vertices)
   s = sound a
 
-  abbrev i : Iso z (corners M) (M .vertices) (at M) (at M′)
+  abbrev i : Iso z (at M) (at M′) (corners M) (M .vertices)
   i = r .shape
 
   moved-coordinate : (p : ℕ) → p < M .vertices → (k : ℕ) → k < 3 → natAbs (coordinate M′ (3 * p + k)) ≤ maxCoordinate

@@ -5,7 +5,7 @@ use mathlib.Core.Path.{_≡_, sym, ap, _∙_}
 use mathlib.Core.Bool.{not}
 use mathlib.Core.List.{List, _∷_}
 use mathlib.Core.Option.{none}
-use Prim.Native.Nat.{ℕ, _*_, _≤_}
+use Prim.Native.Nat.{ℕ, _≤_}
 use native.Mathlib.Nat.{le-of-eq}
 use native.Mathlib.Omega.{arith}
 use lib.Dec.{eqb}
@@ -66,7 +66,13 @@ module _ (c : tie.Else1) where
   passed : Passed (mesh start)
   passed = early-passed (mesh start) (own start) none-early .1
 
-  chained : Chained (at (mesh start)) (corners (mesh start)) (grouped .early-refusal .last .1 .1 .1 .1 .1 .1 .0) (grouped .early-refusal .last .1 .1 .1 .1 .1 .1 .1 .0)
+  abbrev head : List ℕ
+  head = grouped .early-refusal .last .1 .1 .1 .1 .1 .1 .0
+
+  abbrev link : List ℕ
+  link = grouped .early-refusal .last .1 .1 .1 .1 .1 .1 .1 .0
+
+  chained : Chained (at (mesh start)) (corners (mesh start)) head link
   chained = grouped .early-refusal .ensures .chained (c .if1 .left)
 
   room : corners (mesh start) ≤ length (lent start)

@@ -1,5 +1,7 @@
--- `check_alone` meets its contract: its own list of twins is long enough for every mesh whose sizes are in their ranges.
-use mathlib.Core.Path.{ap, _∙_}
+-- `check_alone` meets its contract: its own list of twins is long enough for every mesh whose sizes are in their ranges, so that the row of the
+-- lent list is met only where the first row is.
+use mathlib.Core.Path.{_≡_, ap, _∙_}
+use mathlib.Core.Bool.{false}
 use mathlib.Core.List.{List, [], _∷_}
 use mathlib.Core.Option.{Option, none}
 use Prim.Native.Nat.{ℕ, _*_}
@@ -7,22 +9,34 @@ use native.Mathlib.Omega.{arith}
 use lib.ListN.{length, replicate, length-replicate}
 use borrow.Author.Tests.{le-ltb}
 use borrow.Author.Needs.{needs}
-use Rattle.finite.specs.Table.{answerBy}
+use Rattle.finite.specs.Table.{firstMet, answerBy}
 use Rattle.finite.proofs.TableLaws.{skipped}
 use Rattle.mesh.specs.Limits.{maxFaces}
 use Rattle.mesh.specs.IndexedMesh.{IndexedMesh, indexed, corners}
+use Rattle.mesh.specs.Refusal.{meshSizesOff}
 use Rattle.mesh.specs.Answer.{countsOf, given, lentRows}
-use Rattle.mesh.proofs.SizeLaws.{sizes-false}
+use Rattle.mesh.proofs.SizeLaws.{mesh-sizes-false}
 use Rattle.mesh.proofs.PhaseLaws.{refusal-alike}
 use Rattle.mesh.proofs.check_alone.Statement.{statement}
 use Rattle.mesh.proofs.check_alone.Tie as tie
 
+-- ---- at the entry: the mesh that was passed
 abbrev mesh : tie.Start → IndexedMesh
 mesh s = indexed (s .args .v) (s .args .f) (s .args .positions .now) (s .args .tags .now) (s .args .faces .now)
 
 abbrev own-list : List ℕ
 own-list = replicate (4 * maxFaces) 0
 
+-- ---- the list of twins of the call's own
+room : (M : IndexedMesh) → meshSizesOff M ≡ false → firstMet (given 0 ∷ lentRows M own-list) ≡ none
+room M e =
+    let z = mesh-sizes-false M e in
+    skipped 2 none (le-ltb (length own-list) (corners M) (omega (arith, length-replicate {A = ℕ} (4 * maxFaces) 0)))
+
+abbrev entry : tie.After-twins → tie.Start
+entry c = c .before .before .before
+
+-- ---- the answers, in the order of the code
 slice-aggregate-check-after : tie.Need-slice-aggregate-check-after
 slice-aggregate-check-after c = search needs
 
@@ -32,11 +46,9 @@ check-after-requires c κs = tt
 returns : tie.Need-returns
 returns c =
     let k = c .before in
-    let m = mesh (let t : tie.After-twins = k .before in t .before .before .before) in
+    let m = mesh (entry (k .before)) in
     k .check-after .ensures .answer-is
-    ∙ ap (λ (k : Option ℕ). answerBy k (countsOf m))
-    (refusal-alike m (given 0 ∷ lentRows m own-list) [] (λ e.
-    skipped 2 none (le-ltb (length own-list) (corners m) (omega (arith, sizes-false _ _ _ _ _ e .faces-high, length-replicate {A = ℕ} (4 * maxFaces) 0)))) [])
+    ∙ ap (λ (k : Option ℕ). answerBy k (countsOf m)) (refusal-alike m (given 0 ∷ lentRows m own-list) [] (room m) [])
 
 pub check-alone-spec : {M : Type 1} → statement M
 check-alone-spec = tie.close (tie.spec slice-aggregate-check-after check-after-requires returns)

@@ -37,7 +37,9 @@ loop-less : tie.Need-loop-less Inv-loop μ-loop
 loop-less c = add-one-dec _ _ (c .before .loop-test .taken)
 
 loop-again : tie.Need-loop-again Inv-loop μ-loop
-loop-again c = (add-one-le (c .before .loop-test .taken), search needs, filled-more _ _ _ _ _ (omega arith) (c .before .before .loop .inv .2) (c .twin-of .ensures))
+loop-again c =
+    let i = c .before in
+    (add-one-le (i .loop-test .taken), search needs, filled-more _ _ _ _ _ (omega arith) (i .before .loop .inv .2) (c .twin-of .ensures))
 
 same-length : tie.Need-same-length Inv-loop μ-loop
 same-length c = c .before .loop .inv .1

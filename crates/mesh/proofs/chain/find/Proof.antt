@@ -1,6 +1,8 @@
--- `find` meets its contract: the chain passes every corner of p below c from the last on, and the first half-edge to q on it is the last of all.
+-- `find` meets its contract: the chain passes every corner of p below c from the last on, so the first half-edge to q that it meets is the
+-- last of all.
 use mathlib.Core.Path.{_≡_, sym, ap, _∙_}
-use Prim.Native.Nat.{suc, _-_, _<_}
+use mathlib.Core.Bool.{Bool}
+use Prim.Native.Nat.{ℕ, suc, _-_, _<_}
 use native.Mathlib.Nat.{lt-of-lt-of-le}
 use native.Mathlib.Omega.{arith}
 use lib.Dec.{eqb}
@@ -11,7 +13,7 @@ use Rattle.mesh.proofs.SizeLaws.{indices-corners}
 use Rattle.mesh.proofs.CornerLaws.{next-below}
 use Rattle.mesh.proofs.chain.find.Statement.{statement}
 use Rattle.mesh.proofs.chain.find.Tie as tie
-use Rattle.mesh.specs.Tables.{vertexOf, latest}
+use Rattle.mesh.specs.Tables.{Holds, vertexOf, latest}
 
 abbrev Inv-loop : tie.InvT-loop
 Inv-loop faces n link c p start q u₀ u = Walked (vertexOf faces) p q c u
@@ -19,22 +21,54 @@ Inv-loop faces n link c p start q u₀ u = Walked (vertexOf faces) p q c u
 abbrev μ-loop : tie.MeasureT-loop
 μ-loop faces n link c p start q u₀ u = u
 
--- the corner that the chain's number names, that it is one, the corner after it, and what the link holds there
-corner : (c : tie.After-wide Inv-loop μ-loop) → c .before .before .loop .u ≡ suc (c .wide .result - 1)
-corner c = omega arith
+-- ---- at the entry: the vertices of the corners, and what the links hold below c
+module _ (s : tie.Start Inv-loop μ-loop) where
+  abbrev vertex : ℕ → ℕ
+  vertex = vertexOf (s .args .faces .now)
 
-below : (c : tie.After-wide Inv-loop μ-loop) → c .wide .result - 1 < c .before .before .before .before .before .args .c
-below c = let h = corner c in omega (arith, c .before .before .loop .inv .low)
+  links-are : Holds 0 (s .args .link .now) (s .args .c) (λ e. latest (λ d. eqb (vertex d) (vertex e)) e)
+  links-are = s .pre .1 .1
 
-inside : (c : tie.After-wide Inv-loop μ-loop) → next (c .wide .result - 1) < length (c .before .before .before .before .before .args .faces .now)
-inside c =
-    let s = c .before .before .before .before .before in
-    let i = s .pre .0 .0 in
-    lt-of-lt-of-le (next-below (indices-corners i) (c .wide .result - 1) (lt-of-lt-of-le (below c) (s .pre .0 .1))) (i .listed)
+abbrev entry : tie.At-loop Inv-loop μ-loop → tie.Start Inv-loop μ-loop
+entry c = c .before .before .before
 
-linked : (c : tie.After-wide Inv-loop μ-loop) → getD (c .before .before .before .before .before .args .link .now) (c .wide .result - 1) 0 ≡ latest (λ d. eqb (vertexOf (c .before .before .before .before .before .args .faces .now) d) (vertexOf (c .before .before .before .before .before .args .faces .now) (c .wide .result - 1))) (c .wide .result - 1)
-linked c = c .before .before .before .before .before .pre .1 .1 (c .wide .result - 1) (below c)
+-- ---- u is read: it names a corner e below c, and the link there holds the corner before e at the same vertex
+module _ (c : tie.After-wide Inv-loop μ-loop) where
+  abbrev at-loop : tie.At-loop Inv-loop μ-loop
+  at-loop = c .before .before
 
+  abbrev start : tie.Start Inv-loop μ-loop
+  start = entry at-loop
+
+  abbrev e : ℕ
+  e = c .wide .result - 1
+
+  u-is : at-loop .loop .u ≡ suc e
+  u-is = omega arith
+
+  e-below : e < start .args .c
+  e-below = let h = u-is in omega (arith, at-loop .loop .inv .low)
+
+  next-listed : next e < length (start .args .faces .now)
+  next-listed =
+      let i = start .pre .0 .0 in
+      lt-of-lt-of-le (next-below (indices-corners i) e (lt-of-lt-of-le e-below (start .pre .0 .1))) (i .listed)
+
+  abbrev same-vertex : ℕ → Bool
+  same-vertex d = eqb (vertex start d) (vertex start e)
+
+  link-is : getD (start .args .link .now) e 0 ≡ latest same-vertex e
+  link-is = links-are start e e-below
+
+-- ---- the corner after e is read: its vertex is where half-edge e ends
+module _ (c : tie.After-shared-slice-known3 Inv-loop μ-loop) where
+  abbrev named : tie.After-wide Inv-loop μ-loop
+  named = c .before .before
+
+  end-is : vertex (start named) (c .before .next-corner .result) ≡ vertex (start named) (next (e named))
+  end-is = ap (vertex (start named)) (c .before .next-corner .ensures)
+
+-- ---- the answers, in the order of the code
 loop-holds : tie.Need-loop-holds Inv-loop μ-loop
 loop-holds c = walked-start _ _ _ _ _ (c .before .before .pre .1 .0)
 
@@ -48,34 +82,33 @@ next-corner-requires : tie.Need-next-corner-requires Inv-loop μ-loop
 next-corner-requires c κs = tt
 
 mul-if1 : tie.Need-mul-if1 Inv-loop μ-loop
-mul-if1 c = let h = inside (c .before) in let e = c .next-corner .ensures in omega arith
+mul-if1 c = let h = next-listed (c .before) in let e = c .next-corner .ensures in omega arith
 
 shared-slice-read-if1 : tie.Need-shared-slice-read-if1 Inv-loop μ-loop
-shared-slice-read-if1 c = let h = inside (c .before .before) in rw (c .before .next-corner .ensures) h
+shared-slice-read-if1 c = rw (c .before .next-corner .ensures) (next-listed (c .before .before))
 
 returns : tie.Need-returns Inv-loop μ-loop
 returns c =
-    let w = c .before .before .before in
-    let l = w .before .before in
-    walked-found _ _ _ _ _ (l .loop .inv) (w .wide .result - 1) (corner w) (ap (vertexOf (l .before .before .before .args .faces .now)) (sym (c .before .before .next-corner .ensures)) ∙ c .if1 .taken)
+    let k = c .before in
+    let w = named k in
+    walked-found _ _ _ _ _ (at-loop w .loop .inv) (e w) (u-is w) (sym (end-is k) ∙ c .if1 .taken)
 
 mul-u : tie.Need-mul-u Inv-loop μ-loop
-mul-u c = let h = below (c .before .before .before) in omega arith
+mul-u c = let h = e-below (named (c .before)) in omega arith
 
 shared-slice-read-u : tie.Need-shared-slice-read-u Inv-loop μ-loop
-shared-slice-read-u c = let h = below (c .before .before .before .before) in omega arith
+shared-slice-read-u c = let h = e-below (named (c .before .before)) in omega arith
 
 loop-less : tie.Need-loop-less Inv-loop μ-loop
 loop-less c =
-    let w = c .before .before .before .before in
-    omega (arith, linked w, corner w, latest-le (λ d. eqb (vertexOf (w .before .before .before .before .before .args .faces .now) d) (vertexOf (w .before .before .before .before .before .args .faces .now) (w .wide .result - 1))) (w .wide .result - 1))
+    let w = named (c .before .before) in
+    omega (arith, link-is w, u-is w, latest-le (same-vertex w) (e w))
 
 loop-again : tie.Need-loop-again Inv-loop μ-loop
 loop-again c =
-    let w = c .before .before .before .before in
-    let l = w .before .before in
-    walked-more _ _ _ _ _ (w .wide .result - 1) _ (l .loop .inv) (corner w)
-    (λ e. c .before .if1 .left (ap (vertexOf (l .before .before .before .args .faces .now)) (c .before .before .before .next-corner .ensures) ∙ e)) (linked w)
+    let k = c .before .before in
+    let w = named k in
+    walked-more _ _ _ _ _ (e w) _ (at-loop w .loop .inv) (u-is w) (λ q. c .before .if1 .left (end-is k ∙ q)) (link-is w)
 
 returns-2 : tie.Need-returns-2 Inv-loop μ-loop
 returns-2 c = walked-none _ _ _ _ _ (c .before .loop .inv) (c .loop-test .left)

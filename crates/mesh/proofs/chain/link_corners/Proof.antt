@@ -1,4 +1,5 @@
--- `link_corners` meets its contract: the corners passed are chained and no half-edge among them runs as an earlier one does.
+-- `link_corners` meets its contract: the corners passed are chained and no half-edge among them runs as an earlier one does; the loop stops at
+-- the first that does.
 use mathlib.Core.Bool.{true≢false, false}
 use mathlib.Core.Path.{_≡_, refl, sym, ap, _∙_, subst}
 use Prim.Native.Nat.{ℕ, _-_, _<_, _≤_}
@@ -6,7 +7,7 @@ use native.Mathlib.Nat.{le-antisymm}
 use native.Mathlib.Numerals.{add-one-le, add-one-dec}
 use native.Mathlib.Omega.{arith}
 use lib.Dec.{eqb}
-use lib.ListN.{length, length-set}
+use lib.ListN.{length, getD, length-set}
 use borrow.Author.Needs.{needs}
 use Rattle.finite.specs.Fold.{anyBelow}
 use Rattle.finite.proofs.AnyAll.{any-start, any-more, any-found, any-not}
@@ -26,13 +27,42 @@ Inv-loop faces n head₀ link₀ c₀ head link c =
 abbrev μ-loop : tie.MeasureT-loop
 μ-loop faces n head₀ link₀ c₀ head link c = n - c
 
--- the vertex of corner c has a place in the table of heads
-inside : (c : tie.After-wide Inv-loop μ-loop) → c .wide .result < maxVertices
-inside c =
-    let l = c .before .before .before in
-    let i = l .before .before .before .before .pre .0 .0 in
-    omega (arith, c .wide .ensures, i .named (l .loop .c) (c .before .before .loop-test .taken))
+-- ---- at the entry: the vertices of the corners
+module _ (s : tie.Start Inv-loop μ-loop) where
+  abbrev vertex : ℕ → ℕ
+  vertex = vertexOf (s .args .faces .now)
 
+abbrev entry : tie.At-loop Inv-loop μ-loop → tie.Start Inv-loop μ-loop
+entry c = c .before .before .before .before
+
+-- ---- p is read: it is the vertex of corner c, which has a place in the table of heads
+module _ (c : tie.After-wide Inv-loop μ-loop) where
+  abbrev passing : tie.In-loop Inv-loop μ-loop
+  passing = c .before .before
+
+  abbrev at-loop : tie.At-loop Inv-loop μ-loop
+  at-loop = passing .before
+
+  abbrev start : tie.Start Inv-loop μ-loop
+  start = entry at-loop
+
+  abbrev p : ℕ
+  p = c .wide .result
+
+  p-named : p < maxVertices
+  p-named = rw (c .wide .ensures) (start .pre .0 .0 .named (at-loop .loop .c) (passing .loop-test .taken))
+
+  -- what the table holds there: the corner before c at its vertex
+  head-is : getD (at-loop .loop .head) p 0 ≡ latest (λ d. eqb (vertex start d) (vertex start (at-loop .loop .c))) (at-loop .loop .c)
+  head-is =
+      at-loop .loop .inv .3 .heads p p-named
+      ∙ ap (λ (q : ℕ). latest (λ d. eqb (vertex start d) q) (at-loop .loop .c)) (c .wide .ensures)
+
+-- ---- the half-edges before c are looked at
+abbrev read : tie.After-occurs-before Inv-loop μ-loop → tie.After-wide Inv-loop μ-loop
+read c = c .before .before .before
+
+-- ---- the answers, in the order of the code
 loop-holds : tie.Need-loop-holds Inv-loop μ-loop
 loop-holds c = (omega arith, refl, refl, chained-start _ _ _ (c .before .before .before .pre .1), any-start _)
 
@@ -46,30 +76,27 @@ wide-requires : tie.Need-wide-requires Inv-loop μ-loop
 wide-requires c κs = tt
 
 mul-start : tie.Need-mul-start Inv-loop μ-loop
-mul-start c = let h = inside c in omega arith
+mul-start c = let h = p-named c in omega arith
 
 slice-read-start : tie.Need-slice-read-start Inv-loop μ-loop
-slice-read-start c = let h = inside (c .before) in omega arith
+slice-read-start c = let h = p-named (c .before) in omega arith
 
 occurs-before-requires : tie.Need-occurs-before-requires Inv-loop μ-loop
 occurs-before-requires c κs =
     let w = c .before .before in
-    let l = w .before .before .before in
-    let s = l .before .before .before .before in
-    let at = vertexOf (s .args .faces .now) in
-    ((s .pre .0 .0, omega arith, omega arith), (l .loop .inv .3 .heads (w .wide .result) (inside w) ∙ ap (λ (x : ℕ). latest (λ d. eqb (at d) x) (l .loop .c)) (w .wide .ensures), l .loop .inv .3 .links))
+    ((start w .pre .0 .0, omega arith, omega arith), (head-is w, at-loop w .loop .inv .3 .links))
 
 same-length : tie.Need-same-length Inv-loop μ-loop
-same-length c = c .before .before .before .before .before .before .before .loop .inv .1
+same-length c = at-loop (read (c .before)) .loop .inv .1
 
 same-length-2 : tie.Need-same-length-2 Inv-loop μ-loop
-same-length-2 c = c .before .before .before .before .before .before .before .loop .inv .2
+same-length-2 c = at-loop (read (c .before)) .loop .inv .2
 
 returns : tie.Need-returns Inv-loop μ-loop
 returns c =
     let o = c .before in
-    let l = o .before .before .before .before .before .before in
-    (any-found _ _ _ _ (o .before .before .before .before .before .loop-test .taken) (o .occurs-before .ensures) (c .if1 .taken) ∙ sym (doubled-earlier _ _), λ e. absurd (true≢false e))
+    let found = any-found _ _ _ _ (passing (read o) .loop-test .taken) (o .occurs-before .ensures) (c .if1 .taken) in
+    (found ∙ sym (doubled-earlier _ _), λ e. absurd (true≢false e))
 
 mul-link : tie.Need-mul-link Inv-loop μ-loop
 mul-link c = omega arith
@@ -84,27 +111,27 @@ cast-head : tie.Need-cast-head Inv-loop μ-loop
 cast-head c = search needs
 
 mul-head : tie.Need-mul-head Inv-loop μ-loop
-mul-head c = let h = inside (c .before .before .before .before) in omega arith
+mul-head c = let h = p-named (read (c .before)) in omega arith
 
 slice-write-head : tie.Need-slice-write-head Inv-loop μ-loop
-slice-write-head c = let h = inside (c .before .before .before .before) in omega arith
+slice-write-head c = let h = p-named (read (c .before)) in omega arith
 
 add-c : tie.Need-add-c Inv-loop μ-loop
 add-c c = omega arith
 
 loop-less : tie.Need-loop-less Inv-loop μ-loop
-loop-less c = add-one-dec _ _ (c .before .before .before .before .before .before .loop-test .taken)
+loop-less c = add-one-dec _ _ (passing (read (c .before)) .loop-test .taken)
 
 loop-again : tie.Need-loop-again Inv-loop μ-loop
 loop-again c =
     let o = c .before in
-    let w = o .before .before .before in
-    let l = w .before .before .before in (
-      add-one-le (c .before .before .before .before .before .before .loop-test .taken),
-      length-set (l .loop .head) (w .wide .result) _ ∙ l .loop .inv .1,
-      length-set (l .loop .link) (l .loop .c) _ ∙ l .loop .inv .2,
-      chained-more _ (l .loop .c) (w .wide .result) _ _ (l .loop .inv .3) (w .wide .ensures) _ _ refl refl (inside w) (slice-write-head c) (slice-write-link c),
-      any-more _ _ _ (l .loop .inv .4) (o .occurs-before .ensures) (c .if1 .left),
+    let w = read o in
+    let l = at-loop w .loop in (
+      add-one-le (passing w .loop-test .taken),
+      length-set (l .head) (p w) _ ∙ l .inv .1,
+      length-set (l .link) (l .c) _ ∙ l .inv .2,
+      chained-more _ (l .c) (p w) _ _ (l .inv .3) (w .wide .ensures) _ _ refl refl (p-named w) (slice-write-head c) (slice-write-link c),
+      any-more _ _ _ (l .inv .4) (o .occurs-before .ensures) (c .if1 .left),
     )
 
 same-length-3 : tie.Need-same-length-3 Inv-loop μ-loop
@@ -116,8 +143,10 @@ same-length-4 c = c .before .loop .inv .2
 returns-2 : tie.Need-returns-2 Inv-loop μ-loop
 returns-2 c =
     let l = c .before .loop in
-    let at = vertexOf (c .before .before .before .before .before .args .faces .now) in
-    (any-not _ _ _ (l .inv .4) (c .loop-test .left) ∙ sym (doubled-earlier _ _), λ e. subst (λ (k : ℕ). Chained at k (l .head) (l .link)) (le-antisymm (l .inv .0) (c .loop-test .left)) (l .inv .3))
+    let all = le-antisymm (l .inv .0) (c .loop-test .left) in (
+      any-not _ _ _ (l .inv .4) (c .loop-test .left) ∙ sym (doubled-earlier _ _),
+      λ e. subst (λ (k : ℕ). Chained (vertex (entry (c .before))) k (l .head) (l .link)) all (l .inv .3),
+    )
 
 pub link-corners-spec : {M : Type 1} → statement M
 link-corners-spec =

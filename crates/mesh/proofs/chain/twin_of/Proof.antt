@@ -1,5 +1,7 @@
--- `twin_of` meets its contract: no half-edge occurs twice, so the last one that runs the other way is the only one.
+-- `twin_of` meets its contract: the walk finds the last half-edge that runs from the end of c to its start, and as no half-edge occurs twice,
+-- that one is the twin; where the walk finds none, c has no twin.
 use mathlib.Core.Path.{_≡_, ap, _∙_}
+use mathlib.Core.Bool.{Bool}
 use Prim.Native.Nat.{ℕ, _<_}
 use native.Mathlib.Nat.{le-refl}
 use native.Mathlib.Omega.{arith}
@@ -11,25 +13,62 @@ use Rattle.mesh.proofs.SizeLaws.{indices-corners}
 use Rattle.mesh.proofs.CornerLaws.{next-below}
 use Rattle.mesh.proofs.chain.twin_of.Statement.{statement}
 use Rattle.mesh.proofs.chain.twin_of.Tie as tie
-use Rattle.mesh.specs.Tables.{vertexOf, latest}
+use Rattle.mesh.specs.Tables.{vertexOf, latest, Chained, Indices}
 
--- the end of half-edge c has a place in the table of heads
-inside : (c : tie.After-wide) → c .wide .result < maxVertices
-inside c =
-    let n = c .before .before in
-    let s = n .before .before .before .before in
-    let i = s .pre .0 .0 in
-    let at = vertexOf (s .args .faces .now) in
-    rw (c .wide .ensures ∙ ap at (n .next-corner .ensures)) (i .named (next (s .args .c)) (next-below (indices-corners i) (s .args .c) (s .pre .0 .1)))
+-- ---- at the entry: the half-edge c, by its two vertices, and those that run the other way
+module _ (s : tie.Start) where
+  abbrev vertex : ℕ → ℕ
+  vertex = vertexOf (s .args .faces .now)
 
--- what the walk found is the last half-edge that runs the other way
-told : (c : tie.After-find) → c .find .result ≡ latest (runs (vertexOf (c .before .before .before .before .before .before .before .before .before .args .faces .now)) (vertexOf (c .before .before .before .before .before .before .before .before .before .args .faces .now) (next (c .before .before .before .before .before .before .before .before .before .args .c))) (vertexOf (c .before .before .before .before .before .before .before .before .before .args .faces .now) (c .before .before .before .before .before .before .before .before .before .args .c))) (c .before .before .before .before .before .before .before .before .before .args .n)
-told c =
-    let w = c .before .before .before in
-    let s = w .before .before .before .before .before .before in
-    let at = vertexOf (s .args .faces .now) in
-    c .find .ensures ∙ ap (λ (x : ℕ). latest (runs at x (at (s .args .c))) (s .args .n)) (w .wide .ensures ∙ ap at (w .before .before .next-corner .ensures))
+  abbrev end : ℕ
+  end = vertex (next (s .args .c))
 
+  abbrev origin : ℕ
+  origin = vertex (s .args .c)
+
+  abbrev opposite : ℕ → Bool
+  opposite = runs vertex end origin
+
+  abbrev indices : Indices (s .args .faces .now) (s .args .n)
+  indices = s .pre .0 .0
+
+  chains : Chained vertex (s .args .n) (s .args .head .now) (s .args .link .now)
+  chains = s .pre .1 .0
+
+  end-named : end < maxVertices
+  end-named = indices .named (next (s .args .c)) (next-below (indices-corners indices) (s .args .c) (s .pre .0 .1))
+
+-- ---- p is read: it is the end of c, which has a place in the table of heads
+abbrev entry : tie.After-shared-slice-known3 → tie.Start
+entry c = c .before .before .before
+
+module _ (c : tie.After-wide) where
+  abbrev turned : tie.After-next-corner
+  turned = c .before .before
+
+  abbrev start : tie.Start
+  start = entry (turned .before)
+
+  p-is : c .wide .result ≡ end start
+  p-is = c .wide .ensures ∙ ap (vertex start) (turned .next-corner .ensures)
+
+  p-named : c .wide .result < maxVertices
+  p-named = rw p-is (end-named start)
+
+-- ---- the walk is done: u is the last half-edge that runs the other way
+module _ (c : tie.After-find) where
+  abbrev read : tie.After-wide
+  read = c .before .before .before
+
+  abbrev found-start : tie.Start
+  found-start = start read
+
+  u-is : c .find .result ≡ latest (opposite found-start) (found-start .args .n)
+  u-is =
+      let s = found-start in
+      c .find .ensures ∙ ap (λ (p : ℕ). latest (runs (vertex s) p (origin s)) (s .args .n)) (p-is read)
+
+-- ---- the answers, in the order of the code
 next-corner-requires : tie.Need-next-corner-requires
 next-corner-requires c κs = tt
 
@@ -49,28 +88,25 @@ shared-slice-read-q : tie.Need-shared-slice-read-q
 shared-slice-read-q c = omega arith
 
 mul-find : tie.Need-mul-find
-mul-find c = let h = inside (c .before) in omega arith
+mul-find c = omega (arith, p-named (c .before))
 
 shared-slice-read-find : tie.Need-shared-slice-read-find
-shared-slice-read-find c = let h = inside (c .before .before) in omega arith
+shared-slice-read-find c = omega (arith, p-named (c .before .before))
 
 find-requires : tie.Need-find-requires
 find-requires c κs =
     let w = c .before .before in
-    let s = w .before .before .before .before .before .before in
-    let p = s .pre .0 in
-    ((p .0, le-refl (s .args .n), p .3), (s .pre .1 .0 .heads (w .wide .result) (inside w), s .pre .1 .0 .links))
+    let s = start w in
+    ((indices s, le-refl (s .args .n), s .pre .0 .3), (chains s .heads (w .wide .result) (p-named w), chains s .links))
 
 returns : tie.Need-returns
-returns c = twin-none _ _ _ _ (told (c .before)) (c .if1 .taken)
+returns c = twin-none _ _ _ _ (u-is (c .before)) (c .if1 .taken)
 
 sub-result : tie.Need-sub-result
 sub-result c = omega arith
 
 returns-2 : tie.Need-returns-2
-returns-2 c =
-    let s = c .before .before .before .before .before .before .before .before .before .before in
-    twin-found _ _ _ _ (told (c .before)) (s .pre .1 .1) (c .if1 .left)
+returns-2 c = twin-found _ _ _ _ (u-is (c .before)) (found-start (c .before) .pre .1 .1) (c .if1 .left)
 
 pub twin-of-spec : {M : Type 1} → statement M
 twin-of-spec =

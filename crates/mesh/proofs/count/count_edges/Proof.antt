@@ -23,6 +23,21 @@ Inv-loop twins n count₀ c₀ count c = (c ≤ n) × (count ≡ countBelow (lea
 abbrev μ-loop : tie.MeasureT-loop
 μ-loop twins n count₀ c₀ count c = n - c
 
+-- ---- the twin of half-edge c is read and compared
+module _ (c : tie.After-bit Inv-loop μ-loop) where
+  abbrev passing : tie.In-loop Inv-loop μ-loop
+  passing = c .before .before .before
+
+  abbrev at-loop : tie.At-loop Inv-loop μ-loop
+  at-loop = passing .before
+
+  abbrev twins : List ℕ
+  twins = at-loop .before .before .args .twins .now
+
+  told : ltb (at-loop .loop .c) (c .before .wide .result) ≡ leads twins (at-loop .loop .c)
+  told = ap (ltb (at-loop .loop .c)) (c .before .wide .ensures)
+
+-- ---- the answers, in the order of the code
 loop-holds : tie.Need-loop-holds Inv-loop μ-loop
 loop-holds c = (omega arith, count-start (leads (c .before .args .twins .now)))
 
@@ -40,19 +55,21 @@ bit-requires c κs = tt
 
 add-count : tie.Need-add-count Inv-loop μ-loop
 add-count c =
-    let l = c .before .before .before .before in
-    omega (arith, c .bit .ensures, indicator-le (ltb (l .loop .c) (c .before .wide .result)), count-le (leads (l .before .before .args .twins .now)) (l .loop .c))
+    let i = at-loop c .loop .c in
+    omega (arith, c .bit .ensures, indicator-le (ltb i (c .before .wide .result)), count-le (leads (twins c)) i)
 
 add-c : tie.Need-add-c Inv-loop μ-loop
 add-c c = omega arith
 
 loop-less : tie.Need-loop-less Inv-loop μ-loop
-loop-less c = add-one-dec _ _ (c .before .before .before .loop-test .taken)
+loop-less c = add-one-dec _ _ (passing c .loop-test .taken)
 
 loop-again : tie.Need-loop-again Inv-loop μ-loop
 loop-again c =
-    let l = c .before .before .before .before in
-    (add-one-le (c .before .before .before .loop-test .taken), count-bit (leads (l .before .before .args .twins .now)) (l .loop .c) (l .loop .count) (c .bit .result) _ (l .loop .inv .1) (ap (ltb (l .loop .c)) (c .before .wide .ensures)) (c .bit .ensures))
+    let l = at-loop c .loop in (
+      add-one-le (passing c .loop-test .taken),
+      count-bit (leads (twins c)) (l .c) (l .count) (c .bit .result) _ (l .inv .1) (told c) (c .bit .ensures),
+    )
 
 returns : tie.Need-returns Inv-loop μ-loop
 returns c = search (count-all, needs)

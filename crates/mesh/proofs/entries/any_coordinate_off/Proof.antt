@@ -1,4 +1,4 @@
--- `any_coordinate_off` meets its contract: the loop has seen no coordinate off the range among those that it passed.
+-- `any_coordinate_off` meets its contract: the loop goes on only past coordinates in the range, and stops at the first that is not.
 use mathlib.Core.Path.{_≡_, ap, _∙_}
 use mathlib.Core.Bool.{false}
 use Prim.Native.Nat.{_-_, _≤_}
@@ -23,6 +23,21 @@ Inv-loop positions count i₀ i = (i ≤ count) × (anyBelow (λ j. ltb maxCoord
 abbrev μ-loop : tie.MeasureT-loop
 μ-loop positions count i₀ i = count - i
 
+-- ---- the coordinate at i is read and tested
+module _ (c : tie.After-beyond Inv-loop μ-loop) where
+  abbrev passing : tie.In-loop Inv-loop μ-loop
+  passing = c .before .before
+
+  abbrev x : ℤ
+  x = let l : tie.At-loop Inv-loop μ-loop = passing .before in getD (l .before .args .positions .now) (l .loop .i) (pos 0)
+
+  x-fits : SFits w32 x
+  x-fits = record { sfits = c .before .beyond-arg .given }
+
+  told : c .beyond .result ≡ ltb maxCoordinate (natAbs x)
+  told = c .beyond .ensures ∙ ap (λ (z : ℤ). ltb maxCoordinate (natAbs z)) (toZ-ofZ x-fits)
+
+-- ---- the answers, in the order of the code
 loop-holds : tie.Need-loop-holds Inv-loop μ-loop
 loop-holds c = search (any-start, needs)
 
@@ -36,24 +51,20 @@ shared-slice-copy-out-beyond c = omega arith
 beyond-requires : tie.Need-beyond-requires Inv-loop μ-loop
 beyond-requires c κs = tt
 
--- what the call said of the coordinate at i
-told : (c : tie.After-beyond Inv-loop μ-loop) → c .beyond .result ≡ ltb maxCoordinate (natAbs (getD (c .before .before .before .before .args .positions .now) (c .before .before .before .loop .i) (pos 0)))
-told c =
-    let x = getD (c .before .before .before .before .args .positions .now) (c .before .before .before .loop .i) (pos 0) in
-    let f : SFits w32 x = record { sfits = c .before .beyond-arg .given } in
-    c .beyond .ensures ∙ ap (λ (z : ℤ). ltb maxCoordinate (natAbs z)) (toZ-ofZ f)
-
 returns : tie.Need-returns Inv-loop μ-loop
-returns c = any-found _ _ _ _ (c .before .before .before .loop-test .taken) (told (c .before)) (c .if1 .taken)
+returns c = let t = c .before in any-found _ _ _ _ (passing t .loop-test .taken) (told t) (c .if1 .taken)
 
 add-i : tie.Need-add-i Inv-loop μ-loop
 add-i c = omega arith
 
 loop-less : tie.Need-loop-less Inv-loop μ-loop
-loop-less c = add-one-dec _ _ (c .before .before .before .loop-test .taken)
+loop-less c = add-one-dec _ _ (passing (c .before) .loop-test .taken)
 
 loop-again : tie.Need-loop-again Inv-loop μ-loop
-loop-again c = (add-one-le (c .before .before .before .loop-test .taken), any-more _ _ _ (c .before .before .before .before .loop .inv .1) (told (c .before)) (c .if1 .left))
+loop-again c =
+    let t = c .before in
+    let i = passing t in
+    (add-one-le (i .loop-test .taken), any-more _ _ _ (i .before .loop .inv .1) (told t) (c .if1 .left))
 
 returns-2 : tie.Need-returns-2 Inv-loop μ-loop
 returns-2 c = search (any-not, needs)

@@ -36,7 +36,9 @@ loop-less : tie.Need-loop-less Inv-loop μ-loop
 loop-less c = add-one-dec _ _ (c .before .before .loop-test .taken)
 
 loop-again : tie.Need-loop-again Inv-loop μ-loop
-loop-again c = (add-one-le (c .before .before .loop-test .taken), any-more _ _ false (c .before .before .before .loop .inv .1) (sym (le-ltb _ _ (c .if1 .left))) refl)
+loop-again c =
+    let i = c .before .before in
+    (add-one-le (i .loop-test .taken), any-more _ _ false (i .before .loop .inv .1) (sym (le-ltb _ _ (c .if1 .left))) refl)
 
 returns-2 : tie.Need-returns-2 Inv-loop μ-loop
 returns-2 c = search (any-not, needs)

@@ -1,6 +1,6 @@
--- `any_vertex_off` meets its contract: the corners passed name vertices below v.
+-- `any_vertex_off` meets its contract: the loop goes on only past corners that name a vertex below v, and stops at the first that does not.
 use mathlib.Core.Path.{_≡_, refl, sym, subst}
-use mathlib.Core.Bool.{true, false}
+use mathlib.Core.Bool.{Bool, true, false}
 use Prim.Native.Nat.{ℕ, _-_, _<_, _≤_}
 use native.Mathlib.Numerals.{add-one-le, add-one-dec}
 use native.Mathlib.Omega.{arith}
@@ -19,6 +19,25 @@ Inv-loop faces n v c₀ c = (c ≤ n) × (anyBelow (λ d. leb v (vertexOf faces 
 abbrev μ-loop : tie.MeasureT-loop
 μ-loop faces n v c₀ c = n - c
 
+-- ---- the vertex of corner c is read
+module _ (c : tie.After-wide Inv-loop μ-loop) where
+  abbrev passing : tie.In-loop Inv-loop μ-loop
+  passing = c .before .before
+
+  abbrev start : tie.Start Inv-loop μ-loop
+  start = passing .before .before .before
+
+  -- what is asked of it
+  abbrev off : Bool
+  off = leb (start .args .v) (vertexOf (start .args .faces .now) (passing .before .loop .c))
+
+  above : start .args .v ≤ c .wide .result → true ≡ off
+  above h = sym (le-leb _ _ (subst (λ (x : ℕ). start .args .v ≤ x) (c .wide .ensures) h))
+
+  below : c .wide .result < start .args .v → false ≡ off
+  below h = sym (lt-leb _ _ (subst (λ (x : ℕ). x < start .args .v) (c .wide .ensures) h))
+
+-- ---- the answers, in the order of the code
 loop-holds : tie.Need-loop-holds Inv-loop μ-loop
 loop-holds c = search (any-start, needs)
 
@@ -32,20 +51,19 @@ wide-requires : tie.Need-wide-requires Inv-loop μ-loop
 wide-requires c κs = tt
 
 returns : tie.Need-returns Inv-loop μ-loop
-returns c =
-    let s = c .before .before .before .before .before .before in
-    any-found _ _ _ true (c .before .before .before .loop-test .taken) (sym (le-leb _ _ (subst (λ (x : ℕ). s .args .v ≤ x) (c .before .wide .ensures) (c .if1 .taken)))) refl
+returns c = let w = c .before in any-found _ _ _ true (passing w .loop-test .taken) (above w (c .if1 .taken)) refl
 
 add-c : tie.Need-add-c Inv-loop μ-loop
 add-c c = omega arith
 
 loop-less : tie.Need-loop-less Inv-loop μ-loop
-loop-less c = add-one-dec _ _ (c .before .before .before .loop-test .taken)
+loop-less c = add-one-dec _ _ (passing (c .before) .loop-test .taken)
 
 loop-again : tie.Need-loop-again Inv-loop μ-loop
 loop-again c =
-    let s = c .before .before .before .before .before .before in
-    (add-one-le (c .before .before .before .loop-test .taken), any-more _ _ false (c .before .before .before .before .loop .inv .1) (sym (lt-leb _ _ (subst (λ (x : ℕ). x < s .args .v) (c .before .wide .ensures) (c .if1 .left)))) refl)
+    let w = c .before in
+    let i = passing w in
+    (add-one-le (i .loop-test .taken), any-more _ _ false (i .before .loop .inv .1) (below w (c .if1 .left)) refl)
 
 returns-2 : tie.Need-returns-2 Inv-loop μ-loop
 returns-2 c = search (any-not, needs)

@@ -1,5 +1,6 @@
 -- `sizes_off` meets its contract: it is the definition, one test after the other.
 use mathlib.Core.Path.{sym, _∙_}
+use Prim.Native.Nat.{_≤_}
 use native.Mathlib.Omega.{arith}
 use borrow.Author.Tests.{eq-eqb, ne-eqb}
 use borrow.Author.Needs.{needs}
@@ -10,6 +11,18 @@ use Rattle.mesh.proofs.SizeLaws.{off-false, or-found, or-passed}
 use Rattle.mesh.proofs.entries.sizes_off.Statement.{statement}
 use Rattle.mesh.proofs.entries.sizes_off.Tie as tie
 
+-- ---- past the ranges of V and of F: both are small
+few-vertices : (c : tie.Else1) → c .before .before .args .v ≤ maxVertices
+few-vertices c = off-false minVertices maxVertices (c .before .before .args .v) (sym (c .before .off-range .ensures) ∙ c .if1 .left) .1
+
+module _ (c : tie.Else2) where
+  abbrev past-vertices : tie.Else1
+  past-vertices = c .before .before
+
+  few-faces : past-vertices .before .before .args .f ≤ maxFaces
+  few-faces = off-false minFaces maxFaces (past-vertices .before .before .args .f) (sym (c .before .off-range2 .ensures) ∙ c .if2 .left) .1
+
+-- ---- the answers, in the order of the code
 off-range-requires : tie.Need-off-range-requires
 off-range-requires c κs = tt
 
@@ -25,9 +38,7 @@ unfolding sizesOff
 returns-2 c = search (or-found, or-passed, or-yes, or-no, needs) depth 12
 
 mul-if3 : tie.Need-mul-if3
-mul-if3 c =
-    let h = off-false minVertices maxVertices (c .before .before .before .before .args .v) (sym (c .before .before .before .off-range .ensures) ∙ c .before .before .if1 .left) in
-    omega (arith, h .1)
+mul-if3 c = omega (arith, few-vertices (past-vertices c))
 
 returns-3 : tie.Need-returns-3
 unfolding sizesOff
@@ -38,9 +49,7 @@ unfolding sizesOff
 returns-4 c = search (or-found, or-passed, or-yes, or-no, not-no, not-yes, ne-eqb, eq-eqb, needs) depth 12
 
 mul-result : tie.Need-mul-result
-mul-result c =
-    let h = off-false minFaces maxFaces (c .before .before .before .before .before .before .args .f) (sym (c .before .before .before .off-range2 .ensures) ∙ c .before .before .if2 .left) in
-    omega (arith, h .1)
+mul-result c = omega (arith, few-faces (c .before .before))
 
 returns-5 : tie.Need-returns-5
 unfolding sizesOff

@@ -2,19 +2,20 @@
 use Prim.Native.Nat.{_-_}
 use native.Mathlib.Omega.{arith}
 use borrow.Author.Needs.{needs}
-use Rattle.mesh.proofs.WalkLaws.{Onward, Backward, onward-start, onward-in, onward-more, onward-less, onward-end, backward-start, backward-in, backward-more, backward-less, backward-end}
+use Rattle.mesh.proofs.WalkLaws.{Onward, onward-start, onward-in, onward-more, onward-less, onward-end}
+use Rattle.mesh.proofs.WalkLaws.{Backward, backward-start, backward-in, backward-more, backward-less, backward-end}
 use Rattle.mesh.proofs.fan.circulate.Statement.{statement}
 use Rattle.mesh.proofs.fan.circulate.Tie as tie
 use Rattle.mesh.specs.Tables.{twinOf}
 
 abbrev Inv-loop : tie.InvT-loop
-Inv-loop twins n start met₀ on₀ met on = Onward n (twinOf twins) start met on
+Inv-loop twins n start met₀ on₀ met on = Onward (twinOf twins) n start met on
 
 abbrev μ-loop : tie.MeasureT-loop
 μ-loop twins n start met₀ on₀ met on = n - met
 
 abbrev Inv-loop2 : tie.InvT-loop2
-Inv-loop2 twins n start met₀ on back₀ met back = Backward n (twinOf twins) start met back
+Inv-loop2 twins n start met₀ on back₀ met back = Backward (twinOf twins) n start met back
 
 abbrev μ-loop2 : tie.MeasureT-loop2
 μ-loop2 twins n start met₀ on back₀ met back = n - met

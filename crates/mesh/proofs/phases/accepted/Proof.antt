@@ -10,10 +10,18 @@ use Rattle.mesh.proofs.phases.accepted.Statement.{statement}
 use Rattle.mesh.proofs.phases.accepted.Tie as tie
 use Rattle.mesh.specs.Tables.{twinOf, vertexOf}
 
--- the boundary half-edges are what the edges leave over
-left : (c : tie.After-count-edges) → 4 * c .before .before .before .args .f + boundaries (vertexOf (c .before .before .before .args .faces .now)) (4 * c .before .before .before .args .f) ≡ 2 * c .count-edges .result
-left c = edges-left (c .before .before .before .pre) (c .count-edges .result) (c .count-edges .ensures)
+-- ---- the edges are counted: the boundary half-edges are what they leave over
+module _ (c : tie.After-count-edges) where
+  abbrev start : tie.Start
+  start = c .before .before .before
 
+  abbrev n : ℕ
+  n = 4 * start .args .f
+
+  left : n + boundaries (vertexOf (start .args .faces .now)) n ≡ 2 * c .count-edges .result
+  left = edges-left (start .pre) (c .count-edges .result) (c .count-edges .ensures)
+
+-- ---- the answers, in the order of the code
 mul-n : tie.Need-mul-n
 mul-n c = let i = c .before .before .pre .indices in omega arith
 
@@ -22,16 +30,16 @@ count-edges-requires c κs = c .before .before .pre .twins-listed
 
 mul-boundary : tie.Need-mul-boundary
 mul-boundary c =
-    let s = c .before .before .before in
-    omega (arith, s .pre .indices .few, c .count-edges .ensures, count-le (λ d. ltb d (twinOf (s .args .twins .now) d)) (4 * s .args .f))
+    let s = start c in
+    omega (arith, s .pre .indices .few, c .count-edges .ensures, count-le (λ d. ltb d (twinOf (s .args .twins .now) d)) (n c))
 
 sub-boundary : tie.Need-sub-boundary
 sub-boundary c = omega (arith, left c)
 
 returns : tie.Need-returns
 returns c =
-    let s = c .before .before .before in
-    let b : 2 * c .count-edges .result - 4 * s .args .f ≡ boundaries (vertexOf (s .args .faces .now)) (4 * s .args .f) = omega (arith, left c) in
+    let s = start c in
+    let b : 2 * c .count-edges .result - n c ≡ boundaries (vertexOf (s .args .faces .now)) (n c) = omega (arith, left c) in
     ap₂ (λ (e x : ℕ). record { vertices = s .args .v; faces = s .args .f; edges = e; boundary = x }) (c .count-edges .ensures ∙ edges-table (s .pre)) b
 
 pub accepted-spec : {M : Type 1} → statement M

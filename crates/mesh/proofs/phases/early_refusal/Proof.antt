@@ -1,16 +1,12 @@
 -- `early_refusal` meets its contract: sizes first, then what the caller met of its own, then the rows of the entries.
 use mathlib.Core.Path.{_≡_, sym, ap, _∙_}
-use mathlib.Core.Bool.{true, false}
-use mathlib.Core.List.{List}
-use mathlib.Core.Option.{none}
-use Prim.Native.Nat.{ℕ}
+use mathlib.Core.Bool.{false}
 use native.Mathlib.Nat.{suc-ne-zero}
-use lib.ListN.{length}
-use Rattle.finite.specs.Table.{Row, firstMet, refusalOf}
+use Rattle.finite.specs.Table.{refusalOf}
 use Rattle.finite.proofs.TableLaws.{met-here, skipped, some-append, none-append, refusal-some}
 use Rattle.mesh.specs.IndexedMesh.{IndexedMesh, indexed}
-use Rattle.mesh.specs.Refusal.{sizesOff, entryRows}
-use Rattle.mesh.proofs.SizeLaws.{sizes-false}
+use Rattle.mesh.specs.Refusal.{meshSizesOff, entryRows}
+use Rattle.mesh.proofs.SizeLaws.{mesh-sizes-false}
 use Rattle.mesh.proofs.phases.early_refusal.Statement.{statement}
 use Rattle.mesh.proofs.phases.early_refusal.Tie as tie
 
@@ -26,7 +22,7 @@ module _ (c : tie.Else1) where
   abbrev start : tie.Start
   start = entry (c .before .before)
 
-  sizes : sizesOff (start .args .v) (start .args .f) (length (start .args .positions .now)) (length (start .args .tags .now)) (length (start .args .faces .now)) ≡ false
+  sizes : meshSizesOff (mesh start) ≡ false
   sizes = sym (c .before .sizes-off .ensures) ∙ c .if1 .left
 
 -- ---- past the call's own rows: the entries are looked at
@@ -59,7 +55,7 @@ returns-2 c =
 entry-refusal-requires : tie.Need-entry-refusal-requires
 entry-refusal-requires c κs =
     let e₁ = unmet c .before in
-    (sizes-false _ _ _ _ _ (sizes e₁), start e₁ .pre)
+    (mesh-sizes-false (mesh (start e₁)) (sizes e₁), start e₁ .pre)
 
 same-length : tie.Need-same-length
 same-length c = entries c .entry-refusal .kept .1 .1 .1 .1 .1 .0

@@ -1,17 +1,15 @@
 -- `entry_refusal` meets its contract: the phases run in the order of the rows, and each says its cause; what is left to check after each
 -- of them is said by `after-..`.
-use mathlib.Core.Path.{_≡_, sym, _∙_}
-use mathlib.Core.List.{[], _∷_}
+use mathlib.Core.Path.{sym, _∙_}
+use mathlib.Core.List.{List, [], _∷_}
 use Prim.Native.Nat.{_*_}
 use native.Mathlib.Nat.{suc-ne-zero}
 use native.Mathlib.Omega.{arith}
-use lib.ListN.{length}
-use Rattle.finite.specs.Table.{row, firstMet}
+use Rattle.finite.specs.Table.{Row, row}
 use Rattle.finite.proofs.TableLaws.{From, all-rows, row-met, row-passed}
 use Rattle.mesh.specs.IndexedMesh.{IndexedMesh, indexed}
 use Rattle.mesh.specs.Refusal.{coordinateOff, tagOff, vertexOff, vertexTwice, halfEdgeTwice, entryRows}
-use Rattle.mesh.specs.WellFormed.{Sized}
-use Rattle.mesh.proofs.PhaseLaws.{sized-indices}
+use Rattle.mesh.proofs.SizeLaws.{sized-indices}
 use Rattle.mesh.proofs.AcceptedLaws.{vertex-false}
 use Rattle.mesh.proofs.phases.entry_refusal.Statement.{statement}
 use Rattle.mesh.proofs.phases.entry_refusal.Tie as tie
@@ -21,6 +19,20 @@ use Rattle.mesh.specs.Tables.{Indices}
 abbrev mesh : tie.Start → IndexedMesh
 mesh s = indexed (s .args .v) (s .args .f) (s .args .positions .now) (s .args .tags .now) (s .args .faces .now)
 
+-- the rows of the entries from each on
+module _ (M : IndexedMesh) where
+  abbrev from-7 : List Row
+  from-7 = row (halfEdgeTwice M) 7 ∷ []
+
+  abbrev from-6 : List Row
+  from-6 = row (vertexTwice M) 6 ∷ from-7
+
+  abbrev from-5 : List Row
+  from-5 = row (vertexOff M) 5 ∷ from-6
+
+  abbrev from-4 : List Row
+  from-4 = row (tagOff M) 4 ∷ from-5
+
 abbrev entry : tie.After-slice-known2 → tie.Start
 entry c = c .before .before .before .before
 
@@ -29,7 +41,7 @@ module _ (c : tie.Else1) where
   abbrev start₃ : tie.Start
   start₃ = entry (c .before .before)
 
-  after-3 : From (entryRows (mesh start₃)) (row (tagOff (mesh start₃)) 4 ∷ (row (vertexOff (mesh start₃)) 5 ∷ (row (vertexTwice (mesh start₃)) 6 ∷ (row (halfEdgeTwice (mesh start₃)) 7 ∷ []))))
+  after-3 : From (entryRows (mesh start₃)) (from-4 (mesh start₃))
   unfolding coordinateOff
   after-3 = row-passed (all-rows (entryRows (mesh start₃))) (sym (c .before .any-coordinate-off .ensures) ∙ c .if1 .left)
 
@@ -38,7 +50,7 @@ module _ (c : tie.Else2) where
   abbrev start₄ : tie.Start
   start₄ = start₃ (c .before .before)
 
-  after-4 : From (entryRows (mesh start₄)) (row (vertexOff (mesh start₄)) 5 ∷ (row (vertexTwice (mesh start₄)) 6 ∷ (row (halfEdgeTwice (mesh start₄)) 7 ∷ [])))
+  after-4 : From (entryRows (mesh start₄)) (from-5 (mesh start₄))
   unfolding tagOff
   after-4 = row-passed (after-3 (c .before .before)) (sym (c .before .any-tag-off .ensures) ∙ c .if2 .left)
 
@@ -47,7 +59,7 @@ module _ (c : tie.Else3) where
   abbrev start₅ : tie.Start
   start₅ = start₄ (c .before .before)
 
-  after-5 : From (entryRows (mesh start₅)) (row (vertexTwice (mesh start₅)) 6 ∷ (row (halfEdgeTwice (mesh start₅)) 7 ∷ []))
+  after-5 : From (entryRows (mesh start₅)) (from-6 (mesh start₅))
   unfolding vertexOff
   after-5 = row-passed (after-4 (c .before .before)) (sym (c .before .any-vertex-off .ensures) ∙ c .if3 .left)
 
@@ -60,7 +72,7 @@ module _ (c : tie.Else4) where
   abbrev start₆ : tie.Start
   start₆ = start₅ (c .before .before)
 
-  after-6 : From (entryRows (mesh start₆)) (row (halfEdgeTwice (mesh start₆)) 7 ∷ [])
+  after-6 : From (entryRows (mesh start₆)) (from-7 (mesh start₆))
   unfolding vertexTwice
   after-6 = row-passed (after-5 (c .before .before)) (sym (c .before .any-vertex-twice .ensures) ∙ c .if4 .left)
 

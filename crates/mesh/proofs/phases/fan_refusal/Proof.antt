@@ -2,28 +2,55 @@
 use mathlib.Core.Path.{_≡_, sym, _∙_}
 use mathlib.Core.Bool.{false}
 use mathlib.Core.List.{List, [], _∷_}
-use Prim.Native.Nat.{ℕ, _*_}
+use Prim.Native.Nat.{ℕ, _*_, _≤_}
 use native.Mathlib.Nat.{suc-ne-zero}
 use native.Mathlib.Omega.{arith}
+use lib.Dec.{eqb}
 use lib.ListN.{getD-replicate}
 use borrow.Author.Needs.{needs}
-use Rattle.finite.specs.Table.{row}
+use Rattle.finite.specs.Table.{Row, row}
 use Rattle.finite.proofs.TableLaws.{From, all-rows, row-met, row-passed}
 use Rattle.mesh.specs.Limits.{maxVertices}
+use Rattle.mesh.specs.HalfEdge.{twin}
 use Rattle.mesh.specs.Refusal.{vertexUnused, fanBroken, valenceOff, fanRows}
 use Rattle.mesh.proofs.PhaseLaws.{unused-table, valence-table}
 use Rattle.mesh.proofs.AcceptedLaws.{unused-false}
 use Rattle.mesh.proofs.phases.fan_refusal.Statement.{statement}
 use Rattle.mesh.proofs.phases.fan_refusal.Tie as tie
-use Rattle.mesh.specs.Tables.{vertexOf}
+use Rattle.mesh.specs.Tables.{Holds, vertexOf, latest, Indices}
 
--- ---- at the entry: the vertices of the corners, and how many there are
+-- ---- at the entry: the vertices of the corners, how many there are, what the lists hold, and the rows to look at
 module _ (s : tie.Start) where
   abbrev vertex : ℕ → ℕ
   vertex = vertexOf (s .args .faces .now)
 
   abbrev n : ℕ
   n = 4 * s .args .f
+
+  abbrev indices : Indices (s .args .faces .now) n
+  indices = s .pre .0 .0
+
+  few : s .args .v ≤ maxVertices
+  few = s .pre .0 .2
+
+  twins-are : Holds 0 (s .args .twins .now) n (twin vertex n)
+  twins-are = s .pre .1 .1 .0
+
+  heads-are : Holds 0 (s .args .head .now) maxVertices (λ p. latest (λ d. eqb (vertex d) p) n)
+  heads-are = s .pre .1 .1 .1 .0
+
+  unmarked : Holds false (s .args .on-boundary .now) maxVertices (λ p. false)
+  unmarked = s .pre .1 .1 .1 .1
+
+  -- the rows of the corners at each vertex, all of them and from each on
+  abbrev rows : List Row
+  rows = fanRows vertex n (s .args .v)
+
+  abbrev from-10 : List Row
+  from-10 = row (valenceOff vertex n (s .args .v)) 10 ∷ []
+
+  abbrev from-9 : List Row
+  from-9 = row (fanBroken vertex n (s .args .v)) 9 ∷ from-10
 
 abbrev entry : tie.After-slice-known → tie.Start
 entry c = c .before .before .before .before
@@ -43,7 +70,7 @@ unused : (c : tie.After-any-unused) → (let s = start (counted c) in c .any-unu
 unfolding vertexUnused
 unused c =
     let k = counted c in
-    c .any-unused .ensures ∙ unused-table _ (start k .pre .0 .2) (valences k) _ (k .count-corners .ensures)
+    c .any-unused .ensures ∙ unused-table _ (few (start k)) (valences k) _ (k .count-corners .ensures)
 
 -- ---- past 8: every vertex has corners
 module _ (c : tie.Else1) where
@@ -53,8 +80,8 @@ module _ (c : tie.Else1) where
   used : vertexUnused (vertex start₈) (n start₈) (start₈ .args .v) ≡ false
   used = sym (unused (c .before)) ∙ c .if1 .left
 
-  after-8 : From (fanRows (vertex start₈) (n start₈) (start₈ .args .v)) (row (fanBroken (vertex start₈) (n start₈) (start₈ .args .v)) 9 ∷ (row (valenceOff (vertex start₈) (n start₈) (start₈ .args .v)) 10 ∷ []))
-  after-8 = row-passed (all-rows (fanRows (vertex start₈) (n start₈) (start₈ .args .v))) used
+  after-8 : From (rows start₈) (from-9 start₈)
+  after-8 = row-passed (all-rows (rows start₈)) used
 
 -- ---- past 9: the corners at each vertex form one turn or one chain
 module _ (c : tie.Else2) where
@@ -64,7 +91,7 @@ module _ (c : tie.Else2) where
   abbrev start₉ : tie.Start
   start₉ = start₈ passed-8
 
-  after-9 : From (fanRows (vertex start₉) (n start₉) (start₉ .args .v)) (row (valenceOff (vertex start₉) (n start₉) (start₉ .args .v)) 10 ∷ [])
+  after-9 : From (rows start₉) (from-10 start₉)
   unfolding fanBroken
   after-9 = row-passed (after-8 passed-8) (sym (c .before .any-fan-broken .ensures) ∙ c .if2 .left)
 
@@ -83,18 +110,19 @@ module _ (c : tie.After-any-valence-off) where
   unfolding valenceOff
   valence =
       let k = counted (passed-8 (passed-9 marks) .before) in
+      let b = marks .mark-boundary in
       c .any-valence-off .ensures
-      ∙ valence-table _ (start₁₀ .pre .0 .2) (valences k) _ (k .count-corners .ensures) (marks .mark-boundary .last .1 .1 .1 .0) _ (marks .mark-boundary .ensures)
+      ∙ valence-table _ (few start₁₀) (valences k) _ (k .count-corners .ensures) (b .last .1 .1 .1 .0) _ (b .ensures)
 
 -- ---- the answers, in the order of the code
 mul-n : tie.Need-mul-n
-mul-n c = let i = entry c .pre .0 .0 in omega arith
+mul-n c = let i = indices (entry c) in omega arith
 
 slice-aggregate-count-corners : tie.Need-slice-aggregate-count-corners
 slice-aggregate-count-corners c = search needs
 
 count-corners-requires : tie.Need-count-corners-requires
-count-corners-requires c κs = ((entry (c .before) .pre .0 .0, omega arith), λ p l. getD-replicate maxVertices p 0 0 l)
+count-corners-requires c κs = ((indices (entry (c .before)), omega arith), λ p l. getD-replicate maxVertices p 0 0 l)
 
 slice-aggregate-any-unused : tie.Need-slice-aggregate-any-unused
 slice-aggregate-any-unused c = search needs
@@ -105,7 +133,7 @@ any-unused-requires c κs = let s = start (c .before .before) in omega arith
 returns : tie.Need-returns
 returns c =
     let s = start (counted (c .before)) in
-    record { first = row-met (all-rows (fanRows (vertex s) (n s) (s .args .v))) (sym (unused (c .before)) ∙ c .if1 .taken); marked = λ e. absurd (suc-ne-zero _ e) }
+    record { first = row-met (all-rows (rows s)) (sym (unused (c .before)) ∙ c .if1 .taken); marked = λ e. absurd (suc-ne-zero _ e) }
 
 slice-aggregate-any-fan-broken : tie.Need-slice-aggregate-any-fan-broken
 slice-aggregate-any-fan-broken c = search needs
@@ -114,8 +142,9 @@ any-fan-broken-requires : tie.Need-any-fan-broken-requires
 any-fan-broken-requires c κs =
     let e₁ = c .before in
     let s = start₈ e₁ in
-    let p = s .pre in
-    (p .0, ((p .1 .0 .0, omega arith, p .1 .0 .1), (p .1 .1 .0, (counted (e₁ .before) .count-corners .ensures, (p .1 .1 .1 .0, unused-false (vertex s) (n s) (s .args .v) (used e₁))))))
+    let long = s .pre .1 .0 in
+    let some = unused-false (vertex s) (n s) (s .args .v) (used e₁) in
+    (s .pre .0, ((long .0, omega arith, long .1), (twins-are s, (counted (e₁ .before) .count-corners .ensures, (heads-are s, some)))))
 
 returns-2 : tie.Need-returns-2
 unfolding fanBroken
@@ -125,7 +154,10 @@ returns-2 c = record {
 }
 
 mark-boundary-requires : tie.Need-mark-boundary-requires
-mark-boundary-requires c κs = let p = start₉ (c .before) .pre in ((p .0 .0, p .1 .0 .0, p .1 .0 .2), (p .1 .1 .0, p .1 .1 .1 .1))
+mark-boundary-requires c κs =
+    let s = start₉ (c .before) in
+    let long = s .pre .1 .0 in
+    ((indices s, long .0, long .2), (twins-are s, unmarked s))
 
 slice-aggregate-any-valence-off : tie.Need-slice-aggregate-any-valence-off
 slice-aggregate-any-valence-off c = search needs

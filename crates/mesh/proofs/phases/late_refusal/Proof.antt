@@ -9,7 +9,7 @@ use native.Mathlib.Omega.{arith}
 use lib.IntN.{ℤ}
 use lib.ListN.{getD-replicate}
 use borrow.Author.Needs.{needs}
-use Rattle.finite.specs.Table.{firstMet, refusalOf}
+use Rattle.finite.specs.Table.{Row, firstMet, refusalOf}
 use Rattle.finite.proofs.TableLaws.{met-here, skipped, some-append, none-append, refusal-some}
 use Rattle.mesh.specs.Limits.{maxVertices}
 use Rattle.mesh.specs.IndexedMesh.{IndexedMesh, indexed}
@@ -29,6 +29,13 @@ module _ (s : tie.Start) where
 
   abbrev n : ℕ
   n = 4 * s .args .f
+
+  -- the rows of the fans, and the row of the tags
+  abbrev fan-rows : List Row
+  fan-rows = fanRows vertex n (s .args .v)
+
+  abbrev tag-rows : List ℤ → List Row
+  tag-rows positions = vertexRows (mesh positions)
 
 abbrev entry : tie.After-on-boundary → tie.Start
 entry c = let k : tie.After-shared-slice-known4 = c .before in k .before .before .before .before
@@ -51,14 +58,15 @@ module _ (c : tie.After-any-inner-tagged) where
   abbrev start₁₀ : tie.Start
   start₁₀ = start told
 
-  none-met : firstMet (fanRows (vertex start₁₀) (n start₁₀) (start₁₀ .args .v)) ≡ none
+  none-met : firstMet (fan-rows start₁₀) ≡ none
   none-met = told .fan-refusal .ensures .first ∙ ap refusalOf (passed .if1 .left)
 
   tagged : (positions : List ℤ) → c .any-inner-tagged .result ≡ innerTagged (mesh start₁₀ positions)
   unfolding innerTagged
   tagged positions =
+      let f = told .fan-refusal in
       c .any-inner-tagged .ensures
-      ∙ tagged-table _ (start₁₀ .pre .0 .2) (start₁₀ .args .tags .now) (told .fan-refusal .last .1 .1 .1 .1 .1 .0) _ (told .fan-refusal .ensures .marked (passed .if1 .left))
+      ∙ tagged-table _ (start₁₀ .pre .0 .2) (start₁₀ .args .tags .now) (f .last .1 .1 .1 .1 .1 .0) _ (f .ensures .marked (passed .if1 .left))
 
 -- ---- the answers, in the order of the code
 slice-aggregate-fan-refusal : tie.Need-slice-aggregate-fan-refusal
@@ -66,8 +74,11 @@ slice-aggregate-fan-refusal c = search needs
 
 fan-refusal-requires : tie.Need-fan-refusal-requires
 fan-refusal-requires c κs =
-    let p = entry c .pre in
-    ((p .0 .0, p .0 .1, p .0 .2), ((p .1 .0 .0, p .1 .0 .1, omega arith), (p .1 .1 .0, (p .1 .1 .1, λ q l. getD-replicate maxVertices q false false l))))
+    let s = entry c in
+    let mesh-is = s .pre .0 in
+    let long = s .pre .1 .0 in
+    let tables = s .pre .1 .1 in
+    ((mesh-is .0, mesh-is .1, mesh-is .2), ((long .0, long .1, omega arith), (tables .0, (tables .1, λ p l. getD-replicate maxVertices p false false l))))
 
 returns : tie.Need-returns
 returns c positions =
@@ -75,7 +86,7 @@ returns c positions =
     let s = start f in
     let r = f .fan-refusal .result in
     let met = c .if1 .taken in
-    some-append (fanRows (vertex s) (n s) (s .args .v)) (vertexRows (mesh s positions)) (f .fan-refusal .ensures .first ∙ refusal-some r met) ∙ sym (refusal-some r met)
+    some-append (fan-rows s) (tag-rows s positions) (f .fan-refusal .ensures .first ∙ refusal-some r met) ∙ sym (refusal-some r met)
 
 slice-aggregate-any-inner-tagged : tie.Need-slice-aggregate-any-inner-tagged
 slice-aggregate-any-inner-tagged c = search needs
@@ -87,13 +98,13 @@ returns-2 : tie.Need-returns-2
 returns-2 c positions =
     let k = c .before in
     let s = start₁₀ k in
-    none-append (fanRows (vertex s) (n s) (s .args .v)) (vertexRows (mesh s positions)) (none-met k) ∙ met-here 11 _ (sym (tagged k positions) ∙ c .if2 .taken)
+    none-append (fan-rows s) (tag-rows s positions) (none-met k) ∙ met-here 11 _ (sym (tagged k positions) ∙ c .if2 .taken)
 
 returns-3 : tie.Need-returns-3
 returns-3 c positions =
     let k = c .before in
     let s = start₁₀ k in
-    none-append (fanRows (vertex s) (n s) (s .args .v)) (vertexRows (mesh s positions)) (none-met k) ∙ skipped 11 _ (sym (tagged k positions) ∙ c .if2 .left)
+    none-append (fan-rows s) (tag-rows s positions) (none-met k) ∙ skipped 11 _ (sym (tagged k positions) ∙ c .if2 .left)
 
 pub late-refusal-spec : {M : Type 1} → statement M
 late-refusal-spec =

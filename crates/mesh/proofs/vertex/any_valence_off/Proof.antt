@@ -1,7 +1,7 @@
--- `any_valence_off` meets its contract: the vertices passed have valences in their range.
+-- `any_valence_off` meets its contract: the loop goes on only past vertices whose valence is in its range, and stops at the first that is not.
 use mathlib.Core.Path.{_≡_, ap, _∙_}
-use mathlib.Core.Bool.{false}
-use Prim.Native.Nat.{_-_, _≤_}
+use mathlib.Core.Bool.{Bool, false}
+use Prim.Native.Nat.{ℕ, _-_, _≤_}
 use native.Mathlib.Numerals.{add-one-le, add-one-dec}
 use native.Mathlib.Omega.{arith}
 use lib.ListN.{getD}
@@ -18,6 +18,24 @@ Inv-loop valences on-boundary v p₀ p = (p ≤ v) × (anyBelow (λ q. valenceBa
 abbrev μ-loop : tie.MeasureT-loop
 μ-loop valences on-boundary v p₀ p = v - p
 
+-- ---- the valence of p is read and tested
+module _ (c : tie.After-valence-bad Inv-loop μ-loop) where
+  abbrev passing : tie.In-loop Inv-loop μ-loop
+  passing = let w : tie.After-wide Inv-loop μ-loop = c .before in w .before .before .before
+
+  abbrev start : tie.Start Inv-loop μ-loop
+  start = passing .before .before .before .before
+
+  abbrev p : ℕ
+  p = passing .before .loop .p
+
+  abbrev marked : Bool
+  marked = getD (start .args .on-boundary .now) p false
+
+  told : c .valence-bad .result ≡ valenceBad marked (getD (start .args .valences .now) p 0)
+  told = c .valence-bad .ensures ∙ ap (valenceBad marked) (c .before .wide .ensures)
+
+-- ---- the answers, in the order of the code
 loop-holds : tie.Need-loop-holds Inv-loop μ-loop
 loop-holds c = search (any-start, needs)
 
@@ -36,20 +54,20 @@ wide-requires c κs = tt
 valence-bad-requires : tie.Need-valence-bad-requires Inv-loop μ-loop
 valence-bad-requires c κs = tt
 
-told : (c : tie.After-valence-bad Inv-loop μ-loop) → c .valence-bad .result ≡ valenceBad (getD (c .before .before .before .before .before .before .before .before .args .on-boundary .now) (c .before .before .before .before .before .loop .p) false) (getD (c .before .before .before .before .before .before .before .before .args .valences .now) (c .before .before .before .before .before .loop .p) 0)
-told c = c .valence-bad .ensures ∙ ap (valenceBad (getD (c .before .before .before .before .before .before .before .before .args .on-boundary .now) (c .before .before .before .before .before .loop .p) false)) (c .before .wide .ensures)
-
 returns : tie.Need-returns Inv-loop μ-loop
-returns c = any-found _ _ _ _ (c .before .before .before .before .before .loop-test .taken) (told (c .before)) (c .if1 .taken)
+returns c = let t = c .before in any-found _ _ _ _ (passing t .loop-test .taken) (told t) (c .if1 .taken)
 
 add-p : tie.Need-add-p Inv-loop μ-loop
 add-p c = omega arith
 
 loop-less : tie.Need-loop-less Inv-loop μ-loop
-loop-less c = add-one-dec _ _ (c .before .before .before .before .before .loop-test .taken)
+loop-less c = add-one-dec _ _ (passing (c .before) .loop-test .taken)
 
 loop-again : tie.Need-loop-again Inv-loop μ-loop
-loop-again c = (add-one-le (c .before .before .before .before .before .loop-test .taken), any-more _ _ _ (c .before .before .before .before .before .before .loop .inv .1) (told (c .before)) (c .if1 .left))
+loop-again c =
+    let t = c .before in
+    let i = passing t in
+    (add-one-le (i .loop-test .taken), any-more _ _ _ (i .before .loop .inv .1) (told t) (c .if1 .left))
 
 returns-2 : tie.Need-returns-2 Inv-loop μ-loop
 returns-2 c = search (any-not, needs)

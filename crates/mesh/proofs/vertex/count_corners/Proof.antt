@@ -17,17 +17,39 @@ use Rattle.mesh.proofs.vertex.count_corners.Tie as tie
 use Rattle.mesh.specs.Tables.{vertexOf}
 
 abbrev Inv-loop : tie.InvT-loop
-Inv-loop faces n valences₀ c₀ valences c = (c ≤ n) × (length valences ≡ length valences₀) × Gathered 0 _+_ (vertexOf faces) (λ d. 1) c maxVertices valences
+Inv-loop faces n valences₀ c₀ valences c =
+    (c ≤ n) × (length valences ≡ length valences₀)
+    × Gathered 0 _+_ (vertexOf faces) (λ d. 1) c maxVertices valences
 
 abbrev μ-loop : tie.MeasureT-loop
 μ-loop faces n valences₀ c₀ valences c = n - c
 
--- the vertex of corner c has a place in the table
-inside : (c : tie.After-wide Inv-loop μ-loop) → c .wide .result < maxVertices
-inside c =
-    let l = c .before .before .before in
-    rw (c .wide .ensures) (l .before .before .before .pre .0 .0 .named (l .loop .c) (c .before .before .loop-test .taken))
+-- ---- at the entry: the vertices of the corners
+module _ (s : tie.Start Inv-loop μ-loop) where
+  abbrev vertex : ℕ → ℕ
+  vertex = vertexOf (s .args .faces .now)
 
+abbrev entry : tie.At-loop Inv-loop μ-loop → tie.Start Inv-loop μ-loop
+entry c = c .before .before .before
+
+-- ---- p is read: it is the vertex of corner c, which has a place in the table
+module _ (c : tie.After-wide Inv-loop μ-loop) where
+  abbrev passing : tie.In-loop Inv-loop μ-loop
+  passing = c .before .before
+
+  abbrev at-loop : tie.At-loop Inv-loop μ-loop
+  at-loop = passing .before
+
+  abbrev start : tie.Start Inv-loop μ-loop
+  start = entry at-loop
+
+  abbrev p : ℕ
+  p = c .wide .result
+
+  p-named : p < maxVertices
+  p-named = rw (c .wide .ensures) (start .pre .0 .0 .named (at-loop .loop .c) (passing .loop-test .taken))
+
+-- ---- the answers, in the order of the code
 loop-holds : tie.Need-loop-holds Inv-loop μ-loop
 loop-holds c = (omega arith, refl, gathered-none 0 _+_ _ _ _ (c .before .before .args .valences .now) (c .before .before .pre .1))
 
@@ -41,45 +63,50 @@ wide-requires : tie.Need-wide-requires Inv-loop μ-loop
 wide-requires c κs = tt
 
 mul-valences : tie.Need-mul-valences Inv-loop μ-loop
-mul-valences c = let h = inside c in omega arith
+mul-valences c = let h = p-named c in omega arith
 
 slice-read-valences : tie.Need-slice-read-valences Inv-loop μ-loop
-slice-read-valences c = let h = inside (c .before) in omega arith
+slice-read-valences c = let h = p-named (c .before) in omega arith
 
 add-valences : tie.Need-add-valences Inv-loop μ-loop
 add-valences c =
     let w = c .before in
-    let l = w .before .before .before in
-    let at = vertexOf (l .before .before .before .args .faces .now) in
-    let h = l .loop .inv .2 (w .wide .result) (inside w) ∙ gather-count at (l .loop .c) (w .wide .result) in
-    omega (arith, h, count-le (λ d. eqb (at d) (w .wide .result)) (l .loop .c))
+    let l = at-loop w .loop in
+    let h = l .inv .2 (p w) (p-named w) ∙ gather-count (vertex (start w)) (l .c) (p w) in
+    omega (arith, h, count-le (λ d. eqb (vertex (start w) d) (p w)) (l .c))
 
 mul-valences-2 : tie.Need-mul-valences-2 Inv-loop μ-loop
-mul-valences-2 c = let h = inside (c .before) in omega arith
+mul-valences-2 c = let h = p-named (c .before) in omega arith
 
 slice-write-valences : tie.Need-slice-write-valences Inv-loop μ-loop
-slice-write-valences c = let h = inside (c .before) in omega arith
+slice-write-valences c = let h = p-named (c .before) in omega arith
 
 add-c : tie.Need-add-c Inv-loop μ-loop
 add-c c = omega arith
 
 loop-less : tie.Need-loop-less Inv-loop μ-loop
-loop-less c = add-one-dec _ _ (c .before .before .before .loop-test .taken)
+loop-less c = add-one-dec _ _ (passing (c .before) .loop-test .taken)
 
 loop-again : tie.Need-loop-again Inv-loop μ-loop
 loop-again c =
     let w = c .before in
-    let l = w .before .before .before in
-    let s = l .before .before .before in
-    let h = inside w in
-    (add-one-le (c .before .before .before .loop-test .taken), search needs, gathered-more sum-monoid (vertexOf (s .args .faces .now)) (λ d. 1) maxVertices (l .loop .c) (w .wide .result) _ (l .loop .valences) (omega arith) (w .wide .ensures) refl (l .loop .inv .2))
+    let l = at-loop w .loop in
+    let h = p-named w in (
+      add-one-le (passing w .loop-test .taken),
+      search needs,
+      gathered-more sum-monoid (vertex (start w)) (λ d. 1) maxVertices (l .c) (p w) _ (l .valences) (omega arith) (w .wide .ensures) refl (l .inv .2),
+    )
 
 same-length : tie.Need-same-length Inv-loop μ-loop
 same-length c = c .before .loop .inv .1
 
 returns : tie.Need-returns Inv-loop μ-loop
 unfolding valence
-returns c = λ p l. c .before .loop .inv .2 p l ∙ ap (λ (k : ℕ). gather 0 _+_ (vertexOf (c .before .before .before .before .args .faces .now)) (λ d. 1) k p) (le-antisymm (c .before .loop .inv .0) (c .loop-test .left))
+returns c =
+    let s = entry (c .before) in
+    let l = c .before .loop in
+    let all = le-antisymm (l .inv .0) (c .loop-test .left) in
+    λ q b. l .inv .2 q b ∙ ap (λ (k : ℕ). gather 0 _+_ (vertex s) (λ d. 1) k q) all
 
 pub count-corners-spec : {M : Type 1} → statement M
 count-corners-spec =
