@@ -22,6 +22,7 @@ pub record Sized (v f positions tags indices : ℕ) : Type 0 where
   pub tags-are : tags ≡ v
   pub indices-are : indices ≡ 4 * f
 
+-- the same of the sizes and the lists of a mesh
 abbrev pub MeshSized : IndexedMesh → Type 0
 MeshSized M = Sized (M .vertices) (M .faces) (length (M .positions)) (length (M .tags)) (length (M .indices))
 
