@@ -283,22 +283,22 @@ class Pipes(Case):
         os.close(reading)
         self.addCleanup(os.close, writing)
         status, _, error = self.run_tool(SQUARE, stdout=writing)
-        self.assertEqual((status, error), (2, "tessellate: standard output: Broken pipe; the listing is incomplete\n"))
+        self.assertEqual((status, error), (2, f"tessellate: {SQUARE}: standard output: Broken pipe; the listing is incomplete\n"))
 
     def test_pipe_that_breaks_later(self):
         program = self.script(ENDLESS)
         with subprocess.Popen(["head", "-n", "1"], stdin=subprocess.PIPE, stdout=subprocess.DEVNULL) as head:
             status, _, error = self.run_tool(SQUARE, program=program, stdout=head.stdin)
-        self.assertEqual((status, error), (2, "tessellate: standard output: Broken pipe; the listing is incomplete\n"))
+        self.assertEqual((status, error), (2, f"tessellate: {SQUARE}: standard output: Broken pipe; the listing is incomplete\n"))
 
     def test_full_device(self):
         with open("/dev/full", "wb") as full:
             status, _, error = self.run_tool(SQUARE, stdout=full)
-        self.assertEqual((status, error), (2, "tessellate: standard output: No space left on device; the listing is incomplete\n"))
+        self.assertEqual((status, error), (2, f"tessellate: {SQUARE}: standard output: No space left on device; the listing is incomplete\n"))
 
     def test_closed_output(self):
         done = subprocess.run(["sh", "-c", '"$0" "$1" >&-', TOOL, SQUARE], stderr=subprocess.PIPE)
-        self.assertEqual((done.returncode, done.stderr), (2, b"tessellate: standard output is closed\n"))
+        self.assertEqual((done.returncode, done.stderr), (2, f"tessellate: {SQUARE}: standard output is closed\n".encode()))
 
     def test_closed_input(self):
         done = subprocess.run(["sh", "-c", '"$0" <&-', TOOL], capture_output=True)
@@ -356,6 +356,8 @@ class Building(Case):
         os.utime(self.folder / "program", (later - 4, later - 4))
         os.utime(self.folder / "crates" / "mesh" / "lib.rt", (later - 3, later - 3))
         self.assertEqual(self.built(), 2)
+        self.assertEqual(self.built(), 2)
+        (self.folder / "crates" / "mesh" / "to-nowhere").symlink_to("nothing")
         self.assertEqual(self.built(), 2)
 
     def test_build_that_fails(self):
