@@ -228,7 +228,8 @@ class Damaged(Case):
 
     def test_other_last_line(self):
         last = "the listing is not whole: its last line is not that of face 0 at (1, 1)"
-        self.failed(SQUARE_LINES.replace(b"0 1 1 5376 5376 0", b"0 0 1 5376 5376 0"), last)
+        for other in (b"1 1 1", b"0 0 1", b"0 1 0"):
+            self.failed(SQUARE_LINES.replace(b"0 1 1 5376 5376 0", other + b" 5376 5376 0"), last)
         self.failed(SQUARE_LINES.replace(b"0 1 1 5376 5376 0", b"0 1 1 5376 5376"), last)
         self.failed(SQUARE_LINES.replace(b"0 1 1 5376 5376 0", b"0 1 1 5376 5376 x"), last)
 
@@ -239,6 +240,7 @@ class Damaged(Case):
         self.failed(b"refused\n", first)
         self.failed(b"refused 3\nrefused 4\n", first)
         self.failed(b"refused 3", first)
+        self.failed(b"refused 3\n" + SQUARE_LINES, first)
 
     def test_long_line(self):
         self.failed(b"4" * 1000 + b"\n", "the listing is not whole: its first line")
