@@ -70,9 +70,9 @@ class Limits(unittest.TestCase):
 
     def test_python(self):
         found = dict(re.findall(r"^([A-Z_]+) = (.*)$", text("tools/meshes.py"), re.MULTILINE))
-        for name, limits in (("VERTICES", "VERTICES"), ("FACES", "FACES"), ("INNER_VALENCES", "VALENCE"), ("BOUNDARY_FACES",) * 2, ("STEPS",) * 2):
-            least, most = self.between(limits)
-            self.assertEqual(found[name], f"range({least}, {most} + 1)", name)
+        for name in ("VERTICES", "FACES", "VALENCE", "BOUNDARY_FACES", "STEPS"):
+            least, most = self.between(name)
+            self.assertEqual(found[{"VALENCE": "INNER_VALENCES"}.get(name, name)], f"range({least}, {most} + 1)", name)
         coordinate = self.limits["MAX_COORDINATE"]
         self.assertEqual(found["COORDINATES"], f"range(-{coordinate}, {coordinate} + 1)")
         self.assertEqual(found["TAGS"], f"range(0, {self.limits['CORNER_TAG']} + 1)")
@@ -88,22 +88,21 @@ class Limits(unittest.TestCase):
 
     def test_header(self):
         header = text("include/rusketja.h")
-        limits = {key: value for name in ("VERTICES", "FACES", "VALENCE", "STEPS") for key, value in zip((f"{name}0", f"{name}1"), self.between(name))}
-        limits.update(self.limits)
         for line in (
-            " 1  V is not from {VERTICES0} to {VERTICES1}, F is not from {FACES0} to {FACES1},",
+            " 1  V is not from {MIN_VERTICES} to {MAX_VERTICES}, F is not from {MIN_FACES} to {MAX_FACES},",
             " 3  a coordinate is not from -{MAX_COORDINATE} to {MAX_COORDINATE}",
             " 4  a tag is above {CORNER_TAG}",
-            "10  an inner vertex has fewer than {VALENCE0} or more than {VALENCE1} faces, or a boundary vertex more than {MAX_BOUNDARY_FACES}",
+            "10  an inner vertex has fewer than {MIN_VALENCE} or more than {MAX_VALENCE} faces, or a boundary vertex more than {MAX_BOUNDARY_FACES}",
             "13  a control value of face f is beyond {MAX_CONTROL} either way",
-            "14  n is not from {STEPS0} to {STEPS1}, or a or b is above n",
+            "14  n is not from {MIN_STEPS} to {MAX_STEPS}, or a or b is above n",
             "#define RUSKETJA_NO_TWIN {NO_TWIN}",
         ):
-            self.assertIn(line.format(**limits), header)
+            self.assertIn(line.format(**self.limits), header)
 
     def test_readme(self):
         readme = text("README.md")
-        for words, name in (("V, the number of vertices", "VERTICES"), ("F, the number of faces", "FACES"), ("N, the steps along a side of a face", "STEPS")):
+        names = {"V, the number of vertices": "VERTICES", "F, the number of faces": "FACES", "N, the steps along a side of a face": "STEPS"}
+        for words, name in names.items():
             self.assertIn("{}, {} to {} |".format(words, *self.between(name)), readme)
         self.assertIn("-{0:,} to {0:,} |".format(self.limits["MAX_COORDINATE"]), readme)
 

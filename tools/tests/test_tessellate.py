@@ -309,7 +309,8 @@ class Pipes(Case):
     def test_signal_leaves_nothing(self):
         program = self.script(ENDLESS)
         for number in (signal.SIGINT, signal.SIGTERM):
-            tool = subprocess.Popen([TOOL, SQUARE, "--to", "out"], cwd=self.folder, env={**os.environ, "TESSELLATE_PROGRAM": str(program)})
+            environment = {**os.environ, "TESSELLATE_PROGRAM": str(program)}
+            tool = subprocess.Popen([TOOL, SQUARE, "--to", "out"], cwd=self.folder, env=environment)
             until = time.monotonic() + 60
             while not any((self.folder / name).stat().st_size for name in self.files()) and time.monotonic() < until:
                 time.sleep(0.01)
