@@ -6,6 +6,7 @@ of it and of control points and samples by fractions, and not as the library doe
 document. A trial's name says what it is, and ends in -refused-N where the call says no.
 """
 
+import argparse
 import random
 import struct
 from dataclasses import dataclass
@@ -742,6 +743,12 @@ def files():
 
 
 def main():
+    about = argparse.ArgumentParser(
+        description=__doc__,
+        epilog="There are no other words: without any, crates/trials/data, args and stdout are written anew.",
+        formatter_class=argparse.RawDescriptionHelpFormatter,
+    )
+    about.parse_args()
     data = CRATE / "data"
     data.mkdir(parents=True, exist_ok=True)
     written, lines = {}, []

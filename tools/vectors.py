@@ -3,9 +3,10 @@
 
 A vector is a file of document 01. What is expected is computed from its bytes here, in meshes.py and in patches.py, and not as the
 library does it, so the gate compares two readings of the document. A vector's name says what it is, and ends in -refused-N where the
-file is refused. The coordinates that no vector names are random, from the seed below.
+file is refused. The coordinates that no vector names are random, from a fixed seed.
 """
 
+import argparse
 import random
 import struct
 from dataclasses import dataclass
@@ -346,6 +347,12 @@ def pairs():
 
 
 def main():
+    about = argparse.ArgumentParser(
+        description=__doc__,
+        epilog="There are no other words: without any, crates/vectors/data, args and stdout are written anew.",
+        formatter_class=argparse.RawDescriptionHelpFormatter,
+    )
+    about.parse_args()
     written, lines, alone = {}, [], set()
     for group in (examples, edges, accepted, lasts, short, sizes, lengths, entries, sides, vertices, pairs):
         for name, content in group():

@@ -1,14 +1,32 @@
 /* The square of document 01, by every call of rusketja.h: prints what the library gives, and returns 0 where it is right.
  *
  *     rt staticlib capi
- *     cc -Wall -Wextra -Iinclude include/square.c target/staticlib/libcapi.a -o target/square && target/square */
+ *     cc -std=c99 -Wall -Wextra -Wconversion -Werror -Iinclude examples/square.c target/staticlib/libcapi.a -o target/square
+ *     target/square */
 #include <stdio.h>
 
 #include "rusketja.h"
 
 static int wrong;
 
-static void expect(const char *what, double found, double wanted)
+/* A number that was returned or written, and the one that is due. */
+static void expect(const char *what, long found, long wanted)
+{
+    printf("%-24s %ld\n", what, found);
+    if (found != wanted) {
+        printf("    wanted %ld\n", wanted);
+        wrong = 1;
+    }
+}
+
+/* The same for a count or a place. */
+static void expect_size(const char *what, size_t found, size_t wanted)
+{
+    expect(what, (long)found, (long)wanted);
+}
+
+/* The same in micrometres, which are exact: they can be compared. */
+static void expect_micrometres(const char *what, double found, double wanted)
 {
     printf("%-24s %g\n", what, found);
     if (found != wanted) {
@@ -30,20 +48,20 @@ int main(void)
 
     patches[48] = 7;
     expect("check", rusketja_check(4, 1, positions, 12, tags, 4, indices, 4, twins, 5, &v, &f, &e, &b), 0);
-    expect("V", v, 4);
-    expect("F", f, 1);
-    expect("E", e, 4);
-    expect("B", b, 4);
+    expect_size("V", v, 4);
+    expect_size("F", f, 1);
+    expect_size("E", e, 4);
+    expect_size("B", b, 4);
     expect("twin of half-edge 3", twins[3], RUSKETJA_NO_TWIN);
     expect("twins beyond 4F", twins[4], 7);
 
     v = f = e = b = 9;
     expect("check, V = 3", rusketja_check(3, 1, positions, 9, tags, 3, indices, 4, twins, 5, &v, &f, &e, &b), 1);
-    expect("V after it", v, 9);
+    expect_size("V after it", v, 9);
     expect("check, 3 twins", rusketja_check(4, 1, positions, 12, tags, 4, indices, 4, twins, 3, &v, &f, &e, &b), 2);
 
     expect("patches", rusketja_patches(4, 1, positions, 12, tags, 4, indices, 4, twins, 5, patches, 49, &v, &f, &e, &b), 0);
-    expect("E", e, 4);
+    expect_size("E", e, 4);
     expect("b(1,0) x", patches[3 * 1], 1792);
     expect("b(1,1) y", patches[3 * 5 + 1], 2304);
     expect("b(2,1) x", patches[3 * 6], 3072);
@@ -58,14 +76,14 @@ int main(void)
     expect("x after it", x, 2688);
 
     expect("reading (1,0), N = 2", rusketja_reading(patches, 49, 0, 2, 1, 0, &rx, &ry, &rz), 0);
-    expect("x in micrometres", rx, 10.5);
-    expect("y in micrometres", ry, 0);
-    expect("z in micrometres", rz, 0);
+    expect_micrometres("x in micrometres", rx, 10.5);
+    expect_micrometres("y in micrometres", ry, 0);
+    expect_micrometres("z in micrometres", rz, 0);
 
     first = 9;
-    expect("corners of face 1", rusketja_face_corners(indices, 4, 1, &first), 0);
-    expect("first corner's place", first, 9);
-    expect("corners of face 0", rusketja_face_corners(indices, 4, 0, &first), 4);
-    expect("first corner's place", first, 0);
+    expect_size("corners of face 1", rusketja_face_corners(indices, 4, 1, &first), 0);
+    expect_size("first corner's place", first, 9);
+    expect_size("corners of face 0", rusketja_face_corners(indices, 4, 0, &first), 4);
+    expect_size("first corner's place", first, 0);
     return wrong;
 }

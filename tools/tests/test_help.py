@@ -1,0 +1,37 @@
+"""The tools that write data or run long: help and wrong words change nothing, and start nothing."""
+
+import subprocess
+import sys
+import unittest
+from pathlib import Path
+
+ROOT = Path(__file__).resolve().parent.parent.parent
+
+
+def times(crate):
+    """When each file of a crate was last written."""
+    return {path: path.stat().st_mtime_ns for path in sorted((ROOT / "crates" / crate).rglob("*"))}
+
+
+class Writers(unittest.TestCase):
+    def test_help_and_wrong_words(self):
+        for name in ("trials", "vectors"):
+            for word, status in (("--help", 0), ("-h", 0), ("--wrong", 2), ("wrong", 2)):
+                with self.subTest(name=name, word=word):
+                    before = times(name)
+                    done = subprocess.run([sys.executable, "-B", ROOT / "tools" / f"{name}.py", word], capture_output=True)
+                    self.assertEqual(done.returncode, status)
+                    self.assertIn(b"usage:", done.stderr if status else done.stdout)
+                    self.assertEqual(times(name), before)
+
+    def test_help_and_wrong_words_of_the_long_runs(self):
+        for name in ("outside", "benchmark"):
+            for word, status in (("--help", 0), ("-h", 0), ("--wrong", 2)):
+                with self.subTest(name=name, word=word):
+                    done = subprocess.run([ROOT / "tools" / name, word], capture_output=True, timeout=10)
+                    self.assertEqual(done.returncode, status)
+                    self.assertTrue(done.stderr if status else done.stdout)
+
+
+if __name__ == "__main__":
+    unittest.main()
