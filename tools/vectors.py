@@ -159,7 +159,7 @@ def examples():
     """The meshes that document 01 names."""
     for n in (1, 2, 32):
         yield f"square-{n}-steps", file(the_square(), n)
-    for n in (1, 2, 16):
+    for n in (1, 2, 16, 32):
         yield f"cube-{n}-steps", file(the_cube(), n)
     yield "pillow-refused-10", file(numbered(pillow()))
     yield "same-face-twice-refused-7", file(numbered(Shape(square().faces * 2)))
@@ -222,6 +222,8 @@ def lasts():
     assert {len(corners) for corners in shown.corners.values()} == {3, 4, 5} and all(shown.inner.values())
     yield "last-1-step", file(closed, 1)
     yield "last-2-steps", with_halves(file(closed, 2))
+    # a listing that fills the program's buffer some twenty times
+    yield "last-16-steps", file(closed, 16)
     change = shuffled(RANDOM, closed.v, closed.f)
     yield "last-renumbered-1-step", file(placed(Shape(change.faces(shown.faces)), change.moved(shown.points)), 1)
     opened = placed(*last(RANDOM, opened=True))
