@@ -1,4 +1,5 @@
-/* The square of document 01, by every call of rusketja.h: prints what the library gives, and returns 0 where it is right.
+/* The square of rule X1 (docs/SPECIFICATION.md), by every call of rusketja.h: prints what the library gives, and returns 0 where it
+ * is right.
  *
  *     rt staticlib capi
  *     cc -std=c99 -Wall -Wextra -Wconversion -Werror -Iinclude examples/square.c target/staticlib/libcapi.a -o target/square

@@ -28,7 +28,8 @@
  *     twins      4F      at least; place 4f + s is that of the half-edge from corner s of face f to the next corner
  *     patches   48F      at least; coordinate k of control point i + 4j of face f at 48f + 3(i + 4j) + k, in 1/256 micrometre
  *
- * Names: a half-edge is document 01's side, a twin its mate, the boundary its rim, a control value its patch number.
+ * Names, with those of the user's document: half-edge (side), twin (mate), boundary (rim), control value (patch number). Rules are
+ * those of docs/SPECIFICATION.md.
  *
  * A call returns 0, or the number of the first cause of refusal that is met, in this order:
  *
@@ -109,7 +110,7 @@ uint8_t rusketja_patches(
     size_t *edges,
     size_t *boundary);
 
-/* The sample of face f at (a, b) of n by n steps (n is document 01's N): the point of the patch at u = a/n, v = b/n.
+/* The sample of face f at (a, b) of n by n steps (n is the N of rule S1): the point of the patch at u = a/n, v = b/n.
  *
  * Returns: 0, or the number of the refusal.
  * Writes: the sample into *x, *y and *z.

@@ -1,4 +1,4 @@
-"""Document 01 read once more: its limits, the check of a mesh, and the patches and samples of an accepted one.
+"""The rules of docs/SPECIFICATION.md read once more: their limits, the check of a mesh, and the patches and samples of an accepted one.
 
 A mesh is read by sets and dictionaries over the whole of it, its control points and samples by fractions in patches.py.
 tools/trials.py and tools/vectors.py use it.
@@ -11,7 +11,7 @@ from functools import cached_property
 from patches import Surface, assert_seams, exact_samples, rounded
 from shapes import Shape, bow_tie, cube, isolated, join, pillow, square
 
-# The limits of document 01.
+# The limits of rules M1 to M3, T3, T6, P3 and S1.
 VERTICES = range(4, 512 + 1)
 FACES = range(1, 256 + 1)
 COORDINATES = range(-1048576, 1048576 + 1)
@@ -53,7 +53,7 @@ def changed(mesh, **changes):
     return mesh
 
 
-# ---- What document 01 says of a mesh.
+# ---- What the rules say of a mesh.
 
 
 class MeshReading:
@@ -118,7 +118,7 @@ class MeshReading:
 
 
 class PatchReading(MeshReading):
-    """The patches and the samples of a mesh that has document 01's N too."""
+    """The patches and the samples of a mesh that has the N of rule S1 too."""
 
     def __init__(self, mesh):
         super().__init__(mesh)

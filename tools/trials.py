@@ -1,9 +1,9 @@
 #!/usr/bin/env python3
 """Writes the trials of crates/trials: data/ (a file a trial), args (their names) and stdout (what the program has to print).
 
-What is expected is computed here, in meshes.py and in patches.py from document 01, of a mesh by sets and dictionaries over the whole
-of it and of control points and samples by fractions, and not as the library does it, so the gate compares two readings of the
-document. A trial's name says what it is, and ends in -refused-N where the call says no.
+What is expected is computed here, in meshes.py and in patches.py by the rules of docs/SPECIFICATION.md, of a mesh by sets and
+dictionaries over the whole of it and of control points and samples by fractions, and not as the library does it, so the gate compares
+two readings of the rules. A trial's name says what it is, and ends in -refused-N where the call says no.
 """
 
 import argparse
@@ -150,7 +150,7 @@ def with_number(numbers, place, value):
     return numbers[:place] + [value] + numbers[place + 1 :]
 
 
-# ---- Patch trials: the arguments of the patch call, and document 01's N.
+# ---- Patch trials: the arguments of the patch call, and the N of rule S1.
 
 
 @dataclass
@@ -194,7 +194,7 @@ def with_renumbered(name, trial):
     yield f"{name}-renumbered", other
 
 
-# ---- Document 01, read once more.
+# ---- The rules, read once more.
 
 
 def doubles(sample):
@@ -216,7 +216,7 @@ def two_sums(numbers):
 
 
 class MeshAnswer(MeshReading):
-    """What document 01 says of a trial's mesh and its lent list."""
+    """What the rules say of a trial's mesh and its lent list."""
 
     def lent_short(self):
         return self.mesh.twins < 4 * self.mesh.f
@@ -245,7 +245,7 @@ class MeshAnswer(MeshReading):
 
 
 class PatchAnswer(MeshAnswer, PatchReading):
-    """What document 01 says of the patch call, and of the samples of what it wrote."""
+    """What the rules say of the patch call, and of the samples of what it wrote."""
 
     def lent_short(self):
         return super().lent_short() or self.mesh.patches < PATCH * self.mesh.f
@@ -264,7 +264,7 @@ class PatchAnswer(MeshAnswer, PatchReading):
 
 
 class SampleAnswer:
-    """What document 01 says of the sample call and of the reading."""
+    """What the rules say of the sample call and of the reading."""
 
     def __init__(self, trial):
         self.trial = trial
@@ -630,7 +630,7 @@ def tagged(trial, *corners):
 
 
 def patch_examples():
-    """The meshes that document 01 names, and a strip."""
+    """The square, the cube and the strip of rules X1, X3 and X6, some with tags (rule X7)."""
     at_square = [(0, 0, 0), (21, 0, 0), (21, 21, 0), (0, 21, 0)]
     at_cube = [(24 * x, 24 * y, 24 * z) for z in (-1, 1) for x, y in ((-1, -1), (1, -1), (1, 1), (-1, 1))]
     at_strip = [(0, 0, 0), (9, 0, 0), (18, 0, 9), (18, 9, 0), (9, 9, 0), (0, 9, 0)]

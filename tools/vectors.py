@@ -1,9 +1,9 @@
 #!/usr/bin/env python3
 """Writes the vectors of crates/vectors: data/ (a file a vector), args (their names) and stdout (what the program has to print).
 
-A vector is a file of document 01. What is expected is computed from its bytes here, in meshes.py and in patches.py, and not as the
-library does it, so the gate compares two readings of the document. A vector's name says what it is, and ends in -refused-N where the
-file is refused. The coordinates that no vector names are random, from a fixed seed.
+A vector is a file (rule F1 of docs/SPECIFICATION.md). What is expected is computed from its bytes here, in meshes.py and in
+patches.py, and not as the library does it, so the gate compares two readings of the rules. A vector's name says what it is, and ends
+in -refused-N where the file is refused. The coordinates that no vector names are random, from a fixed seed.
 """
 
 import argparse
@@ -85,7 +85,7 @@ def parsed(content, v, f, n):
 
 
 class FileReading:
-    """What document 01 says of a file."""
+    """What rules F1 to F10 say of a file."""
 
     def __init__(self, content):
         self.content = content
@@ -135,12 +135,12 @@ def tagged(mesh, *corners):
 
 
 def the_square():
-    """The square of document 01."""
+    """The square of rule X1."""
     return placed(square(), [(0, 0, 0), (21, 0, 0), (21, 21, 0), (0, 21, 0)])
 
 
 def the_cube():
-    """The cube of document 01."""
+    """The cube of rule X3."""
     at = [(24 * x, 24 * y, 24 * z) for z in (-1, 1) for x, y in ((-1, -1), (1, -1), (1, 1), (-1, 1))]
     return placed(cube(), at)
 
@@ -156,7 +156,7 @@ def with_halves(content):
 
 
 def examples():
-    """The meshes that document 01 names."""
+    """The meshes of rules X1, X3 and X5."""
     for n in (1, 2, 32):
         yield f"square-{n}-steps", file(the_square(), n)
     for n in (1, 2, 16, 32):
@@ -167,7 +167,7 @@ def examples():
 
 
 def edges():
-    """The edges that document 01 names, and those beside them."""
+    """The limits of rule X9, and what stands beside them."""
     yield "vertices-3-refused-1", file(changed(the_square(), v=3, positions=[0] * 9, tags=[0] * 3))
     yield "vertices-4", file(the_square())
     yield "vertices-512-faces-256-ring", file(varied(ring(256)), 1)

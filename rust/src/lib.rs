@@ -4,13 +4,13 @@
 //! in `crates/capi/src/lib.rt`. These wrappers pass the lists and turn the returned number into a `Result`; nothing proves the
 //! wrappers themselves, and no input is refused by them.
 //!
-//! Names: a half-edge is document 01's side, a twin its mate, the boundary its rim, a control value its patch number. Half-edge
-//! 4f + s runs from corner s of face f to the next corner.
+//! Names, with those of the user's document: half-edge (side), twin (mate), boundary (rim), control value (patch number). Half-edge
+//! 4f + s runs from corner s of face f to the next corner. Rules are those of `docs/SPECIFICATION.md`.
 //!
 //! ```
 //! use rusketja::{patches, reading, sample, Counts, Mesh};
 //!
-//! // The square of document 01: four vertices in micrometres, one face.
+//! // The square of rule X1: four vertices in micrometres, one face.
 //! let square = Mesh {
 //!     vertices: 4,
 //!     faces: 1,
@@ -54,7 +54,7 @@ pub struct Mesh<'a> {
     pub indices: &'a [u16],
 }
 
-/// The counts of an accepted mesh: document 01's V, F, E and B, with 4F + B = 2E.
+/// The counts of an accepted mesh: V, F, E and B, with 4F + B = 2E (rule T8).
 #[derive(Clone, Copy, Debug, Default, PartialEq, Eq, Hash)]
 pub struct Counts {
     /// V.
@@ -176,7 +176,7 @@ pub fn patches(mesh: &Mesh, twins: &mut [u16], patches: &mut [i32]) -> Result<Co
     accepted(code, counts)
 }
 
-/// Takes the sample of a face at (a, b) of n by n steps (n is document 01's N): the point of its patch at u = a/n, v = b/n.
+/// Takes the sample of a face at (a, b) of n by n steps (n is the N of rule S1): the point of its patch at u = a/n, v = b/n.
 ///
 /// - Returns x, y and z in 1/256 micrometre, each rounded once to the nearest, halves to the even one.
 /// - Reads only the 48 numbers from place 48f on of `patches`, which [`patches()`] writes.

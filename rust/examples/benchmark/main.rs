@@ -28,7 +28,7 @@ use std::path::{Path, PathBuf};
 use std::process::{Command, Stdio};
 use std::time::Duration;
 
-/// Document 01's N, the largest.
+/// The largest N (rule S1).
 const N: usize = 32;
 
 /// Everything is measured in so many passes, since other load on the machine comes and goes; the whole program, which takes

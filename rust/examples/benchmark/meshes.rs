@@ -33,7 +33,7 @@ impl Named {
         }
     }
 
-    /// The file of document 01.
+    /// The mesh as a file (rule F1).
     pub fn file(&self, n: usize) -> Vec<u8> {
         let sizes = [self.vertices, self.indices.len() / 4, n].map(|size| size as u16);
         let mut file: Vec<u8> = sizes.into_iter().flat_map(u16::to_le_bytes).collect();

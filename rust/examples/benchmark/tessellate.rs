@@ -1,4 +1,4 @@
-//! The program that prints samples, in Rust: the file of document 01 from standard input, its lines to standard output.
+//! The program that prints samples, in Rust: a file (rule F1) from standard input, its listing (rule F10) to standard output.
 
 use crate::access::Access;
 use crate::limits::*;

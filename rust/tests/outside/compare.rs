@@ -1,4 +1,4 @@
-//! Each public call held against the document: its answer, and every list that it was lent, whole.
+//! Each public call held against the rules as document.rs has them: its answer, and every list that it was lent, whole.
 
 use crate::document::{self, Four};
 use crate::model::Model;
@@ -40,7 +40,7 @@ impl Lent {
     }
 }
 
-/// The library's answer in the document's terms.
+/// The library's answer in the terms of document.rs.
 fn four(answer: Result<rusketja::Counts, rusketja::Refusal>) -> Result<Four, u8> {
     answer.map(|counts| [counts.vertices, counts.faces, counts.edges, counts.boundary]).map_err(|refusal| refusal.0)
 }

@@ -1,5 +1,5 @@
-//! Document 01, sentence by sentence, in exact fractions: slow and plain, written from the document alone.
-//! Its words are the document's: a side is a half-edge, a mate a twin, the rim the boundary, a patch number a control value.
+//! The rules of docs/SPECIFICATION.md, one by one, in exact fractions: slow and plain. Written from the user's document alone, before
+//! that page, and so in the user's words: a side is a half-edge, a mate a twin, the rim the boundary, a patch number a control value.
 
 use crate::model::Model;
 use std::collections::BTreeSet;
@@ -7,7 +7,7 @@ use std::collections::BTreeSet;
 /// The mate of a rim side in the list of mates.
 pub const RIM: u16 = 65535;
 
-/// Document 01's four counts: V, F, E and B.
+/// The four counts of rule T8: V, F, E and B.
 pub type Four = [usize; 4];
 
 /// The corners at a vertex: one closed turn of n, one chain of k, or neither.

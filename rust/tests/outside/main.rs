@@ -1,4 +1,4 @@
-//! The library held against an independent reading of document 01, on random meshes and patch lists.
+//! The library held against an independent reading of docs/SPECIFICATION.md's rules, on random meshes and patch lists.
 //!
 //! RUSKETJA_SEED sets the seed, RUSKETJA_MESHES the number of accepted meshes, RUSKETJA_CASE runs one case alone.
 

@@ -143,7 +143,7 @@ impl Tally {
     }
 }
 
-/// Whether the document's causes can be told together: no 7 to 11 where 5 is met, none after 6 but 7, none after 7.
+/// Whether causes of rule R2 can be told together: no 7 to 11 where 5 is met, none after 6 but 7, none after 7.
 fn can_meet(first: usize, other: usize) -> bool {
     match first {
         5 => other == 6,

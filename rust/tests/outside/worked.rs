@@ -1,4 +1,4 @@
-//! The trial meshes and edges of document 01 with the numbers that it gives.
+//! The worked meshes of rules X1 to X5 and the limits of rule X9, with the numbers that stand there.
 
 use crate::compare::{self, Lent};
 use crate::model::Model;
