@@ -1,4 +1,4 @@
-//! The file of document 01: what it holds, its refusals, and its patches.
+//! The file: what it holds, its refusals, and its patches (rules F1 to F4).
 mod bytes;
 mod header;
 pub mod model;
