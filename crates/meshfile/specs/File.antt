@@ -48,7 +48,7 @@ headerShort b = ltb (length b) 6
 unfoldable pub headerOff : List ℕ → Bool
 headerOff b = off minVertices maxVertices (vertices b) || off minFaces maxFaces (faces b)
 
--- 15: the file has not 6 + 13V + 8F bytes (rule F2)
+-- 15: the file does not have 6 + 13V + 8F bytes (rule F2)
 unfoldable pub lengthOff : List ℕ → Bool
 lengthOff b = not (eqb (length b) (6 + 13 * vertices b + 8 * faces b))
 
