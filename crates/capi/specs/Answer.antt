@@ -1,11 +1,11 @@
--- The answers of the library as the calls for C give them: a returned number, and lent numbers afterwards. Document 01's numbers
--- of refusals begin at 1, so that 0 is left for success.
+-- The answers of the library as the calls for C give them: a returned number, and lent numbers afterwards (rule A3). The numbers
+-- of refusals begin at 1 (rule R2), so that 0 is left for success.
 --
 --   code answer           what a call returns: 0 for a result, else the number of the refusal
 --   counted answer d      the four lent numbers afterwards, which held d: V, F, E and B, or d after a refusal
 --   placed answer d       the three lent numbers afterwards, which held d: x, y and z of the sample, or d after a refusal
---   Read answer x y z x' y' z'   the three lent doubles x', y', z' afterwards, which held x, y, z: "each exactly the sample over 256",
---                         or as they were after a refusal
+--   Read answer x y z x' y' z'   the three lent doubles x', y', z' afterwards, which held x, y, z: each exactly the sample over 256 (rule S5),
+--                         or as they were after a refusal (rule R5)
 --   firstCorner corners f d   the lent place of a face's first corner afterwards, which held d: 4f, or d where the face has no corners
 --   CornersTold, CountsStored, CheckStored, PatchesStored, SampleStored, ReadingStored   for each call, what it returns, and every lent
 --                         number and list afterwards

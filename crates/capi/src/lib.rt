@@ -102,7 +102,7 @@ pub extern "C" fn rusketja_patches(
     store_counts(answer, vertices, faces, edges, boundary)
 }
 
-// The sample of face f at (a, b), for document 01's N = n: `sample::sample`.
+// The sample of face f at (a, b), for N = n (rules S1 to S4): `sample::sample`.
 // Returns: 0, or the number of the refusal.
 // Writes: the sample into x, y and z. Leaves alone: x, y and z after a refusal; the patch list.
 // Refuses, and units: as `sample::sample`.
@@ -135,7 +135,7 @@ pub extern "C" fn rusketja_sample(
     }
 }
 
-// The sample of face f at (a, b), for document 01's N = n, in micrometres: `sample::reading`.
+// The sample of face f at (a, b), for N = n, in micrometres (rule S5): `sample::reading`.
 // Returns: 0, or the number of the refusal.
 // Writes: the reading into x, y and z. Leaves alone: x, y and z after a refusal; the patch list.
 // Refuses, and units: as `sample::reading`.

@@ -1,3 +1,3 @@
--- The examples of document 01, section "Trial meshes and edges", that are marked P, and some that it lacks.
+-- The worked meshes, as examples under one theorem (rules X1 to X8).
 pub mod Meshes
 pub mod Examples

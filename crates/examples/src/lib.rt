@@ -1,1 +1,1 @@
-// No code: document 01's examples that it marks P, computed from the definitions (specs/).
+// No code: the worked meshes, rules X1 to X8, computed from the definitions (specs/).

@@ -1,4 +1,4 @@
--- Rounding, as document 01 has it: "rounded once to the nearest whole number, halves to the even one".
+-- Rounding: to the nearest whole number and, of two that are equally near, to the even one (rule I1).
 --   IsNearest num den r   r is such a whole number for num / den
 --   nearest num den       that whole number, computed (`proofs/NearestLaws.antt`: it is one, and there is no other)
 --   nearestℕ a d          the same for a / d of two naturals
@@ -18,7 +18,7 @@ pub record IsNearest (num : ℤ) (den : ℕ) (r : ℤ) : Type 0 where
 unfoldable pub halfEven : ℕ → ℕ → ℕ → ℕ
 halfEven q r d = cond (ltb (2 * r) d) q (cond (ltb d (2 * r)) (q + 1) (q + q % 2))
 
--- a divisor 0 gives 0: no rule of the documents has one, and it makes the function total
+-- a divisor 0 gives 0, which makes the function total: no rule has one (rule I3)
 unfoldable pub nearestℕ : ℕ → ℕ → ℕ
 nearestℕ a zero = 0
 nearestℕ a (suc d) = halfEven (a / suc d) (a % suc d) (suc d)

@@ -3,9 +3,9 @@
 --   joined f n             the texts f 0, f 1, .., f (n - 1), one behind the other
 --   lineOf answer f a b    the line of a sample. No sample of an accepted file is refused (surface/specs/Claim.antt, `answered`); of a refused one
 --                          it would be the refusal's
---   faceText patches n f   the lines of face f: "b from 0 and within it a from 0"
---   listing answer patches "the first line is V F E B; then, for each face, ..", from the answer of opening the file and the patch list that this
---                          left; of a refused file "only one line"
+--   faceText patches n f   the lines of face f: by b, in each b by a, both from 0 upwards (rule F10)
+--   listing answer patches   the line of counts, then the lines of each face in turn; of a refused file its one line (rule F10). From the answer
+--                          of opening the file and the patch list that this left
 --   lineCount answer, lineAt answer patches i   how many lines that is, and line i. proofs/ListingLaws.antt: the lines, one behind the other, are
 --                          the listing
 --   Stored t before after r   the text t stands at the front of a list, which is as it was behind it; r is its length

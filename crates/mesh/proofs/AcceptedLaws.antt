@@ -226,6 +226,6 @@ accepted-corners {M} a = record { whole = omega arith; fits = omega arith }
 pub accepted-ends : {M : IndexedMesh} → WellFormed M → (c : ℕ) → c < corners M → at M (next c) ≡ at M c → ⊥
 accepted-ends a c l = a .distinct c 0 l (omega arith)
 
--- "So 4F + B = 2E"
+-- 4F + B = 2E (rule T8)
 pub accepted-edges : {M : IndexedMesh} → WellFormed M → 4 * M .faces + boundaries (at M) (corners M) ≡ 2 * edges (at M) (corners M) (M .vertices)
 accepted-edges {M} a = edges-twice (at M) (accepted-corners a) (a .simple) (a .named) (accepted-ends a)

@@ -1,4 +1,4 @@
--- Edges and boundary half-edges: each edge has one half-edge that comes before its twin, and "4F + B = 2E".
+-- Edges and boundary half-edges: each edge has one half-edge that comes before its twin, and 4F + B = 2E (rule T8).
 use mathlib.Core.Path.{_≡_, refl, sym, ap, _∙_}
 use mathlib.Core.Bool.{Bool, true, cond, _&&_, and-false, or-true}
 use mathlib.Core.Logic.{_⊎_, inl, inr, ⊎-elim}
@@ -212,6 +212,6 @@ module _ {n v : ℕ} (at : ℕ → ℕ) (k : Corners n) (simple : Simple at n) (
       (λ t. rw t (joins-once at c v (named c l) (named (next c) (next-below k c l)) (ends c l)))
       (λ t. rw t (fold-unit sum-monoid v (λ q _. fold-unit sum-monoid q (λ p _. refl)))))
 
-  -- "So 4F + B = 2E"
+  -- 4F + B = 2E
   pub edges-twice : n + boundaries at n ≡ 2 * edges at n v
   edges-twice = rw (boundaries-are, edges-lead) (paired-twice k (twin-paired at k simple) (twin-other at k ends))

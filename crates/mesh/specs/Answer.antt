@@ -1,18 +1,18 @@
 -- What a mesh call answers and what it leaves in the list of twins, whatever it is passed.
 --
---   countsOf M          "The check returns V, F, E and B": of the mesh M
+--   countsOf M          the counts V, F, E and B of the mesh M (rule T8)
 --   checked r           the answer, for each case of the code's enum `Checked`: the counts, or the number of a refusal
 --   meshRefusal M own after   the refusal that the mesh M meets in a call with rows of its own: `own` after row 1, `after` behind all rows of
 --                       the mesh
 --   meshAnswer M own after   the answer of that call: its counts, or the refusal
 --   twinsAfter M own after d   the list of twins afterwards, which held d: untouched after an early refusal, all `noTwin` after a later one,
 --                       else the twins
---   lentRows M d        the row of a call that is lent the twins d: "lent list too short (4F mates ..)"
+--   lentRows M d        the row of a call that is lent the twins d: they have fewer than 4F places (rule R2, row 2)
 --   checkAnswer, checkTwins   the answer and the list of twins of the check, which is lent a list of twins alone
 --   given k             a row of a call that found the cause of number k met among its own, 0 for none
 --   MeshChecked M own d r d'   what a call that checks the mesh M, with rows of its own, answers and leaves in the lent twins
---   faceCorners indices f     "The four corners of a face are handed back as that part of the face list itself,
---                       and an empty part for a face f with 4f + 4 above the list's length."
+--   faceCorners indices f     the corners of face f: the part of the face list from 4f to 4f + 3, empty where 4f + 4 is above the list's
+--                       length (rule M6)
 use mathlib.Core.Path.{_≡_}
 use mathlib.Core.Bool.{Bool, not, cond}
 use mathlib.Core.List.{List, [], _∷_, _++_}

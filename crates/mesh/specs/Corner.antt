@@ -1,4 +1,4 @@
--- Corners of faces. "Corner s (0 to 3) of face f has number 4f + s."
+-- Corners of faces, numbered through: corner s of face f is corner 4f + s (rule T1).
 --
 --   turn i c   the corner i further than c in the same face
 --   next c, across c, prev c   the corner 1, 2 and 3 further

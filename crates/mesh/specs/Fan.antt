@@ -1,13 +1,13 @@
--- The corners at a vertex, and circulating about it (document 01's turning).
+-- The corners at a vertex, and circulating about it, which the user calls turning (rules T4 to T7).
 --
 --   valence at n p     how many corners are at vertex p: n of an inner vertex, k of a boundary vertex
---   onBoundary at n p  a boundary half-edge leaves p: p is a rim vertex
---   around tw n c      "from a corner at p, the next one is the start of the mate of the side that comes into p in that face",
---                      with twins tw; `noTwin` for none, and past the n corners
+--   onBoundary at n p  a boundary half-edge leaves p: p is a boundary vertex, which the user calls a rim vertex (rule T4)
+--   around tw n c      the corner after c about its vertex: where the twin of the half-edge that enters the vertex in the face of c starts
+--                      (rule T5), with twins tw; `noTwin` for none, and past the n corners
 --   iterate s i c      i steps of s from c
---   fan at n p         "The corners at p must form one closed turn .. or one chain": from some corner at p, fewer steps than p has
---                      corners lead to every corner at p. proofs/FanLaws.antt: that is one `Turn` (specs/Circulation.antt) of all the
---                      corners at p.
+--   fan at n p         the corners at p form one fan, closed or open, which the user calls one closed turn or one chain (rule T7): from some
+--                      corner at p, fewer steps than p has corners lead to every corner at p. proofs/FanLaws.antt: that is one `Turn`
+--                      (specs/Circulation.antt) of all the corners at p.
 use mathlib.Core.Bool.{Bool, true, false, cond, _&&_, _||_}
 use Prim.Native.Nat.{ℕ, zero, suc, _+_}
 use lib.Dec.{eqb, ltb}

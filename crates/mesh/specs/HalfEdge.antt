@@ -1,15 +1,15 @@
--- Half-edges (document 01's sides) and their twins (its mates), from the vertex `at c` of each of the n corners alone.
--- "Side 4f + s runs from corner s to corner s + 1 of the face": half-edge c runs from `at c` to `at (next c)`.
+-- Half-edges, which the user calls sides, and their twins, which the user calls mates, from the vertex `at c` of each of the n corners alone.
+-- Half-edge c runs from `at c` to `at (next c)` (rule T2).
 --
 --   runs at p q d    half-edge d runs from vertex p to vertex q
---   isTwin at c d    "the side that joins the same two vertices the other way"
+--   isTwin at c d    half-edge d starts where c ends and ends where c starts (rule T3)
 --   twin at n c      the twin of half-edge c, `noTwin` for none. Where refusal 7 does not hold there is at most one.
---   boundary at n c  "A side without a mate is a rim side."
+--   boundary at n c  half-edge c has no twin: it is a boundary half-edge, which the user calls a rim side (rule T4)
 --   sameWay at c d   c and d run from one vertex to one vertex
 --   doubled at n     some half-edge occurs twice the same way round
 --   joins at p q c   half-edge c joins the vertices p and q, one way or the other
---   edges at n v     E: "E counts unordered pairs of vertices joined by a side", of the vertices below v
---   boundaries at n  B: "B counts rim sides"
+--   edges at n v     E: how many unordered pairs of different vertices below v a half-edge joins (rule T8)
+--   boundaries at n  B: how many boundary half-edges there are (rule T8)
 --   Simple at n      no half-edge occurs twice the same way round: `doubled at n` is false
 use mathlib.Core.Path.{_≡_}
 use mathlib.Core.Bool.{Bool, not, _&&_, _||_}

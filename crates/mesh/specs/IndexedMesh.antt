@@ -1,8 +1,8 @@
--- A mesh as it is passed in: the two sizes and the three lists of document 01, section "The mesh".
+-- A mesh as it is passed in: the two sizes (rule M1) and the three lists.
 --
---   positions   "3V signed 32-bit whole numbers x, y, z in micrometres"
---   tags        "V bytes: 0 smooth, 1 corner"
---   indices     "Faces are 4F 16-bit vertex numbers, four to a face, counterclockwise."
+--   positions   x, y and z of each vertex, in micrometres: 3V numbers (rule M2)
+--   tags        0 or 1 for each vertex, smooth or corner: V numbers (rule M3)
+--   indices     the vertex of each corner, face by face and counterclockwise: 4F numbers (rule M4)
 use mathlib.Core.List.{List}
 use Prim.Native.Nat.{ℕ, _*_}
 use lib.IntN.{ℤ, pos}

@@ -1,7 +1,7 @@
--- The limits of document 01, section "The mesh", one name each: the values of the associated constants of the record `Mesh`.
+-- The limits of a mesh, one name each (rule M5): the values of the associated constants of the record `Mesh`.
 --
--- "A mesh has V vertices (4 to 512) and F faces (1 to 256)." "each from -1,048,576 to 1,048,576."
--- "An inner vertex has n from 3 to 16, a rim vertex k from 1 to 8." "65535 for a rim side".
+-- Of the numbers of vertices and faces (rule M1), of the magnitude of a coordinate (rule M2), of a tag (rule M3), of the valence of an inner vertex
+-- and of a boundary vertex (rule T6); and the mark for no twin (rule T3).
 use Prim.Native.Nat.{ℕ}
 
 abbrev pub minVertices : ℕ

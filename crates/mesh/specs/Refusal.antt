@@ -1,5 +1,5 @@
--- When a mesh is turned down: the causes of document 01's table, "When a call says no", each as a Bool rendered from its sentence,
--- and the table itself in the order of checking. "Checked in the order of the numbers; each looks at the whole mesh before the next begins."
+-- When a mesh is turned down: the rows of the table of refusals (rule R2), which the user calls causes, each as a Bool with its number, and the
+-- table itself in the order of checking (rule R3). A row is decided over the whole mesh before the row behind it is taken up (rule R1).
 use mathlib.Core.Path.{_≡_}
 use mathlib.Core.Bool.{Bool, not, cond, _&&_, _||_}
 use mathlib.Core.List.{List, [], _∷_, _++_}
@@ -21,7 +21,7 @@ use Rattle.mesh.specs.IndexedMesh.{IndexedMesh, corners, at, tag, coordi
 abbrev pub off : ℕ → ℕ → ℕ → Bool
 off a b x = ltb x a || ltb b x
 
--- 1: "V or F off its range, or a mesh list of another length", for sizes v, f and lists of these lengths
+-- 1: V or F is off its range, or the lists are not 3V, V and 4F long; for sizes v, f and lists of these lengths
 unfoldable pub sizesOff : ℕ → ℕ → ℕ → ℕ → ℕ → Bool
 sizesOff v f positions tags indices =
     off minVertices maxVertices v || (off minFaces maxFaces f
@@ -30,43 +30,43 @@ sizesOff v f positions tags indices =
 abbrev pub meshSizesOff : IndexedMesh → Bool
 meshSizesOff M = sizesOff (M .vertices) (M .faces) (length (M .positions)) (length (M .tags)) (length (M .indices))
 
--- 3: "coordinate off its range"
+-- 3: a coordinate is beyond the limit
 unfoldable pub coordinateOff : IndexedMesh → Bool
 coordinateOff M = anyBelow (λ i. ltb maxCoordinate (natAbs (coordinate M i))) (3 * M .vertices)
 
--- 4: "tag above 1"
+-- 4: a tag is above 1
 unfoldable pub tagOff : IndexedMesh → Bool
 tagOff M = anyBelow (λ p. ltb cornerTag (tag M p)) (M .vertices)
 
--- 5: "face names a vertex of V or above"
+-- 5: a face names V or a larger number
 unfoldable pub vertexOff : IndexedMesh → Bool
 vertexOff M = anyBelow (λ c. leb (M .vertices) (at M c)) (corners M)
 
--- 6: "face names a vertex twice": a corner has the vertex of one of the three others of its face
+-- 6: two corners of a face have the same vertex: a corner has that of one of the three others of its face
 unfoldable pub vertexTwice : IndexedMesh → Bool
 vertexTwice M = anyBelow (λ c. anyBelow (λ i. eqb (at M (turn (suc i) c)) (at M c)) 3) (corners M)
 
--- 7: "one side occurs twice the same way round"
+-- 7: two half-edges have the same start and the same end
 unfoldable pub halfEdgeTwice : IndexedMesh → Bool
 halfEdgeTwice M = doubled (at M) (corners M)
 
 -- 8 to 10 look at the vertices `at c` of the n corners alone, for the vertices below v
--- 8: "vertex in no face"
+-- 8: a vertex has no face
 unfoldable pub vertexUnused : (ℕ → ℕ) → ℕ → ℕ → Bool
 vertexUnused at n v = anyBelow (λ p. eqb (valence at n p) 0) v
 
--- 9: "corners at a vertex form neither one turn nor one chain"
+-- 9: the corners at a vertex are no single fan
 unfoldable pub fanBroken : (ℕ → ℕ) → ℕ → ℕ → Bool
 fanBroken at n v = anyBelow (λ p. not (fan at n p)) v
 
--- 10: "n or k off its range", of a vertex with m corners
+-- 10: a valence is off its range; of a vertex with m corners
 abbrev pub valenceBad : Bool → ℕ → Bool
 valenceBad boundary m = cond boundary (off minBoundaryFaces maxBoundaryFaces m) (off minValence maxValence m)
 
 unfoldable pub valenceOff : (ℕ → ℕ) → ℕ → ℕ → Bool
 valenceOff at n v = anyBelow (λ p. valenceBad (onBoundary at n p) (valence at n p)) v
 
--- 11: "tag 1 at an inner vertex"
+-- 11: an inner vertex has tag 1
 unfoldable pub innerTagged : IndexedMesh → Bool
 innerTagged M = anyBelow (λ p. eqb (tag M p) cornerTag && not (onBoundary (at M) (corners M) p)) (M .vertices)
 
@@ -98,6 +98,6 @@ vertexRows M = row (innerTagged M) 11 ∷ []
 abbrev pub lateRows : IndexedMesh → List Row
 lateRows M = fanRows (at M) (corners M) (M .vertices) ++ vertexRows M
 
--- "A mesh is accepted when no cause in the table below that concerns the mesh itself is met": no row but the calls' own
+-- a mesh is accepted when no row but the calls' own is met (rule C1)
 unfoldable pub Accepted : IndexedMesh → Type 0
 Accepted M = firstMet (earlyRows M [] ++ lateRows M) ≡ none

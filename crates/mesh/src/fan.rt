@@ -62,7 +62,7 @@ fn circulate(twins: &[u16], n: usize, start: usize) -> usize
     met
 }
 
-// Whether the corners at the vertex of start form neither one closed turn nor one chain.
+// Whether the corners at the vertex of start form no single fan, closed or open.
 fn fan_broken(faces: &[u16], n: usize, twins: &[u16], valences: &[u16], start: usize) -> bool
     requires { ⌜ Indices (now faces) n × Simple (vertexOf (now faces)) n × (start < n) ⌝ }
     requires { ⌜ (n ≤ length (now twins)) × (maxVertices ≤ length (now valences)) ⌝ }

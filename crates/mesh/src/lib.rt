@@ -37,11 +37,11 @@ pub fn face_corners(faces: &[u16], f: usize) -> &[u16]
 
 // The check of a whole mesh of v vertices and f faces.
 // Returns: V, F, E and B of an accepted mesh, or the number of the refusal.
-// Writes: the twins (document 01's mates) into the first 4f places of twins, 65535 for a boundary half-edge; 65535 into all of
-// them after a refusal from 8 on.
+// Writes: the twins into the first 4f places of twins, 65535 for a boundary half-edge (rule T9); 65535 into all of
+// them after a refusal from 8 on (rule R4).
 // Leaves alone: the twins from 4f on; all of them after a refusal from 1 to 7.
 // Refuses, in this order: 1 sizes, 2 twins shorter than 4f, 3 coordinate, 4 tag, 5 vertex number, 6 vertex twice in a face,
-// 7 half-edge twice, 8 vertex in no face, 9 corners at a vertex neither one turn nor one chain, 10 valence, 11 tag at an inner vertex.
+// 7 half-edge twice, 8 vertex in no face, 9 corners at a vertex no single fan, 10 valence, 11 tag at an inner vertex.
 // Units: 3v positions in micrometres, v tags, 4f vertex numbers.
 pub fn check(
     v: usize,

@@ -1,6 +1,6 @@
 // The mesh's record and the answer of the check.
 
-// A checked mesh: its counts. Document 01's V, F, E and B. The limits of document 01 are its constants, named here once.
+// A checked mesh: its counts V, F, E and B (rule T8). The limits are its constants, named here once (rule M5).
 pub struct Mesh {
     pub vertices: usize,
     pub faces: usize,

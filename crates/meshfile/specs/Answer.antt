@@ -4,10 +4,10 @@
 --   decoded r, opened r  the answers, for each case of the code's enums `Decoded` and `Opened`: the sizes, or an accepted mesh with its counts and N;
 --                        or the number of a refusal
 --   decodeRefusal b p t i   the refusal that decoding meets, which is lent lists of p, t and i places: those of the file, then 2 where one of
---                        the lists is too short ("lent list too short")
+--                        the lists is too short (rules R2 and R3)
 --   FileDecoded ..       what decoding answers, and the three lists afterwards: the numbers of the file at their front, or as they were
---   openRefusal b d      the refusal that opening meets, which is lent the patch list d: "Fewer than 6 bytes is 15; sizes come next (1); then a
---                        length other than 6 + 13V + 8F is 15; then 3 to 11, then 14", with 2 in its place before 3
+--   openRefusal b d      the refusal that opening meets, which is lent the patch list d: the rows of the file, 15, 1 and 15; then 2, where d is
+--                        too short; then 3 to 11 of the mesh; then 14, where N is off its range (rule R3)
 --   FileOpened ..        what opening answers, and the patch list afterwards: written where the file is accepted, and as it was after a refusal
 use mathlib.Core.Path.{_≡_}
 use mathlib.Core.Bool.{Bool, _||_}
@@ -56,7 +56,7 @@ pub record FileDecoded (b : List ℕ) (p : List ℤ) (t i : List ℕ) (r : Decod
   pub tags-are : t' ≡ writtenBy (decodeRefusal b (length p) (length t) (length i)) t (filled (tagAt b) (vertices b) t)
   pub faces-are : i' ≡ writtenBy (decodeRefusal b (length p) (length t) (length i)) i (filled (indexAt b) (4 * faces b) i)
 
--- 14: "N off its range"
+-- 14: N is off its range
 abbrev pub stepsOff : ℕ → Bool
 stepsOff n = off minSteps maxSteps n
 

@@ -1,7 +1,7 @@
--- Numbers of several bytes, "low byte first".
+-- Numbers of several bytes, low byte first (rule F1).
 --
 --   le16 b i, le32 b i   the number of the two, or four, bytes from place i on
---   signed32 n           "32-bit two's complement": n below 2^31, n - 2^32 from there on
+--   signed32 n           n read in two's complement of 32 bits: n below 2^31, n - 2^32 from there on
 use mathlib.Core.Bool.{cond}
 use mathlib.Core.List.{List}
 use Prim.Native.Nat.{ℕ, _+_, _-_, _*_, _^_}

@@ -1,10 +1,10 @@
--- What a file holds: "sizes first: V, F, N as 16-bit numbers, low byte first; then the two parallel arrays over vertices, positions
--- (three 32-bit two's complement numbers each, low byte first) and tags; then the faces as 16-bit numbers".
+-- What a file holds: V, F and N, two bytes each; the positions, four bytes each in two's complement; the tags, a byte each; the faces, two bytes
+-- each; every number low byte first (rule F1).
 --
 --   vertices b, faces b, steps b   V, F and N of the file b
 --   positionAt b i, tagAt b p, indexAt b c   number i of the positions, the tag of vertex p, the vertex of corner c
 --   meshOf b            the mesh that the file holds
---   fileRows b          "Fewer than 6 bytes is 15; sizes come next (1); then a length other than 6 + 13V + 8F is 15"
+--   fileRows b          the rows of the bytes alone, in their order: 15 for fewer than 6 bytes, 1 for V and F, 15 for the length (rule R3)
 use mathlib.Core.Bool.{Bool, not, _||_}
 use mathlib.Core.List.{List, [], _∷_}
 use Prim.Native.Nat.{ℕ, _+_, _*_}
@@ -40,7 +40,7 @@ unfoldable pub meshOf : List ℕ → IndexedMesh
 meshOf b =
     indexed (vertices b) (faces b) (listBelow (positionAt b) (3 * vertices b)) (listBelow (tagAt b) (vertices b)) (listBelow (indexAt b) (4 * faces b))
 
--- 15: "fewer than 6 bytes"
+-- 15: the file has fewer than 6 bytes
 unfoldable pub headerShort : List ℕ → Bool
 headerShort b = ltb (length b) 6
 
@@ -48,7 +48,7 @@ headerShort b = ltb (length b) 6
 unfoldable pub headerOff : List ℕ → Bool
 headerOff b = off minVertices maxVertices (vertices b) || off minFaces maxFaces (faces b)
 
--- 15: "a length other than 6 + 13V + 8F"
+-- 15: the file does not have 6 + 13V + 8F bytes (rule F2)
 unfoldable pub lengthOff : List ℕ → Bool
 lengthOff b = not (eqb (length b) (6 + 13 * vertices b + 8 * faces b))
 

@@ -1,4 +1,4 @@
--- The file of document 01, section "File and printing".
+-- The file (rules F1 to F4).
 pub mod Bytes
 pub mod File
 pub mod Answer

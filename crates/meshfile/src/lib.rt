@@ -1,4 +1,4 @@
-//! The file of document 01: what it holds, its refusals, and its patches.
+//! The file: what it holds, its refusals, and its patches (rules F1 to F4).
 mod bytes;
 mod header;
 pub mod model;
@@ -49,7 +49,7 @@ pub fn decode(bytes: &[u8], positions: &mut [i32], tags: &mut [u8], faces: &mut 
 // Writes: the patches, as `patch::patches` does.
 // Leaves alone: the patches from 48F on; all of them after a refusal.
 // Refuses, in this order: 15, 1 and 15 as `decode` does, 2 patches shorter than 48F, 3 to 11 as `mesh::check` does, 14 N off its range.
-// Units: patch numbers in 1/256 micrometre.
+// Units: control values in 1/256 micrometre.
 pub fn open(bytes: &[u8], patches: &mut [i32]) -> Opened
     ensures { λ r. ⌜ FileOpened (now (bytes .entry)) (now (patches .entry)) r (now (patches .exit)) ⌝ }
 {

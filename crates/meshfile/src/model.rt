@@ -1,7 +1,7 @@
 // What a file gives.
 use mesh::model::Mesh;
 
-// The sizes of a file: document 01's V, F and N. The lengths of the file's parts are its constants, named here once.
+// The sizes of a file: V, F and N (rule F1). The lengths of the file's parts are its constants, named here once.
 pub struct Header {
     pub vertices: usize,
     pub faces: usize,

@@ -1,9 +1,9 @@
 -- What the patch call answers and what it leaves in the two lists that it is lent, whatever it is passed.
 --
---   listsShort M twins patches   "lent list too short (4F mates, 48F patch numbers)"
+--   listsShort M twins patches   one of the two lists is too short: 4F places for twins, 48F for control values (rule R2, row 2)
 --   patchRows ..     the call's own row
---   patchAnswer ..   "The patch call checks the whole mesh": the answer is the check's, and "returns the same four counts"
---   patchTwins ..    the list of twins afterwards: "The patch call lends mates too; accepted, it fills them as the check does"
+--   patchAnswer ..   the answer is the check's of the whole mesh: the four counts (rule T8), or the number of a refusal
+--   patchTwins ..    the list of twins afterwards, as the check leaves it (rules T9 and R4)
 --   patchList ..     the patch list afterwards: written where the mesh is accepted, and as it was after a refusal
 --   Patched M d e r d' e'   r is the answer of the patch call on the mesh M with the lent twins d and patch list e; d' and e' are the lists
 --                    afterwards

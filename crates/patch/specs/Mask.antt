@@ -1,14 +1,18 @@
--- The masks of document 01, section "The control points", as functions of numbers: of one coordinate of each vertex that a mask names.
+-- The masks, as functions of numbers: of one coordinate of each vertex that a mask names (rule P2).
 -- Each gives a fraction, numerator and divisor; its weights are non-negative and sum to its divisor.
 --
---   innerMask w p e e' f   "(w p + 2e + 2e' + f) / (w + 5), with e, e' the neighbours of p in the face and f the vertex across
---                          (document 000, figure 4a)"
---   edgeMask w p q a a' c c'   "(2w p + 4q + 2a + 2a' + c + c') / (2w + 10), with a, a' the other neighbours of p in the two faces
---                          and c, c' the vertices across from p in them (figure 4b)"
---   boundaryEdgeMask p q   "Edge point on a rim side from p to q, near p: (2p + q) / 3" (document 001)
---   smoothCornerMask n p s "(n n p + 4 sum of edge neighbours + sum of vertices across) / (n (n + 5)) (figure 4c)", s the two sums
---   boundaryCornerMask p s "(4p + r + r') / 6 with r, r' the rim neighbours" (document 001), s = r + r'
---   vertexMask p           "Rim with tag 1 or with k = 1: p itself."
+--   innerMask w p e e' f    (w p + 2e + 2e' + f) / (w + 5): e and e' are the neighbours of p in the face, f the vertex across (rule P6; Loop and
+--                           Schaefer, figure 4a)
+--   edgeMask w p q a a' c c'   (2w p + 4q + 2a + 2a' + c + c') / (2w + 10): in the two faces of the edge p q, a and a' are the neighbours of p
+--                           other than q, c and c' the vertices across from p (rule P7; Loop and Schaefer, figure 4b)
+--   boundaryEdgeMask p q    (2p + q) / 3, near p on a boundary half-edge with the ends p and q (rule P8; Loop and Schaefer, figure 20; Kovacs and
+--                           others, section 3)
+--   smoothCornerMask n p s  (n n p + s) / (n (n + 5)): s is four times the sum of the edge neighbours of p, and the sum of the vertices across
+--                           (rule P9; Loop and Schaefer, figure 4c)
+--   boundaryCornerMask p s  (4p + s) / 6: s is the sum of the two boundary neighbours of p (rule P10; Loop and Schaefer, figure 20; Kovacs and
+--                           others, section 3)
+--   vertexMask p            p itself: for a boundary vertex with tag 1, or with k = 1 (rule P11; Kovacs and others, section 4; Loop and Schaefer,
+--                           figure 20)
 use Prim.Native.Nat.{ℕ, _+_, _*_}
 use lib.IntN.{ℤ, pos, _+ℤ_, _*ℤ_}
 

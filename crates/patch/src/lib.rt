@@ -34,7 +34,7 @@ fn own_refusal(f: usize, places: usize) -> u8
 // Writes: patch g into places 48g to 48g + 47 of patches, point i + 4j as three numbers x, y, z; the twins as `mesh::check` does.
 // Leaves alone: the patches from 48f on; all of them after a refusal; the twins as `mesh::check` does.
 // Refuses: as `mesh::check`, in the same order; 2 also where patches is shorter than 48f.
-// Units: positions in micrometres, patch numbers in 1/256 micrometre.
+// Units: positions in micrometres, control values in 1/256 micrometre.
 pub fn patches(
     v: usize,
     f: usize,

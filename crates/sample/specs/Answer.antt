@@ -4,7 +4,7 @@
 --   sampled r          the answer, for each case of the code's enum `Sampled`: three numbers, or the number of a refusal
 --   sampleAnswer ..    the answer of the sample call
 --   negative n         the sign of n: whether it is below 0
---   Over256 r n        the double r is finite, and its exact value is the sample n over 256: "each exactly the sample over 256"
+--   Over256 r n        the double r is finite, and its exact value is the sample n over 256 (rule S5)
 --   Reads r answer     the reading r holds the answer: three doubles, each exactly the sample over 256, or the refusal's number
 use mathlib.Core.Path.{_≡_}
 use mathlib.Core.Bool.{Bool, true, false}

@@ -1,10 +1,10 @@
--- The samples of document 01, section "The samples", of one coordinate.
+-- The samples, of one coordinate (rules S2 to S4).
 --
---   bernstein n a i  the weights of place a, for n the document's N: "let W0 to W3 of a be (N - a)^3, 3a(N - a)^2, 3a^2(N - a), a^3"
---   numerator n a b g   "the sum over i and j of Wi(a) Wj(b) b(i,j)", for the control values g m of points m = i + 4j
---   rounded n a b g  that sum "divided by N^6, rounded once by the same rule"
---   controlAt patches f k m   coordinate k of control point m of face f: "Point b(i,j) .. is number i + 4j of its patch and
---                    fills three places, x, y, z", from place 48f on
+--   bernstein n a i  the weight Wi of place a, for N = n: the cubic Bernstein polynomial times N^3 (rule S2)
+--   numerator n a b g   the sum of Wi(a) Wj(b) b(i,j) over all i and j, for the control values g m of points m = i + 4j (rule S3)
+--   rounded n a b g  that sum over N^6, rounded once (rules S3 and I2)
+--   controlAt patches f k m   coordinate k of control point m of face f: its patch fills the 48 places from 48f on, three for each point
+--                    (rules S4 and P12)
 --   coordinateAt     coordinate k of the sample of face f at (a, b)
 use mathlib.Core.List.{List}
 use Prim.Native.Nat.{ℕ, zero, suc, _+_, _-_, _*_, _^_}

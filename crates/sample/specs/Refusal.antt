@@ -1,4 +1,4 @@
--- When the sample call and the reading say no: "the sample call and the reading know 12 to 14 only", checked in the order of the numbers.
+-- When the sample call and the reading say no: they know the rows 12, 13 and 14 (rule R2), in this order (rule R3).
 use mathlib.Core.Bool.{Bool, _||_}
 use mathlib.Core.List.{List, [], _∷_}
 use Prim.Native.Nat.{ℕ, _+_, _*_}
@@ -8,26 +8,26 @@ use lib.ListN.{length, getD}
 use Rattle.finite.specs.Fold.{anyBelow}
 use Rattle.finite.specs.Table.{Row, row}
 
--- the largest magnitude of a control value: 256 times the coordinate limit of a mesh
+-- the largest magnitude of a control value: 256 times the coordinate limit of a mesh (rule P3)
 abbrev pub maxControl : ℕ
 maxControl = 268435456
 
--- "For N from 1 to 32"
+-- the range of N (rule S1)
 abbrev pub minSteps : ℕ
 minSteps = 1
 
 abbrev pub maxSteps : ℕ
 maxSteps = 32
 
--- 12: "face number f with 48f + 48 above the patch list's length"
+-- 12: 48f + 48 is above the length of the patch list
 unfoldable pub faceOff : List ℤ → ℕ → Bool
 faceOff patches f = ltb (length patches) (48 * f + 48)
 
--- 13: "patch number of that face beyond 268,435,456 either way"
+-- 13: one of the 48 control values of face f is beyond the limit
 unfoldable pub controlOff : List ℤ → ℕ → Bool
 controlOff patches f = anyBelow (λ i. ltb maxControl (natAbs (getD patches (48 * f + i) (pos 0)))) 48
 
--- 14: "N off its range, or a or b above N"
+-- 14: N is off its range, or one of a and b is above N
 unfoldable pub placeOff : ℕ → ℕ → ℕ → Bool
 placeOff n a b = ltb n minSteps || (ltb maxSteps n || (ltb n a || ltb n b))
 

@@ -1,4 +1,4 @@
-//! Samples of the bicubic patches of document 01, as whole numbers of 1/256 micrometre and as doubles in micrometres.
+//! Samples of bicubic patches, as whole numbers of 1/256 micrometre and as doubles in micrometres (rules S1 to S5).
 mod bernstein;
 mod micrometres;
 pub mod model;
@@ -13,12 +13,12 @@ use crate::refusal::place_off;
 ghost use mathlib.Core.Path.{_≡_};
 ghost use Rattle.sample.specs.Answer.{sampled, sampleAnswer, Reads};
 
-// The sample of face f at (a, b), for document 01's N = n.
+// The sample of face f at (a, b), for N = n (rules S1 to S4).
 // Returns: x, y and z of the sample, each rounded once, or the number of the refusal.
 // Writes: nothing. Leaves alone: the patch list, of which it reads only the 48 numbers from place 48f on.
-// Refuses, in this order: 12 patch list shorter than 48f + 48, 13 a number of that patch beyond 268,435,456 either way,
+// Refuses, in this order: 12 patch list shorter than 48f + 48, 13 a control value of that patch beyond 268,435,456,
 // 14 n off the range from 1 to 32, or a or b above n.
-// Units: patch numbers and sample in 1/256 micrometre.
+// Units: control values and sample in 1/256 micrometre.
 pub fn sample(patches: &[i32], f: usize, n: usize, a: usize, b: usize) -> Sampled
     ensures { λ r. ⌜ sampled r ≡ sampleAnswer (now (patches .entry)) f n a b ⌝ }
 {
@@ -37,11 +37,11 @@ pub fn sample(patches: &[i32], f: usize, n: usize, a: usize, b: usize) -> Sample
     Sampled::At(point(patch, n, a, b))
 }
 
-// The sample of face f at (a, b), for document 01's N = n, in micrometres.
+// The sample of face f at (a, b), for N = n, in micrometres (rule S5).
 // Returns: three doubles, each exactly the coordinate of the sample over 256, or the number of the refusal.
 // Writes: nothing. Leaves alone: the patch list, of which it reads only the 48 numbers from place 48f on.
 // Refuses: as `sample`, in the same order.
-// Units: patch numbers in 1/256 micrometre, reading in micrometres.
+// Units: control values in 1/256 micrometre, reading in micrometres.
 pub fn reading(patches: &[i32], f: usize, n: usize, a: usize, b: usize) -> Reading
     ensures { λ r. ⌜ Reads r (sampleAnswer (now (patches .entry)) f n a b) ⌝ }
 {

@@ -3,7 +3,7 @@
 // The largest magnitude of a control value.
 pub const MAX_CONTROL: u32 = 268_435_456;
 
-// The range of document 01's N.
+// The range of N, the number of steps along an edge of a patch (rule S1).
 pub const MIN_STEPS: usize = 1;
 
 pub const MAX_STEPS: usize = 32;

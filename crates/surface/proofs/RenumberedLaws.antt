@@ -1,4 +1,4 @@
--- A renumbering is as wide as document 01 has it: any two permutations, of vertices and of faces, and any start below 4 for each face make one.
+-- A renumbering is as wide as rule C8 has it: any two permutations, of vertices and of faces, and any start below 4 for each face make one.
 use mathlib.Core.Path.{_≡_, refl, sym, ap, _∙_}
 use mathlib.Core.List.{List}
 use Prim.Native.Nat.{ℕ, _+_, _*_, _/_, _%_, _<_}

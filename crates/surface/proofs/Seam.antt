@@ -56,7 +56,7 @@ module _ (S : View) (k : Corners (S .shape .n)) (simple : Simple (S .shape .at) 
       ap (cornerPoint S) (twin-ends (S .shape .at) (S .shape .n) c k twin-inside .1 ∙ ap (S .shape .at) (sym (turn-none c)))
   twin-points (suc (suc (suc (suc i)))) b = absurd (omega arith)
 
-  -- "the sample at place t of the side and the sample at place N - t of its mate"
+  -- place t of a half-edge and place N - t of its twin have the same sample (rule C7)
   pub seam : (n t : ℕ) → t ≤ n → sampleFrom S n (4 * (c / 4)) (onSide n (c % 4) t) ≡ sampleFrom S n (4 * (d / 4)) (onSide n (d % 4) (n - t))
   seam n t h =
       sample-side S n (c % 4) t (4 * (c / 4)) h (mod-lt c (omega arith))

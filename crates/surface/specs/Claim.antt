@@ -1,8 +1,8 @@
--- The third demand: distance, seam and renumbering, one claim about the numbers that the patch call and the sample call handed back.
+-- Distance, seam and renumbering: one claim about the numbers that the patch call and the sample call handed back (rule C11).
 -- What it asks for is what the calls themselves ask for: no cause of refusal is met.
 --
---   OnMesh M n q          "for every face below F and all a, b from 0 to N": the face is one of M, and cause 14 is not met
---   exact M k f m         coordinate k of control point m of face f before rounding
+--   OnMesh M n q          q is a place of a face of M: the face is below F, and cause 14 is not met (rules C2 and S1)
+--   exact M k f m         coordinate k of control point m of face f before rounding (rule C4)
 --   Multiples M k f L x   L is a common multiple of the sixteen divisors: x m times each
 --   exactSum M k n q x    coordinate k of the exact surface at place q, times N^6 and the L of these multiples
 --   coordinateOf answer k, number s k   coordinate k of a sample; 0 for a refusal
@@ -66,21 +66,21 @@ abbrev pub placeMatching : {M M' : IndexedMesh} → Renumbering M M' → ℕ →
 placeMatching r n q = placeOf (r .faces .to (q .face)) (matching n (r .start (q .face)) (place (q .a) (q .b)))
 
 pub record Claim (M M' : IndexedMesh) (d' : List ℕ) (e' : List ℤ) (n : ℕ) (q o q' : SamplePlace) (w : Witness) : Type 0 where
-  -- "On lent lists that are long enough the patch call takes every accepted mesh,
+  -- the patch call, given lists with room enough, accepts the mesh and gives its counts (rule C3),
   pub taken : checked (w .first .mesh) ≡ result (countsOf M)
-  -- and none of these sample calls refuses."
+  -- and the sample call then refuses no place of it (rule C3)
   pub answered : OnMesh M n q → sampled (w .first .sample) ≡ result (pointOf (number (w .first .sample)))
-  -- each sample within one unit of the exact surface, in each coordinate: |sample - exact| ≤ 1, both sides times N^6 and L
+  -- each sample within one unit of the exact surface, in each coordinate: |sample - exact| ≤ 1, both sides times N^6 and L (rule C5)
   pub distance : (k L : ℕ) (x : ℕ → ℕ) → OnMesh M n q → k < 3 → Multiples M k (q .face) L x
       → natAbs (number (w .first .sample) k *ℤ pos (n ^ 6 * L) -ℤ exactSum M k n q x) ≤ n ^ 6 * L
-  -- "For every side that has a mate, the sample at place t of the side and the sample at place N - t of its mate are the same three numbers."
+  -- place t of a half-edge that has a twin and place N - t of the twin have the same sample, number for number (rule C7)
   pub seam : (c t : ℕ) → c < corners M → boundary (at M) (corners M) c ≡ false → placeOff n t 0 ≡ false
       → q ≡ placeOn n c t
       → o ≡ placeOn n (twin (at M) (corners M) c) (n - t)
       → sampled (w .first .sample) ≡ sampled (w .other)
-  -- "M' is accepted too", with the same four counts,
+  -- a renumbering M' is accepted as well, with the same four counts (rule C10),
   pub counted : Renumbering M M' → listsShort M' d' e' ≡ false → checked (w .first .mesh) ≡ checked (w .second .mesh)
-  -- and has the same samples at matching places
+  -- and has the same samples at matching places (rule C10)
   pub renumbered : (r : Renumbering M M') → listsShort M' d' e' ≡ false → OnMesh M n q
       → q' ≡ placeMatching r n q
       → sampled (w .first .sample) ≡ sampled (w .second .sample)

@@ -1,4 +1,4 @@
--- The third demand: what a renumbering is, and the claim.
+-- What a renumbering is, and the claim (rules C1 to C11).
 pub mod Renumbering
 pub mod Renumbered
 pub mod Claim

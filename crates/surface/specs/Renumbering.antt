@@ -1,10 +1,10 @@
--- A renumbering of a mesh, as document 01 describes it, section "The samples": "M' comes from M as follows."
+-- A renumbering M' of a mesh M (rule C8): the user says that M' comes from M.
 --
---   vertices, faces    "Every vertex gets a new number below V, no two the same"; "The faces stand in any order, each once."
---   start f            "Each begins at any of its corners, chosen face by face": face f begins at this one of its corners
+--   vertices, faces    the permutations: the new number of each vertex and of each face
+--   start f            face f, by its old number, begins at this one of its corners in M'
 --   Place              a place (a, b) of a face, for an N
---   matching n s p     "For a face begun one corner later, the place that matches (a,b) is (b, N - a); further corners repeat this."
---   onSide n s t       "Place t of side 4f + s, t from 0 to N, is (t, 0), (N, t), (N - t, N) or (0, N - t) of face f, for s = 0, 1, 2, 3."
+--   matching n s p     the place that matches p in the face begun s corners later: (a, b) goes to (b, N - a), s times (rule C9)
+--   onSide n s t       place t of half-edge 4f + s, as a place of face f (rule C6)
 use mathlib.Core.Path.{_≡_}
 use Prim.Native.Nat.{ℕ, zero, suc, _+_, _-_, _*_, _%_, _<_}
 use lib.ListN.{length}
@@ -21,10 +21,10 @@ pub record Renumbering (M M' : IndexedMesh) : Type 0 where
   pub faces : Permutation (M .faces)
   pub start : ℕ → ℕ
   pub start-below : (f : ℕ) → f < M .faces → start f < 4
-  -- "and takes its position and tag along"
+  -- a vertex keeps its position and tag under its new number
   pub positions-move : (p k : ℕ) → p < M .vertices → k < 3 → coordinate M' (3 * vertices .to p + k) ≡ coordinate M (3 * p + k)
   pub tags-move : (p : ℕ) → p < M .vertices → tag M' (vertices .to p) ≡ tag M p
-  -- "the faces name the new numbers", "and the others follow in the old turn"
+  -- corner s of the new face is corner start + s, modulo 4, of the old one, and names that vertex's new number
   pub faces-move : (f s : ℕ) → f < M .faces → s < 4 → at M' (4 * faces .to f + s) ≡ vertices .to (at M (4 * f + (start f + s) % 4))
 
 pub record Place : Type 0 where

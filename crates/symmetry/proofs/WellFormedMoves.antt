@@ -102,7 +102,7 @@ module _ {z : Sense} {M M′ : IndexedMesh} (a : WellFormed M) (r : Alike z M M�
       ∙ sym (fold-reindex sum-monoid (halfEdges s i) (λ c. indicator (boundary (at M′) (corners M) c)))
       ∙ fold-ext 0 _+_ (corners M) (λ c l. ap indicator (boundary-moves s i c l))
 
-  -- E and B; E by "4F + B = 2E" in both meshes
+  -- E and B; E by 4F + B = 2E in both meshes (rule T8)
   pub alike-counts :
       (edges (at M′) (corners M′) (M′ .vertices) ≡ edges (at M) (corners M) (M .vertices))
       × (boundaries (at M′) (corners M′) ≡ boundaries (at M) (corners M))

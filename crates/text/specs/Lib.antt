@@ -1,3 +1,3 @@
--- The printed lines of document 01, section "File and printing".
+-- The printed lines (rules F5 to F9).
 pub mod Text
 pub mod Put

@@ -2,7 +2,7 @@
 --
 --   Put t at before after r   the text t was stored from place `at` on, and nothing else; r is the place behind it
 --   field t end           the text t and the byte behind it, a blank or the line's end
---   refused               "refused"
+--   refused               the bytes of the word `refused`
 use mathlib.Core.Path.{_≡_}
 use mathlib.Core.List.{List, [], _∷_, _++_}
 use Prim.Native.Nat.{ℕ, _+_}

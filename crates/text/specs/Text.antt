@@ -1,9 +1,9 @@
--- The printed lines: numbers in decimal, ASCII, "one blank between", each line with its end.
+-- The printed lines: numbers in decimal, ASCII, with one blank between two, each line with its end (rule F5).
 --
 --   decimal n           the digits of n, with no zero in front
 --   text z              with a '-' where z is below 0
 --   words ts            texts with one blank between, and the line's end
---   countsLine, sampleLine, refusalLine   "the first line is V F E B"; "face, a, b, x, y, z"; "`refused`, one blank and the number"
+--   countsLine, sampleLine, refusalLine   V F E B (rule F6); face, a, b, x, y, z (rule F7); the word `refused` and the number (rule F8)
 --   Printed t before after r   the text t was written to the front of a lent list of enough places, and r is its length; a list
 --                       of fewer than `linePlaces` places was left as it was, and r is 0
 use mathlib.Core.Path.{_≡_}
@@ -38,7 +38,7 @@ countsLine v f e b = words (decimal v ∷ (decimal f ∷ (decimal e ∷ (decimal
 unfoldable pub sampleLine : ℕ → ℕ → ℕ → ℤ → ℤ → ℤ → List ℕ
 sampleLine f a b x y z = words (decimal f ∷ (decimal a ∷ (decimal b ∷ (text x ∷ (text y ∷ (text z ∷ []))))))
 
--- "refused"
+-- the bytes of the word `refused`
 unfoldable pub refusalLine : ℕ → List ℕ
 refusalLine k = words ((114 ∷ 101 ∷ 102 ∷ 117 ∷ 115 ∷ 101 ∷ 100 ∷ []) ∷ (decimal k ∷ []))
 

@@ -7,7 +7,7 @@
 // mesh check.
 //
 // Of the sample call: 65535 as a 16-bit number, which is V in no trial of the mesh check; then f, N, a and b as 64-bit numbers; then
-// the patch numbers as 32-bit two's complement numbers, to the end of the file.
+// the control values as 32-bit two's complement numbers, to the end of the file.
 use crate::printing::print_text;
 ghost use mathlib.Core.Path.{_≡_};
 ghost use Prim.Native.Nat.{_+_, _^_, _≤_, _<_};

@@ -11,7 +11,7 @@ use crate::reading::room;
 use crate::reading::u64_at;
 ghost use Prim.Native.Nat.{_^_, _<_};
 
-// Where the patch numbers begin.
+// Where the control values begin.
 const NUMBERS_AT: usize = 34;
 
 // Both calls at one place, with their answers printed.
@@ -20,7 +20,7 @@ pub(crate) fn print_answers(patches: &[i32], f: usize, n: usize, a: usize, b: us
     print_reading(sample::reading(patches, f, n, a, b));
 }
 
-// The trial with a list for its patch numbers: reads them, and runs both calls.
+// The trial with a list for its control values: reads them, and runs both calls.
 fn show(b: &[u8], patches: &mut [i32]) {
     read_i32s(b, NUMBERS_AT, patches);
     print_answers(
@@ -32,7 +32,7 @@ fn show(b: &[u8], patches: &mut [i32]) {
     );
 }
 
-// The number of patch numbers.
+// The number of control values.
 fn count(b: &[u8]) -> usize
     ensures { λ r. ⌜ r < 2 ^ 61 ⌝ }
 {

@@ -1,4 +1,4 @@
-// Prints, for each vector that an argument names (a file, as document 01 has it), the name on a line and then the lines of the file.
+// Prints, for each vector that an argument names (a file, rule F1), the name on a line and then the lines of the file (rule F10).
 // `no file` says that none has that name.
 use libc::STDOUT_FILENO;
 

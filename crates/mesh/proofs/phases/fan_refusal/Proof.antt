@@ -83,7 +83,7 @@ module _ (c : tie.Else1) where
   after-8 : From (rows start₈) (from-9 start₈)
   after-8 = row-passed (all-rows (rows start₈)) used
 
--- ---- past 9: the corners at each vertex form one turn or one chain
+-- ---- past 9: the corners at each vertex form one fan
 module _ (c : tie.Else2) where
   abbrev passed-8 : tie.Else1
   passed-8 = c .before .before .before
