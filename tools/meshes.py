@@ -11,7 +11,7 @@ from functools import cached_property
 from patches import Surface, assert_seams, exact_samples, rounded
 from shapes import Shape, bow_tie, cube, isolated, join, pillow, square
 
-# The limits of rules M1 to M3, T3, T6, P3 and S1.
+# The limits of rules M1 to M3, T3, T6, B3 and S1.
 VERTICES = range(4, 512 + 1)
 FACES = range(1, 256 + 1)
 COORDINATES = range(-1048576, 1048576 + 1)

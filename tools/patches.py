@@ -1,6 +1,6 @@
 """The rules of docs/SPECIFICATION.md read once more: control points as fractions, samples, seams and renumbering.
 
-A mask is read off its rule (P6 to P11), over the sets of vertices and faces that the rule names; there are no half-edges,
+A mask is read off its rule (B6 to B11), over the sets of vertices and faces that the rule names; there are no half-edges,
 twins or fans here. tools/meshes.py, tools/trials.py and tools/vectors.py use it.
 """
 
@@ -13,7 +13,7 @@ PATCH = 48
 
 
 class Surface:
-    """What rules P1 to P12 say of the patches of an accepted mesh, given its vertices, tags and faces."""
+    """What rules B1 to B12 say of the patches of an accepted mesh, given its vertices, tags and faces."""
 
     def __init__(self, points, tags, faces):
         self.points, self.tags, self.faces = points, tags, faces

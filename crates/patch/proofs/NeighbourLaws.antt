@@ -1,4 +1,4 @@
--- The sums of the corner masks: over the edge neighbours and the vertices across (rule P9), and over the two boundary neighbours (rule P10).
+-- The sums of the corner masks: over the edge neighbours and the vertices across (rule B9), and over the two boundary neighbours (rule B10).
 use mathlib.Core.Path.{_≡_, refl, sym, ap, ap₂, _∙_}
 use mathlib.Core.Bool.{Bool, true, false, cond, _&&_}
 use mathlib.Core.Logic.{⊎-elim}
@@ -44,7 +44,7 @@ sum-one {n} {at} {p} {t} w f =
     (ap₂ _&&_ (eq-eqb (at (w .corner)) p (w .here)) (w .has))
     (λ c l e. let b = and-true (eqb (at c) p) (t c) e in w .alone c l (eqb-true (at c) p (b .0)) (b .1))
 
--- r and r' of rule P10: the end of the boundary half-edge that leaves p, and the start of the one that enters it
+-- r and r' of rule B10: the end of the boundary half-edge that leaves p, and the start of the one that enters it
 pub sharp-neighbours : (S : View) (p : ℕ) (w : BoundaryVertex (S .shape .at) (S .shape .n) p)
     → sharpSum S p ≡ x S (next (w .leaving .corner)) +ℤ x S (prev (w .entering .corner))
 unfolding sharpSum sharp
@@ -116,7 +116,7 @@ module _ (S : View) (k : Corners (S .shape .n)) (simple : Simple (S .shape .at) 
   along : (g : ℕ → ℤ) → sumAt (S .shape) p g ≡ sumBelowℤ (λ i. g (iterate s i o)) m
   along g = gather-along sumℤ-monoid n m at (λ i. iterate s i o) p (turn .inside) turn-here (turn .apart) (fan-means at k simple p f .covers) g
 
-  -- four times the edge neighbours and the vertices across (rule P9): each edge neighbour is the next of one corner at p
+  -- four times the edge neighbours and the vertices across (rule B9): each edge neighbour is the next of one corner at p
   pub ring-neighbours : ringSum S p ≡ sumAt (S .shape) p (λ c. pos 4 *ℤ x S (next c) +ℤ x S (across c))
   unfolding ringSum iterate
   ring-neighbours =

@@ -1,17 +1,17 @@
--- The masks, as functions of numbers: of one coordinate of each vertex that a mask names (rule P2).
+-- The masks, as functions of numbers: of one coordinate of each vertex that a mask names (rule B2).
 -- Each gives a fraction, numerator and divisor; its weights are non-negative and sum to its divisor.
 --
---   innerMask w p e e' f    (w p + 2e + 2e' + f) / (w + 5): e and e' are the neighbours of p in the face, f the vertex across (rule P6; Loop and
+--   innerMask w p e e' f    (w p + 2e + 2e' + f) / (w + 5): e and e' are the neighbours of p in the face, f the vertex across (rule B6; Loop and
 --                           Schaefer, figure 4a)
 --   edgeMask w p q a a' c c'   (2w p + 4q + 2a + 2a' + c + c') / (2w + 10): in the two faces of the edge p q, a and a' are the neighbours of p
---                           other than q, c and c' the vertices across from p (rule P7; Loop and Schaefer, figure 4b)
---   boundaryEdgeMask p q    (2p + q) / 3, near p on a boundary half-edge with the ends p and q (rule P8; Loop and Schaefer, figure 20; Kovacs and
+--                           other than q, c and c' the vertices across from p (rule B7; Loop and Schaefer, figure 4b)
+--   boundaryEdgeMask p q    (2p + q) / 3, near p on a boundary half-edge with the ends p and q (rule B8; Loop and Schaefer, figure 20; Kovacs and
 --                           others, section 3)
 --   smoothCornerMask n p s  (n n p + s) / (n (n + 5)): s is four times the sum of the edge neighbours of p, and the sum of the vertices across
---                           (rule P9; Loop and Schaefer, figure 4c)
---   boundaryCornerMask p s  (4p + s) / 6: s is the sum of the two boundary neighbours of p (rule P10; Loop and Schaefer, figure 20; Kovacs and
+--                           (rule B9; Loop and Schaefer, figure 4c)
+--   boundaryCornerMask p s  (4p + s) / 6: s is the sum of the two boundary neighbours of p (rule B10; Loop and Schaefer, figure 20; Kovacs and
 --                           others, section 3)
---   vertexMask p            p itself: for a boundary vertex with tag 1, or with k = 1 (rule P11; Kovacs and others, section 4; Loop and Schaefer,
+--   vertexMask p            p itself: for a boundary vertex with tag 1, or with k = 1 (rule B11; Kovacs and others, section 4; Loop and Schaefer,
 --                           figure 20)
 use Prim.Native.Nat.{ℕ, _+_, _*_}
 use lib.IntN.{ℤ, pos, _+ℤ_, _*ℤ_}

@@ -5,13 +5,13 @@
 --                           8 along 3     9 inner 3    10 inner 2    11 before 2        ^
 --                           4 before 0    5 inner 0     6 inner 1     7 along 1         |
 --                           0 corner 0    1 along 0     2 before 1    3 corner 1        +--> i
---                      (rules P1 and P5)
+--                      (rules B1 and B5)
 --   patchPoint S c m   point m of the patch of the face of corner c, where c counts as the face's first corner
---   controlValue S c m   the control value, which the user calls a patch number: 256 times the fraction, rounded once (rules P3 and I1)
+--   controlValue S c m   the control value, which the user calls a patch number: 256 times the fraction, rounded once (rules B3 and I1)
 --   shape M            the mesh M without its coordinates
 --   view M k           coordinate k (x, y, z) of the mesh M
 --   patchNumber M i    what stands at place i of the patch list: coordinate i % 3 of point i % 48 / 3 of face i / 48
---   patchesAfter M d   the patch list after an accepted mesh was written over d: places from 48F on are untouched (rule P12)
+--   patchesAfter M d   the patch list after an accepted mesh was written over d: places from 48F on are untouched (rule B12)
 use mathlib.Core.List.{List, [], _∷_}
 use Prim.Native.Nat.{ℕ, _+_, _*_, _/_, _%_}
 use lib.IntN.{ℤ, pos, _*ℤ_}

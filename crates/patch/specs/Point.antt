@@ -2,18 +2,18 @@
 --
 --   Shape           what no coordinate tells: n corners, the vertex `at c` of each, a tag of each vertex
 --   View            what the points are read from: a shape, and a coordinate of each vertex
---   weight G c      w of the vertex of corner c: n of an inner vertex and 2k of a boundary vertex, k = 1 included (rule P4; Kovacs and others,
+--   weight G c      w of the vertex of corner c: n of an inner vertex and 2k of a boundary vertex, k = 1 included (rule B4; Kovacs and others,
 --                   section 3)
 --   sharp G c       half-edge c takes the boundary rule: it has no twin
---   sharpSum S p    the far ends of the sharp half-edges at p: of a boundary vertex its two boundary neighbours (rule P10)
+--   sharpSum S p    the far ends of the sharp half-edges at p: of a boundary vertex its two boundary neighbours (rule B10)
 --   ringSum S p     four times the edge neighbours of p and the vertices across: each edge neighbour is the next of one corner at p
---                   and the previous of another, so each counts twice here (rule P9)
---   fixed G p       the corner point of a boundary vertex is the vertex itself: it has tag 1, or k = 1 (rule P11)
+--                   and the previous of another, so each counts twice here (rule B9)
+--   fixed G p       the corner point of a boundary vertex is the vertex itself: it has tag 1, or k = 1 (rule B11)
 --   cornerPoint S p    the corner point of vertex p
---   edgePoint S c d    the edge point on the edge of half-edge c, with twin d, near its start (rule P7)
---   alongPoint S c     the edge point on half-edge c near its start, which the user calls the near point of a side (rules P5, P7 and P8)
---   beforePoint S c    the edge point on the half-edge before c near its end, which is the vertex of c (rules P5, P7 and P8)
---   innerPoint S c     the inner point at corner c, which the user calls the interior point (rule P6)
+--   edgePoint S c d    the edge point on the edge of half-edge c, with twin d, near its start (rule B7)
+--   alongPoint S c     the edge point on half-edge c near its start, which the user calls the near point of a side (rules B5, B7 and B8)
+--   beforePoint S c    the edge point on the half-edge before c near its end, which is the vertex of c (rules B5, B7 and B8)
+--   innerPoint S c     the inner point at corner c, which the user calls the interior point (rule B6)
 use mathlib.Core.Bool.{Bool, not, cond, _||_}
 use Prim.Native.Nat.{ℕ, _*_}
 use lib.Dec.{eqb}

@@ -74,7 +74,7 @@ sum-flip f =
 abbrev pub quarterTurn : (ℕ → ℤ) → ℕ → ℤ
 quarterTurn g m = g (3 - m / 4 + 4 * (m % 4))
 
--- the corner points b(0,0), b(3,0), b(3,3), b(0,3) of q0 to q3 (rule P5), which are q1, q2, q3, q0 of the face as it was
+-- the corner points b(0,0), b(3,0), b(3,3), b(0,3) of q0 to q3 (rule B5), which are q1, q2, q3, q0 of the face as it was
 corners : (g : ℕ → ℤ) → (quarterTurn g 0 ≡ g 3) × (quarterTurn g 3 ≡ g 15) × (quarterTurn g 15 ≡ g 12) × (quarterTurn g 12 ≡ g 0)
 corners g = (refl, refl, refl, refl)
 

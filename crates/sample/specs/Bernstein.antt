@@ -4,7 +4,7 @@
 --   numerator n a b g   the sum of Wi(a) Wj(b) b(i,j) over all i and j, for the control values g m of points m = i + 4j (rule S3)
 --   rounded n a b g  that sum over N^6, rounded once (rules S3 and I2)
 --   controlAt patches f k m   coordinate k of control point m of face f: its patch fills the 48 places from 48f on, three for each point
---                    (rules S4 and P12)
+--                    (rules S4 and B12)
 --   coordinateAt     coordinate k of the sample of face f at (a, b)
 use mathlib.Core.List.{List}
 use Prim.Native.Nat.{ℕ, zero, suc, _+_, _-_, _*_, _^_}

@@ -8,7 +8,7 @@ use lib.ListN.{length, getD}
 use Rattle.finite.specs.Fold.{anyBelow}
 use Rattle.finite.specs.Table.{Row, row}
 
--- the largest magnitude of a control value: 256 times the coordinate limit of a mesh (rule P3)
+-- the largest magnitude of a control value: 256 times the coordinate limit of a mesh (rule B3)
 abbrev pub maxControl : ℕ
 maxControl = 268435456
 

@@ -1,4 +1,4 @@
-//! The limits of rules M1 to M3, T6, P3 and S1, and the corners of a face by their numbers.
+//! The limits of rules M1 to M3, T6, B3 and S1, and the corners of a face by their numbers.
 
 use std::ops::RangeInclusive;
 
