@@ -4,7 +4,7 @@ use native.Mathlib.Omega.{arith}
 use borrow.Author.Needs.{needs}
 use Rattle.finite.specs.Table.{result}
 use Rattle.listing.specs.Listing.{countsText}
-use Rattle.listing.proofs.ListingLaws.{one-stored, nothing-more, counts-filled}
+use Rattle.listing.proofs.StretchLaws.{one-stored, nothing-more, counts-filled}
 use Rattle.listing.proofs.mesh_stretch.Statement.{statement}
 use Rattle.listing.proofs.mesh_stretch.Tie as tie
 

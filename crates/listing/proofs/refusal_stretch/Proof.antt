@@ -4,7 +4,7 @@ use native.Mathlib.Omega.{arith}
 use borrow.Author.Needs.{needs}
 use Rattle.finite.specs.Table.{refusal}
 use Rattle.text.specs.Text.{refusalLine}
-use Rattle.listing.proofs.ListingLaws.{one-stored, nothing-more, refusal-filled}
+use Rattle.listing.proofs.StretchLaws.{one-stored, nothing-more, refusal-filled}
 use Rattle.listing.specs.Listing.{Stretched}
 use Rattle.listing.specs.declared.model.Stretch.{Stretch}
 use Rattle.listing.proofs.refusal_stretch.Statement.{statement}
@@ -30,7 +30,8 @@ returns-2 c =
     let e : tie.Else1 = w .before .before in
     let s = e .before .before in
     rw (c .one-line .ensures, e .if1 .left)
-    (one-stored (refusal (s .args .k)) (s .args .patches .now) (refusalLine (s .args .k)) refl (omega arith) (refusal-filled (s .args .k)) (w .refusal-line .kept .1 .0) (w .refusal-line .ensures))
+    (one-stored (refusal (s .args .k)) (s .args .patches .now) (refusalLine (s .args .k)) refl (omega arith)
+    (refusal-filled (s .args .k)) (w .refusal-line .kept .1 .0) (w .refusal-line .ensures))
 
 pub refusal-stretch-spec : {M : Type 1} → statement M
 refusal-stretch-spec = tie.close (tie.spec returns refusal-line-requires one-line-requires same-length returns-2)

@@ -5,7 +5,7 @@ use Rattle.finite.specs.Table.{Answer}
 use Rattle.meshfile.specs.Answer.{opened}
 use Rattle.meshfile.specs.declared.model.Tessellation.{Tessellation}
 use Rattle.listing.specs.Listing.{Stretched}
-use Rattle.listing.proofs.ListingLaws.{stretched-as}
+use Rattle.listing.proofs.StretchLaws.{stretched-as}
 use Rattle.listing.proofs.stretch.Statement.{statement}
 use Rattle.listing.proofs.stretch.Tie as tie
 

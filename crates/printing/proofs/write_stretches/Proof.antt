@@ -6,7 +6,7 @@ use lib.ListN.{length, length-take}
 use borrow.Author.Needs.{needs}
 use Rattle.meshfile.specs.Answer.{opened}
 use Rattle.listing.specs.Listing.{lineCount}
-use Rattle.listing.proofs.ListingLaws.{leads-on, leads-within, stretch-fits}
+use Rattle.listing.proofs.StretchLaws.{leads-on, leads-within, stretch-fits}
 use Rattle.printing.proofs.write_stretches.Statement.{statement}
 use Rattle.printing.proofs.write_stretches.Tie as tie
 

@@ -37,7 +37,8 @@ returns-3 c =
     let s = e .before .before in
     let p = s .args .p in (
       record { a-within = omega arith; b-within = omega arith },
-      next-face (s .args .n) (p .face) (p .b) (p .a) (omega (arith, s .pre .0 .a-within, e .if1 .left)) (omega (arith, s .pre .0 .b-within, c .before .if2 .left)),
+      next-face (s .args .n) (p .face) (p .b) (p .a) (omega (arith, s .pre .0 .a-within, e .if1 .left))
+          (omega (arith, s .pre .0 .b-within, c .before .if2 .left)),
     )
 
 pub next-place-spec : {M : Type 1} → statement M

@@ -45,8 +45,11 @@ returns c =
     let q = k .q .given .0 .0 in
     let fits = told .struct-told3 .given in
     printed-as (s .args .p .face) (s .args .p .a) (s .args .p .b) (sym (ap sampled (k .q .given .1)) ∙ k .before .before .sample .ensures)
-    (rw (toZ-ofZ {w = w32} {z = q .x} (record { sfits = fits .0 .1 }), toZ-ofZ {w = w32} {z = q .y} (record { sfits = fits .1 .0 .1 }), toZ-ofZ {w = w32} {z = q .z} (record { sfits = fits .1 .1 .0 .1 }))
-    at (w .sample-line .ensures))
+    (rw (
+      toZ-ofZ {w = w32} {z = q .x} (record { sfits = fits .0 .1 }),
+      toZ-ofZ {w = w32} {z = q .y} (record { sfits = fits .1 .0 .1 }),
+      toZ-ofZ {w = w32} {z = q .z} (record { sfits = fits .1 .1 .0 .1 }),
+    ) at (w .sample-line .ensures))
 
 same-length-2 : tie.Need-same-length-2
 same-length-2 c = search needs
@@ -56,7 +59,8 @@ returns-2 c =
     let w = c .before .before in
     let k : tie.After-k = w .before .before .before in
     let s = k .before .before .before .before in
-    printed-as (s .args .p .face) (s .args .p .a) (s .args .p .b) (sym (ap sampled (k .k .given .1)) ∙ k .before .before .sample .ensures) (w .refusal-line .ensures)
+    printed-as (s .args .p .face) (s .args .p .a) (s .args .p .b) (sym (ap sampled (k .k .given .1)) ∙ k .before .before .sample .ensures)
+    (w .refusal-line .ensures)
 
 pub sample-line-spec : {M : Type 1} → statement M
 sample-line-spec =

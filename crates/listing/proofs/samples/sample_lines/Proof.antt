@@ -10,7 +10,8 @@ use Rattle.mesh.specs.Limits.{maxFaces}
 use Rattle.sample.specs.Refusal.{maxSteps}
 use Rattle.text.specs.Text.{linePlaces}
 use Rattle.text.proofs.TextLaws.{printed-within}
-use Rattle.listing.proofs.ListingLaws.{Going, going-start, going-fits, going-more, going-no-room, going-no-face, going-end, few-lines, stored-length}
+use Rattle.listing.proofs.ListingLaws.{few-lines}
+use Rattle.listing.proofs.StretchLaws.{Going, going-start, going-fits, going-more, going-no-room, going-no-face, going-end, stored-length}
 use Rattle.listing.proofs.samples.sample_lines.Statement.{statement}
 use Rattle.listing.proofs.samples.sample_lines.Tie as tie
 
@@ -37,7 +38,8 @@ module _ (c : tie.Then2 Inv-loop μ-loop) where
   fits : at-loop .loop .to ≤ maxFaces * (maxSteps + 1) * (maxSteps + 1)
   fits =
       let s = start at-loop in
-      few-lines (s .args .t .mesh .faces) (s .args .t .steps) (at-loop .loop .to) (s .pre .1) (s .pre .2) (going-fits (at-loop .loop .inv) (c .before .if1 .taken))
+      few-lines (s .args .t .mesh .faces) (s .args .t .steps) (at-loop .loop .to) (s .pre .1) (s .pre .2)
+      (going-fits (at-loop .loop .inv) (c .before .if1 .taken))
 
   ends : at-loop .loop .at ≤ length (at-loop .loop .out)
   ends = let g = at-loop .loop .inv in omega (arith, g .stored .length-is, g .stored .fits, stored-length (g .stored))
@@ -101,7 +103,8 @@ loop-again c =
     let w = called (c .before) in
     let i = in-loop w in
     let l = at-loop i in
-    going-more (l .loop .inv) _ _ _ (start l .pre .0) (i .before .if1 .taken) (leb-true linePlaces _ (i .if2 .taken)) (w .sample-line .kept .1 .1 .1 .0) (w .sample-line .ensures)
+    going-more (l .loop .inv) _ _ _ (start l .pre .0) (i .before .if1 .taken) (leb-true linePlaces _ (i .if2 .taken))
+    (w .sample-line .kept .1 .1 .1 .0) (w .sample-line .ensures)
     (c .next-place .ensures .0) (c .next-place .ensures .1)
 
 same-length : tie.Need-same-length Inv-loop μ-loop
