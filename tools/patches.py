@@ -32,7 +32,7 @@ class Surface:
         return {q for q in self.joined[p] if len(self.beside[frozenset((p, q))]) == 1}
 
     def weight(self, p):
-        """w: n at an inner vertex and 2k at a rim vertex."""
+        """The weight w of rule B4: the number of faces, doubled on the rim."""
         return len(self.about[p]) * (2 if self.rim_neighbours(p) else 1)
 
     @staticmethod
@@ -84,7 +84,7 @@ class Surface:
         return self.corner_point(p)
 
     def patch(self, f):
-        """The 48 numbers of patch f: 256 times each fraction, rounded to the nearest whole number, halves to the even one."""
+        """The control values of patch f: each fraction in 1/256 micrometre, rounded once; Python's round takes halves to even."""
         return [round(256 * x) for j, i in product(range(4), repeat=2) for x in self.point(self.faces[f], i, j)]
 
 

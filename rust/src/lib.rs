@@ -46,7 +46,7 @@ pub struct Mesh<'a> {
     pub vertices: usize,
     /// F, from 1 to 256.
     pub faces: usize,
-    /// 3V coordinates x, y, z in micrometres, each from -1,048,576 to 1,048,576.
+    /// 3V coordinates in micrometres, x, y, z of each vertex; a magnitude is at most 1,048,576.
     pub positions: &'a [i32],
     /// V tags: 0 smooth, 1 corner, which only a boundary vertex may be.
     pub tags: &'a [u8],
@@ -179,7 +179,7 @@ pub fn patches(mesh: &Mesh, twins: &mut [u16], patches: &mut [i32]) -> Result<Co
 /// Takes the sample of a face at (a, b) of n by n steps (n is the N of rule S1): the point of its patch at u = a/n, v = b/n.
 ///
 /// - Returns x, y and z in 1/256 micrometre, each rounded once to the nearest, halves to the even one.
-/// - Reads only the 48 numbers from place 48f on of `patches`, which [`patches()`] writes.
+/// - Reads no more of `patches` than the patch of face f, 48 control values, as [`patches()`] writes them.
 /// - Refuses 12, 13, 14, in this order.
 ///
 /// ```
@@ -210,7 +210,7 @@ pub fn sample(patches: &[i32], face: usize, n: usize, a: usize, b: usize) -> Res
 /// Takes the sample of a face at (a, b) of n by n steps, in micrometres.
 ///
 /// - Returns x, y and z in micrometres, each exactly the coordinate of the [`sample`] over 256.
-/// - Reads only the 48 numbers from place 48f on of `patches`, which [`patches()`] writes.
+/// - Reads no more of `patches` than the patch of face f, 48 control values, as [`patches()`] writes them.
 /// - Refuses 12, 13, 14, in this order.
 ///
 /// ```
@@ -236,8 +236,7 @@ pub fn reading(patches: &[i32], face: usize, n: usize, a: usize, b: usize) -> Re
     accepted(code, point)
 }
 
-/// The four corners of a face, as that part of the list of vertex numbers; an empty part for a face f with 4f + 4 above the
-/// list's length.
+/// The four corners of a face, as that part of the list of vertex numbers; the part is empty where the list ends before them.
 ///
 /// ```
 /// use rusketja::face_corners;

@@ -19,7 +19,7 @@ pub fn turned(i: usize, c: usize) -> usize {
     (c & !3) | ((c + i) & 3)
 }
 
-/// `num / den` rounded once to the nearest whole number, halves to the even one; 0 for a divisor 0.
+/// `num / den` rounded once, a half to the even neighbour; 0 for a divisor 0.
 #[inline(always)]
 pub fn round(num: i64, den: u32) -> i64 {
     if den == 0 {

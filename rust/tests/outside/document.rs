@@ -47,7 +47,7 @@ impl<'a> Surface<'a> {
         self.mesh.indices[side] as usize
     }
 
-    /// Side 4f + s runs from corner s to corner s + 1 of the face, from 3 back to 0.
+    /// The vertex where a side ends: the next corner of its face, after the last the first.
     pub fn end(&self, side: usize) -> usize {
         self.start(later(side, 1))
     }
@@ -57,12 +57,12 @@ impl<'a> Surface<'a> {
         self.corners[p].iter().copied().find(|&side| self.end(side) == q)
     }
 
-    /// The side that joins the same two vertices the other way.
+    /// The side that runs back along this one, if there is one.
     pub fn mate(&self, side: usize) -> Option<usize> {
         self.side(self.end(side), self.start(side))
     }
 
-    /// From a corner at p, the start of the mate of the side that comes into p in that face.
+    /// The corner of the neighbouring face at the same vertex, across the side that ends there.
     fn next(&self, corner: usize) -> Option<usize> {
         self.mate(later(corner, 3))
     }
@@ -90,7 +90,7 @@ impl<'a> Surface<'a> {
         self.rings[p]
     }
 
-    /// V, F, E, B: E counts unordered pairs of vertices joined by a side, B counts rim sides.
+    /// V, F, E, B: an edge counts once, whether one side runs along it or two, and B are the sides without a mate.
     pub fn counts(&self) -> Four {
         let sides = 0..4 * self.mesh.faces;
         let pair = |s: usize| (self.start(s).min(self.end(s)), self.start(s).max(self.end(s)));
@@ -99,7 +99,7 @@ impl<'a> Surface<'a> {
         [self.mesh.vertices, self.mesh.faces, pairs.len(), rim]
     }
 
-    /// w: n at an inner vertex and 2k at a rim vertex.
+    /// The weight w of rule B4: the number of faces, doubled on the rim.
     fn w(&self, p: usize) -> i128 {
         match self.ring(p) {
             Ring::Turn(n) => n as i128,
@@ -128,7 +128,7 @@ impl<'a> Surface<'a> {
         self.mix(&[(w, p), (2, e), (2, e2), (1, f)], w + 5)
     }
 
-    /// On an inner edge (2w p + 4q + 2a + 2a' + c + c') / (2w + 10), on a rim side (2p + q) / 3.
+    /// The point beside p towards q, by the mask of rule B7, or on the rim of B8.
     fn edge_point(&self, p: usize, q: usize) -> Fraction {
         let (Some(there), Some(back)) = (self.side(p, q), self.side(q, p)) else {
             return self.mix(&[(2, p), (1, q)], 3);
@@ -189,7 +189,7 @@ const fn at(i: usize, j: usize) -> usize {
     i + 4 * j
 }
 
-/// The nearest whole number, halves to the even one.
+/// Rounds a fraction; of two whole numbers that are as near the even one is taken.
 pub fn nearest(over: i128, divisor: i128) -> i128 {
     let (floor, rest) = (over.div_euclid(divisor), over.rem_euclid(divisor));
     match (2 * rest).cmp(&divisor) {
@@ -199,7 +199,7 @@ pub fn nearest(over: i128, divisor: i128) -> i128 {
     }
 }
 
-/// 1: V or F off its range, or a mesh list of another length.
+/// Refusal 1: a size beyond its limits, or a list that does not fit the sizes.
 fn sizes_wrong(mesh: &Model) -> bool {
     !(4..=512).contains(&mesh.vertices)
         || !(1..=256).contains(&mesh.faces)
@@ -325,7 +325,7 @@ pub fn sample_refusal(patches: &[i32], face: usize, n: usize, a: usize, b: usize
     (!(1..=32).contains(&n) || a > n || b > n).then_some(14)
 }
 
-/// The sum over i and j of Wi(a) Wj(b) b(i,j) and its divisor N^6, before rounding.
+/// A sample as a fraction over N^6, not yet rounded: the control points, each times its two weights.
 pub fn sample_fraction(patches: &[i32], face: usize, n: usize, a: usize, b: usize) -> Fraction {
     let (along_u, along_v) = (weights(n, a), weights(n, b));
     let mut over = [0; 3];
