@@ -34,7 +34,7 @@ def whole(digits):
 
 
 def constants():
-    code = text("crates/mesh/src/model.rt") + text("crates/sample/src/model.rt")
+    code = text("crates/limits/src/model.rt") + text("crates/sample/src/model.rt")
     return {name: whole(digits) for name, digits in re.findall(r"pub const (\w+): \w+ = ([\d_]+);", code)}
 
 
@@ -49,7 +49,7 @@ class Limits(unittest.TestCase):
         self.assertEqual(self.limits.keys(), NAMES.keys())
 
     def test_definitions(self):
-        definitions = text("crates/mesh/specs/Limits.antt") + text("crates/sample/specs/Refusal.antt")
+        definitions = text("crates/limits/specs/Limits.antt") + text("crates/sample/specs/Refusal.antt")
         for constant, name in NAMES.items():
             found = re.search(rf"^{name} = (\d+)$", definitions, re.MULTILINE)
             self.assertIsNotNone(found, name)

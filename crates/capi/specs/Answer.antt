@@ -16,9 +16,10 @@ use lib.IntN.{ℤ}
 use lib.Ieee.{Float}
 use lib.ListN.{length, take, drop}
 use Rattle.finite.specs.Table.{Answer, result, refusal}
+use Rattle.limits.specs.declared.model.Mesh.{Mesh}
+use Rattle.corner.specs.Corner.{faceCorners}
 use Rattle.mesh.specs.IndexedMesh.{IndexedMesh}
-use Rattle.mesh.specs.Answer.{checkAnswer, checkTwins, faceCorners}
-use Rattle.mesh.specs.declared.model.Mesh.{Mesh}
+use Rattle.mesh.specs.Answer.{checkAnswer, checkTwins}
 use Rattle.patch.specs.Answer.{patchAnswer, patchTwins, patchList}
 use Rattle.sample.specs.Answer.{Over256}
 use Rattle.sample.specs.declared.model.Point.{Point}

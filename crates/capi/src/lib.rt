@@ -1,5 +1,5 @@
 //! The calls of the library for C: each returns a number, and the results go into numbers that the caller lends.
-use mesh::model::Checked;
+use limits::model::Checked;
 use sample::model::Reading;
 use sample::model::Sampled;
 ghost use mathlib.Core.List.{_∷_, []};
@@ -8,7 +8,7 @@ ghost use Rattle.mesh.specs.Answer.{checked};
 ghost use Rattle.sample.specs.Answer.{sampleAnswer};
 ghost use Rattle.capi.specs.Answer.{CornersTold, CountsStored, CheckStored, PatchesStored, SampleStored, ReadingStored};
 
-// The corners of face f: `mesh::face_corners`, whose part of the face list C is told by its first place and its length.
+// The corners of face f: `corner::face_corners`, whose part of the face list C is told by its first place and its length.
 // Returns: the number of corners, 4, or 0 where 4f + 4 is above the length of indices.
 // Writes: 4f, the place of the first corner in indices, into first. Leaves alone: first where it returns 0.
 // Refuses: nothing.
@@ -16,7 +16,7 @@ ghost use Rattle.capi.specs.Answer.{CornersTold, CountsStored, CheckStor
 pub extern "C" fn rusketja_face_corners(indices: &[u16], f: usize, first: &mut usize) -> usize
     ensures { λ r. ⌜ CornersTold (now (indices .entry)) f (now (first .entry)) r (now (first .exit)) ⌝ }
 {
-    let corners = mesh::face_corners(indices, f);
+    let corners = corner::face_corners(indices, f);
     let n = corners.len();
     if n != 0 {
         *first = 4 * f;

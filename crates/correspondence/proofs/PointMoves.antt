@@ -7,8 +7,8 @@ use Prim.Native.Nat.{ℕ, _*_, _<_}
 use lib.IntN.{ℤ}
 use borrow.Author.Tests.{eqb-false}
 use Rattle.finite.proofs.IntegerSum.{sumℤ-monoid}
-use Rattle.mesh.specs.Limits.{noTwin}
-use Rattle.mesh.specs.Corner.{next, across, prev}
+use Rattle.limits.specs.Limits.{noTwin}
+use Rattle.corner.specs.Corner.{next, across, prev}
 use Rattle.mesh.specs.HalfEdge.{twin, boundary}
 use Rattle.mesh.specs.IndexedMesh.{IndexedMesh, corners, at, tag}
 use Rattle.mesh.specs.WellFormed.{WellFormed}

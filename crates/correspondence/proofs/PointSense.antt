@@ -12,7 +12,7 @@ use lib.IntN.{ℤ, pos, _+ℤ_, _*ℤ_, +ℤ-comm}
 use Rattle.integer.proofs.Difference.{int, nat, _⊕_, _⊛_, prove-eq}
 use Rattle.finite.specs.Filled.{listBelow}
 use Rattle.finite.proofs.FilledLaws.{agree}
-use Rattle.mesh.specs.Corner.{turn, next, across, prev}
+use Rattle.corner.specs.Corner.{turn, next, across, prev}
 use Rattle.mesh.specs.HalfEdge.{twin, boundary}
 use Rattle.mesh.proofs.CornerLaws.{turn-mod}
 use Rattle.symmetry.proofs.Sense.{Sense, same, reversed, turned, ahead, behind, leaving, entering, origin, target, Opposite}

@@ -10,9 +10,10 @@ use Rattle.finite.specs.Filled.{listBelow, filled}
 use Rattle.mesh.specs.IndexedMesh.{IndexedMesh, corners}
 use Rattle.mesh.specs.HalfEdge.{isTwin, twin, boundary, sameWay, doubled, joins, edges, boundaries}
 use Rattle.mesh.specs.Fan.{valence, onBoundary, around, iterate, fanBy, fan}
-use Rattle.mesh.specs.Refusal.{sizesOff, coordinateOff, tagOff, vertexOff, vertexTwice, halfEdgeTwice, vertexUnused, fanBroken, valenceOff, innerTagged}
+use Rattle.mesh.specs.Refusal.{coordinateOff, tagOff, vertexOff, vertexTwice, halfEdgeTwice, vertexUnused, fanBroken, valenceOff, innerTagged}
 use Rattle.finite.specs.Table.{Answer, result, refusal}
-use Rattle.mesh.specs.declared.model.Mesh.{Mesh}
+use Rattle.limits.specs.Range.{sizesOff}
+use Rattle.limits.specs.declared.model.Mesh.{Mesh}
 use Rattle.mesh.specs.Answer.{meshRefusal, checkAnswer}
 use Rattle.sample.specs.Bernstein.{bernstein, numerator, rounded}
 use Rattle.sample.specs.Refusal.{faceOff, controlOff, placeOff}

@@ -1,12 +1,12 @@
 -- The lines of a file by their numbers: one behind the other they are its listing, and each place of a sample has its number.
 use mathlib.Core.Path.{_≡_, refl, sym, ap, ap₂, _∙_}
-use mathlib.Core.List.{List, [], _++_, append-assoc, append-nil}
+use mathlib.Core.List.{List, _++_, append-assoc, append-nil}
 use Prim.Native.Nat.{ℕ, zero, suc, _+_, _*_, _/_, _%_, _≤_, _<_}
 use native.Mathlib.Nat.{mul-add-div-right, mul-add-mod-self-right, mod-eq-of-lt, div-eq-of-lt, add-mul, mul-le-mul, mul-le-mul-right, le-trans}
 use native.Mathlib.Omega.{arith}
 use lib.IntN.{ℤ}
 use Rattle.finite.specs.Table.{Answer, result, refusal}
-use Rattle.mesh.specs.Limits.{maxFaces}
+use Rattle.limits.specs.Limits.{maxFaces}
 use Rattle.sample.specs.Refusal.{maxSteps}
 use Rattle.meshfile.specs.declared.model.Tessellation.{Tessellation}
 use Rattle.listing.specs.Listing.{joined, sampleText, faceText, countsText, listing, lineCount, sampleTextAt, lineAt}

@@ -18,7 +18,7 @@ use Prim.Native.Nat.{ℕ, zero, suc, _+_, _-_, _*_, _/_, _%_, _≤_, _<_, max}
 use lib.IntN.{ℤ}
 use lib.ListN.{length, drop}
 use Rattle.finite.specs.Table.{Answer, result, refusal}
-use Rattle.mesh.specs.Limits.{maxFaces}
+use Rattle.limits.specs.Limits.{maxFaces}
 use Rattle.sample.specs.Refusal.{maxSteps}
 use Rattle.sample.specs.Answer.{sampleAnswer}
 use Rattle.sample.specs.declared.model.Point.{Point}

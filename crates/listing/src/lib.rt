@@ -4,7 +4,7 @@ mod samples;
 
 use crate::model::Stretch;
 use crate::samples::sample_lines;
-use mesh::model::Mesh;
+use limits::model::Mesh;
 use meshfile::model::Opened;
 use meshfile::model::Tessellation;
 use sample::model::MAX_STEPS;

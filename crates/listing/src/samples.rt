@@ -7,7 +7,7 @@ use text::LINE_PLACES;
 ghost use mathlib.Core.Path.{_≡_};
 ghost use Prim.Native.Nat.{suc, _≤_, _<_};
 ghost use Rattle.finite.specs.Table.{result};
-ghost use Rattle.mesh.specs.Limits.{maxFaces};
+ghost use Rattle.limits.specs.Limits.{maxFaces};
 ghost use Rattle.sample.specs.Refusal.{maxSteps};
 ghost use Rattle.text.specs.Text.{Printed};
 ghost use Rattle.listing.specs.Listing.{sampleText, Stretched};

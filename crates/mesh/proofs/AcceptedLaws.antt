@@ -14,17 +14,19 @@ use Rattle.finite.proofs.FoldLaws.{bool-cases}
 use Rattle.finite.proofs.AnyAll.{any-false, any-none}
 use Rattle.finite.specs.Table.{Row, firstMet}
 use Rattle.finite.proofs.TableLaws.{skipped, none-met, none-append, append-none}
-use Rattle.mesh.specs.Limits.{minVertices, maxVertices, minFaces, maxFaces, maxCoordinate, cornerTag}
-use Rattle.mesh.specs.Limits.{minValence, maxValence, minBoundaryFaces, maxBoundaryFaces}
-use Rattle.mesh.specs.Corner.{turn, next}
+use Rattle.limits.specs.Limits.{minVertices, maxVertices, minFaces, maxFaces, maxCoordinate, cornerTag}
+use Rattle.limits.specs.Limits.{minValence, maxValence, minBoundaryFaces, maxBoundaryFaces}
+use Rattle.limits.specs.Range.{off, sizesOff}
+use Rattle.limits.proofs.RangeLaws.{off-false}
+use Rattle.corner.specs.Corner.{turn, next}
 use Rattle.mesh.specs.HalfEdge.{edges, boundaries, Simple}
 use Rattle.mesh.specs.Fan.{valence, onBoundary, fan}
 use Rattle.mesh.specs.IndexedMesh.{IndexedMesh, corners, at, tag, coordinate}
-use Rattle.mesh.specs.Refusal.{off, sizesOff, meshSizesOff, coordinateOff, tagOff, vertexOff, vertexTwice, halfEdgeTwice}
+use Rattle.mesh.specs.Refusal.{meshSizesOff, coordinateOff, tagOff, vertexOff, vertexTwice, halfEdgeTwice}
 use Rattle.mesh.specs.Refusal.{vertexUnused, fanBroken, valenceOff, innerTagged, entryRows, earlyRows, lateRows, Accepted}
 use Rattle.mesh.specs.WellFormed.{Sized, WellFormed}
 use Rattle.mesh.proofs.TwinLaws.{doubled-simple, simple-doubled}
-use Rattle.mesh.proofs.SizeLaws.{off-false, mesh-sizes-false}
+use Rattle.mesh.proofs.SizeLaws.{mesh-sizes-false}
 use Rattle.mesh.proofs.EdgeLaws.{edges-twice}
 use Rattle.mesh.specs.Tables.{Corners}
 

@@ -13,8 +13,8 @@ use native.Mathlib.Nat.{not-suc-le-zero}
 use native.Mathlib.Omega.{arith}
 use borrow.Author.Tests.{eq-eqb, eqb-true}
 use Rattle.finite.proofs.FoldLaws.{lt-suc-cases}
-use Rattle.mesh.specs.Limits.{noTwin}
-use Rattle.mesh.specs.Corner.{next, prev}
+use Rattle.limits.specs.Limits.{noTwin}
+use Rattle.corner.specs.Corner.{next, prev}
 use Rattle.mesh.specs.HalfEdge.{twin, boundary, Simple}
 use Rattle.mesh.specs.Fan.{anyAt, valence, onBoundary, around, iterate, fan}
 use Rattle.mesh.proofs.CornerLaws.{next-below, not-none}

@@ -17,8 +17,8 @@ use Rattle.finite.proofs.FoldLaws.{bool-cases, lt-suc-cases, fold-unit}
 use Rattle.finite.proofs.AnyAll.{any-none, any-hit, any-true, and-true, same-test}
 use Rattle.finite.proofs.Counting.{sum-monoid}
 use Rattle.finite.proofs.Least.{least-miss}
-use Rattle.mesh.specs.Limits.{maxVertices, noTwin}
-use Rattle.mesh.specs.Corner.{next}
+use Rattle.limits.specs.Limits.{maxVertices, noTwin}
+use Rattle.corner.specs.Corner.{next}
 use Rattle.mesh.specs.HalfEdge.{runs, isTwin, twin, sameWay, doubled, Simple}
 use Rattle.mesh.specs.Fan.{valence}
 use Rattle.mesh.proofs.TwinLaws.{runs-ends, runs-so, twin-is}

@@ -11,8 +11,8 @@ use native.Mathlib.Omega.{arith}
 use lib.Dec.{ltb}
 use borrow.Author.Tests.{eq-eqb, ne-eqb, lt-ltb, le-ltb, ltb-true}
 use Rattle.finite.proofs.FoldLaws.{bool-cases}
-use Rattle.mesh.specs.Limits.{noTwin}
-use Rattle.mesh.specs.Corner.{next, prev}
+use Rattle.limits.specs.Limits.{noTwin}
+use Rattle.corner.specs.Corner.{next, prev}
 use Rattle.mesh.specs.Fan.{around, iterate}
 use Rattle.mesh.proofs.CornerLaws.{next-below, prev-below, next-prev, prev-next, not-none}
 use Rattle.mesh.proofs.TwinLaws.{Joins}

@@ -2,8 +2,8 @@
 use mathlib.Core.Path.{_≡_}
 use Prim.Native.Nat.{ℕ, suc, _*_, _/_, _%_, _<_}
 use native.Mathlib.Omega.{arith}
-use Rattle.mesh.specs.Limits.{noTwin}
-use Rattle.mesh.specs.Corner.{turn, next, prev}
+use Rattle.limits.specs.Limits.{noTwin}
+use Rattle.corner.specs.Corner.{turn, next, prev}
 use Rattle.mesh.specs.Tables.{Corners}
 
 turn-inside : (n i c : ℕ) → n % 4 ≡ 0 → c < n → turn i c < n

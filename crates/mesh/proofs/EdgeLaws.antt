@@ -11,8 +11,8 @@ use Rattle.finite.specs.Permutation.{Permutation}
 use Rattle.finite.proofs.FoldLaws.{fold-ext, fold-unit, fold-op, fold-swap, fold-select, fold-reindex, bool-cases}
 use Rattle.finite.proofs.AnyAll.{and-true, any-true, any-false}
 use Rattle.finite.proofs.Counting.{sum-monoid, sum-ones}
-use Rattle.mesh.specs.Limits.{noTwin}
-use Rattle.mesh.specs.Corner.{next}
+use Rattle.limits.specs.Limits.{noTwin}
+use Rattle.corner.specs.Corner.{next}
 use Rattle.mesh.specs.HalfEdge.{runs, twin, boundary, joins, edges, boundaries, Simple}
 use Rattle.mesh.proofs.CornerLaws.{next-below, not-none}
 use Rattle.mesh.proofs.TwinLaws.{runs-ends, runs-so, twin-cases, twin-is, twin-twin, twin-paired}

@@ -12,7 +12,7 @@ use borrow.Author.Tests.{eq-eqb, eqb-true}
 use Rattle.finite.specs.Fold.{anyBelow, countBelow}
 use Rattle.finite.proofs.AnyAll.{any-true, any-hit, same-test}
 use Rattle.finite.proofs.Counting.{cover-apart, cover-inside}
-use Rattle.mesh.specs.Limits.{noTwin}
+use Rattle.limits.specs.Limits.{noTwin}
 use Rattle.mesh.specs.HalfEdge.{twin, Simple}
 use Rattle.mesh.specs.Fan.{allAt, valence, around, iterate, fanBy, fan}
 use Rattle.mesh.proofs.TwinLaws.{twin-joins, twin-paired}

@@ -14,11 +14,12 @@ use Rattle.finite.specs.Filled.{filled}
 use Rattle.finite.proofs.FoldLaws.{bool-cases, fold-ext}
 use Rattle.finite.specs.Table.{Row, firstMet, result, refusal, answerBy, refusalOf}
 use Rattle.finite.proofs.TableLaws.{refusal-some, met-here, skipped, orElse, orElse-assoc, first-append, some-append, none-append}
-use Rattle.mesh.specs.Limits.{maxVertices, noTwin, cornerTag}
-use Rattle.mesh.specs.Corner.{next}
+use Rattle.limits.specs.Limits.{maxVertices, noTwin, cornerTag}
+use Rattle.limits.specs.Range.{valenceBad}
+use Rattle.corner.specs.Corner.{next}
 use Rattle.mesh.specs.HalfEdge.{twin, edges, boundaries, Simple}
 use Rattle.mesh.specs.IndexedMesh.{IndexedMesh, corners, at}
-use Rattle.mesh.specs.Refusal.{meshSizesOff, valenceBad, entryRows, earlyRows, lateRows}
+use Rattle.mesh.specs.Refusal.{meshSizesOff, entryRows, earlyRows, lateRows}
 use Rattle.mesh.specs.WellFormed.{MeshSized}
 use Rattle.mesh.specs.Answer.{countsOf, meshRefusal, meshAnswer, twinsAfter}
 use Rattle.mesh.proofs.SizeLaws.{mesh-sizes-false, sized-indices, indices-corners}

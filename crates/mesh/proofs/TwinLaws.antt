@@ -9,8 +9,8 @@ use Rattle.finite.specs.Fold.{anyBelow}
 use Rattle.finite.proofs.FoldLaws.{bool-cases}
 use Rattle.finite.proofs.AnyAll.{and-true, any-false, any-none}
 use Rattle.finite.proofs.Least.{least-cases}
-use Rattle.mesh.specs.Limits.{noTwin}
-use Rattle.mesh.specs.Corner.{next}
+use Rattle.limits.specs.Limits.{noTwin}
+use Rattle.corner.specs.Corner.{next}
 use Rattle.mesh.specs.HalfEdge.{runs, isTwin, twin, sameWay, doubled, Simple}
 use Rattle.mesh.proofs.CornerLaws.{not-none}
 use Rattle.mesh.specs.Tables.{Corners}

@@ -15,7 +15,7 @@ use lib.Dec.{ltb}
 use borrow.Author.Tests.{ltb-true, ltb-false}
 use Rattle.finite.proofs.FoldLaws.{bool-cases, lt-suc-cases}
 use Rattle.finite.proofs.Counting.{at-least, sum-ones}
-use Rattle.mesh.specs.Limits.{noTwin}
+use Rattle.limits.specs.Limits.{noTwin}
 use Rattle.mesh.specs.Fan.{around, iterate}
 use Rattle.mesh.proofs.CirculationLaws.{Turning, iterate-in, iterate-add, reach, step-injective, turning}
 use Rattle.mesh.proofs.TurnLaws.{On}

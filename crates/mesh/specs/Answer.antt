@@ -11,24 +11,22 @@
 --   checkAnswer, checkTwins   the answer and the list of twins of the check, which is lent a list of twins alone
 --   given k             a row of a call that found the cause of number k met among its own, 0 for none
 --   MeshChecked M own d r d'   what a call that checks the mesh M, with rows of its own, answers and leaves in the lent twins
---   faceCorners indices f     the corners of face f: the part of the face list from 4f to 4f + 3, empty where 4f + 4 is above the list's
---                       length (rule M6)
 use mathlib.Core.Path.{_≡_}
-use mathlib.Core.Bool.{Bool, not, cond}
+use mathlib.Core.Bool.{Bool, not}
 use mathlib.Core.List.{List, [], _∷_, _++_}
 use mathlib.Core.Option.{Option}
-use Prim.Native.Nat.{ℕ, _+_, _*_}
-use lib.Dec.{eqb, ltb, leb}
-use lib.ListN.{length, take, drop}
+use Prim.Native.Nat.{ℕ}
+use lib.Dec.{eqb, ltb}
+use lib.ListN.{length}
 use Rattle.finite.specs.Filled.{filled}
 use Rattle.finite.specs.Table.{Row, row, firstMet, Answer, result, refusal, answerBy, writtenBy}
-use Rattle.mesh.specs.Limits.{noTwin}
+use Rattle.limits.specs.Limits.{noTwin}
+use Rattle.limits.specs.declared.model.Mesh.{Mesh}
+use Rattle.limits.specs.declared.model.Checked.{Checked}
+use Rattle.limits.specs.declared.model.Checked.the-variants.{Accepted, Refused}
 use Rattle.mesh.specs.HalfEdge.{twin, edges, boundaries}
 use Rattle.mesh.specs.IndexedMesh.{IndexedMesh, corners, at}
 use Rattle.mesh.specs.Refusal.{earlyRows, lateRows}
-use Rattle.mesh.specs.declared.model.Mesh.{Mesh}
-use Rattle.mesh.specs.declared.model.Checked.{Checked}
-use Rattle.mesh.specs.declared.model.Checked.the-variants.{Accepted, Refused}
 
 abbrev pub countsOf : IndexedMesh → Mesh
 countsOf M = record {
@@ -71,6 +69,3 @@ given k = row (not (eqb k 0)) k
 pub record MeshChecked (M : IndexedMesh) (own : List Row) (d : List ℕ) (r : Checked) (d' : List ℕ) : Type 0 where
   pub answer-is : checked r ≡ meshAnswer M own []
   pub twins-are : d' ≡ twinsAfter M own [] d
-
-unfoldable pub faceCorners : List ℕ → ℕ → List ℕ
-faceCorners indices f = cond (leb (4 * f + 4) (length indices)) (take 4 (drop (4 * f) indices)) []

@@ -10,8 +10,8 @@ use mathlib.Core.Bool.{cond}
 use mathlib.Core.Logic.{_⊎_}
 use Prim.Native.Nat.{ℕ, _<_}
 use lib.Dec.{eqb, ltb}
-use Rattle.mesh.specs.Limits.{noTwin}
-use Rattle.mesh.specs.Corner.{next}
+use Rattle.limits.specs.Limits.{noTwin}
+use Rattle.corner.specs.Corner.{next}
 use Rattle.mesh.specs.Fan.{around, iterate}
 
 unfoldable pub backAround : (ℕ → ℕ) → ℕ → ℕ → ℕ

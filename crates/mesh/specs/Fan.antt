@@ -12,8 +12,8 @@ use mathlib.Core.Bool.{Bool, true, false, cond, _&&_, _||_}
 use Prim.Native.Nat.{ℕ, zero, suc, _+_}
 use lib.Dec.{eqb, ltb}
 use Rattle.finite.specs.Fold.{anyBelow, gather}
-use Rattle.mesh.specs.Limits.{noTwin}
-use Rattle.mesh.specs.Corner.{prev}
+use Rattle.limits.specs.Limits.{noTwin}
+use Rattle.corner.specs.Corner.{prev}
 use Rattle.mesh.specs.HalfEdge.{twin, boundary}
 
 -- some corner at p has t; every corner at p has t

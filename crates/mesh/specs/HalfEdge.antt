@@ -17,8 +17,8 @@ use mathlib.Core.Option.{Option·getD}
 use Prim.Native.Nat.{ℕ, _<_}
 use lib.Dec.{eqb}
 use Rattle.finite.specs.Fold.{anyBelow, sumBelow, countBelow, leastBelow}
-use Rattle.mesh.specs.Limits.{noTwin}
-use Rattle.mesh.specs.Corner.{next}
+use Rattle.limits.specs.Limits.{noTwin}
+use Rattle.corner.specs.Corner.{next}
 
 abbrev pub runs : (ℕ → ℕ) → ℕ → ℕ → ℕ → Bool
 runs at p q d = eqb (at d) p && eqb (at (next d)) q

@@ -1,6 +1,4 @@
 -- The definitions that the contracts of the crate cite, from the limits up to the answer of the check.
-pub mod Limits
-pub mod Corner
 pub mod HalfEdge
 pub mod Fan
 pub mod IndexedMesh

@@ -10,7 +10,7 @@ use mathlib.Core.Bool.{Bool, false}
 use mathlib.Core.List.{List}
 use Prim.Native.Nat.{ℕ}
 use Rattle.finite.specs.Table.{Row, firstMet, refusalOf}
-use Rattle.mesh.specs.Limits.{maxVertices}
+use Rattle.limits.specs.Limits.{maxVertices}
 use Rattle.mesh.specs.Fan.{onBoundary}
 use Rattle.mesh.specs.IndexedMesh.{IndexedMesh, corners, at}
 use Rattle.mesh.specs.Refusal.{entryRows, earlyRows, fanRows}

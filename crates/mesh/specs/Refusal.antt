@@ -1,7 +1,7 @@
 -- When a mesh is turned down: the rows of the table of refusals (rule R2), which the user calls causes, each as a Bool with its number, and the
 -- table itself in the order of checking (rule R3). A row is decided over the whole mesh before the row behind it is taken up (rule R1).
 use mathlib.Core.Path.{_≡_}
-use mathlib.Core.Bool.{Bool, not, cond, _&&_, _||_}
+use mathlib.Core.Bool.{Bool, not, _&&_}
 use mathlib.Core.List.{List, [], _∷_, _++_}
 use mathlib.Core.Option.{none}
 use Prim.Native.Nat.{ℕ, suc, _*_}
@@ -10,23 +10,14 @@ use lib.IntN.{natAbs}
 use lib.ListN.{length}
 use Rattle.finite.specs.Fold.{anyBelow}
 use Rattle.finite.specs.Table.{Row, row, firstMet}
-use Rattle.mesh.specs.Limits.{minVertices, maxVertices, minFaces, maxFaces, maxCoordinate, cornerTag}
-use Rattle.mesh.specs.Limits.{minValence, maxValence, minBoundaryFaces, maxBoundaryFaces}
-use Rattle.mesh.specs.Corner.{turn}
+use Rattle.limits.specs.Limits.{maxCoordinate, cornerTag}
+use Rattle.limits.specs.Range.{sizesOff, valenceBad}
+use Rattle.corner.specs.Corner.{turn}
 use Rattle.mesh.specs.HalfEdge.{doubled}
 use Rattle.mesh.specs.Fan.{valence, onBoundary, fan}
 use Rattle.mesh.specs.IndexedMesh.{IndexedMesh, corners, at, tag, coordinate}
 
--- x is off the range from a to b
-abbrev pub off : ℕ → ℕ → ℕ → Bool
-off a b x = ltb x a || ltb b x
-
--- 1: V or F is off its range, or the lists are not 3V, V and 4F long; for sizes v, f and lists of these lengths
-unfoldable pub sizesOff : ℕ → ℕ → ℕ → ℕ → ℕ → Bool
-sizesOff v f positions tags indices =
-    off minVertices maxVertices v || (off minFaces maxFaces f
-    || (not (eqb positions (3 * v)) || (not (eqb tags v) || not (eqb indices (4 * f)))))
-
+-- 1: the sizes are off their ranges, or the lists not of their lengths
 abbrev pub meshSizesOff : IndexedMesh → Bool
 meshSizesOff M = sizesOff (M .vertices) (M .faces) (length (M .positions)) (length (M .tags)) (length (M .indices))
 
@@ -59,10 +50,7 @@ vertexUnused at n v = anyBelow (λ p. eqb (valence at n p) 0) v
 unfoldable pub fanBroken : (ℕ → ℕ) → ℕ → ℕ → Bool
 fanBroken at n v = anyBelow (λ p. not (fan at n p)) v
 
--- 10: a valence is off its range; of a vertex with m corners
-abbrev pub valenceBad : Bool → ℕ → Bool
-valenceBad boundary m = cond boundary (off minBoundaryFaces maxBoundaryFaces m) (off minValence maxValence m)
-
+-- 10: a valence is off its range
 unfoldable pub valenceOff : (ℕ → ℕ) → ℕ → ℕ → Bool
 valenceOff at n v = anyBelow (λ p. valenceBad (onBoundary at n p) (valence at n p)) v
 

@@ -14,8 +14,8 @@ use mathlib.Core.List.{List}
 use Prim.Native.Nat.{ℕ, zero, suc, _*_, _%_, _≤_, _<_}
 use lib.Dec.{eqb}
 use lib.ListN.{length, getD}
-use Rattle.mesh.specs.Limits.{maxVertices, maxFaces, noTwin}
-use Rattle.mesh.specs.Corner.{next}
+use Rattle.limits.specs.Limits.{maxVertices, maxFaces, noTwin}
+use Rattle.corner.specs.Corner.{next}
 use Rattle.mesh.specs.HalfEdge.{twin, Simple}
 
 pub record Corners (n : ℕ) : Type 0 where

@@ -5,9 +5,9 @@ use mathlib.Core.Bool.{true, false}
 use Prim.Native.Nat.{ℕ, suc, _*_, _≤_, _<_}
 use lib.IntN.{natAbs}
 use lib.ListN.{length}
-use Rattle.mesh.specs.Limits.{minVertices, maxVertices, minFaces, maxFaces, maxCoordinate, cornerTag}
-use Rattle.mesh.specs.Limits.{minValence, maxValence, minBoundaryFaces, maxBoundaryFaces}
-use Rattle.mesh.specs.Corner.{turn}
+use Rattle.limits.specs.Limits.{minVertices, maxVertices, minFaces, maxFaces, maxCoordinate, cornerTag}
+use Rattle.limits.specs.Limits.{minValence, maxValence, minBoundaryFaces, maxBoundaryFaces}
+use Rattle.corner.specs.Corner.{turn}
 use Rattle.mesh.specs.HalfEdge.{Simple}
 use Rattle.mesh.specs.Fan.{valence, onBoundary, fan}
 use Rattle.mesh.specs.IndexedMesh.{IndexedMesh, corners, at, tag, coordinate}

@@ -1,7 +1,7 @@
 // The corners at each vertex, chained from the last to the first, and what the chains answer: half-edges that occur twice, and twins.
-use crate::corner::next_corner;
-use crate::corner::wide;
-use crate::model::Mesh;
+use corner::next_corner;
+use corner::wide;
+use limits::model::Mesh;
 ghost use mathlib.Core.Path.{_≡_};
 ghost use mathlib.Core.Bool.{false};
 ghost use Prim.Native.Nat.{_≤_, _<_};
@@ -9,8 +9,8 @@ ghost use lib.Dec.{eqb};
 ghost use lib.ListN.{length};
 ghost use Rattle.finite.specs.Fold.{anyBelow};
 ghost use Rattle.finite.specs.Filled.{filled};
-ghost use Rattle.mesh.specs.Limits.{maxVertices, noTwin};
-ghost use Rattle.mesh.specs.Corner.{next};
+ghost use Rattle.limits.specs.Limits.{maxVertices, noTwin};
+ghost use Rattle.corner.specs.Corner.{next};
 ghost use Rattle.mesh.specs.HalfEdge.{runs, twin, doubled, Simple};
 ghost use Rattle.mesh.specs.Tables.{Holds, vertexOf, latest, Chained, Indices};
 

@@ -1,5 +1,5 @@
 // The counts of an accepted mesh, from its twins.
-use crate::corner::wide;
+use corner::wide;
 ghost use mathlib.Core.Path.{_≡_};
 ghost use Prim.Native.Nat.{_≤_};
 ghost use lib.Dec.{ltb};

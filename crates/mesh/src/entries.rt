@@ -1,48 +1,19 @@
-// The causes that look at one list entry or one face at a time: 1, 3, 4, 5 and 6.
-use crate::corner::across_corner;
-use crate::corner::next_corner;
-use crate::corner::prev_corner;
-use crate::corner::wide;
-use crate::model::Mesh;
+// The causes that look at one list entry or one face at a time: 3, 4, 5 and 6.
+use corner::across_corner;
+use corner::next_corner;
+use corner::prev_corner;
+use corner::wide;
+use limits::coordinate_off;
+use limits::model::Mesh;
 ghost use mathlib.Core.Path.{_≡_};
-ghost use Prim.Native.Nat.{suc, _*_, _≤_, _<_};
+ghost use Prim.Native.Nat.{suc, _≤_, _<_};
 ghost use lib.Dec.{eqb, ltb, leb};
 ghost use lib.IntN.{pos, natAbs};
 ghost use lib.ListN.{length, getD};
 ghost use Rattle.finite.specs.Fold.{anyBelow};
-ghost use Rattle.mesh.specs.Limits.{maxCoordinate, cornerTag};
-ghost use Rattle.mesh.specs.Corner.{turn};
-ghost use Rattle.mesh.specs.Refusal.{off, sizesOff};
+ghost use Rattle.limits.specs.Limits.{maxCoordinate, cornerTag};
+ghost use Rattle.corner.specs.Corner.{turn};
 ghost use Rattle.mesh.specs.Tables.{vertexOf, Indices};
-
-// Whether x is off the range from low to high. Writes: nothing. Refuses: nothing.
-pub fn off_range(low: usize, high: usize, x: usize) -> bool
-    ensures { λ r. ⌜ r ≡ off low high x ⌝ }
-{
-    if x < low {
-        return true;
-    }
-    high < x
-}
-
-// Cause 1, for the two sizes and the lengths of the three lists.
-pub(crate) fn sizes_off(v: usize, f: usize, positions: usize, tags: usize, faces: usize) -> bool
-    ensures { λ r. ⌜ r ≡ sizesOff v f positions tags faces ⌝ }
-{
-    if off_range(Mesh::MIN_VERTICES, Mesh::MAX_VERTICES, v) {
-        return true;
-    }
-    if off_range(Mesh::MIN_FACES, Mesh::MAX_FACES, f) {
-        return true;
-    }
-    if positions != 3 * v {
-        return true;
-    }
-    if tags != v {
-        return true;
-    }
-    faces != 4 * f
-}
 
 // Cause 3, for the first `count` positions.
 pub(crate) fn any_coordinate_off(positions: &[i32], count: usize) -> bool
@@ -50,7 +21,7 @@ pub(crate) fn any_coordinate_off(positions: &[i32], count: usize) -> bool
     ensures { λ r. ⌜ r ≡ anyBelow (λ i. ltb maxCoordinate (natAbs (getD (now (positions .entry)) i (pos 0)))) count ⌝ }
 {
     for i in 0..count {
-        if integer::beyond(positions[i], Mesh::MAX_COORDINATE) {
+        if coordinate_off(positions[i]) {
             return true;
         }
     }

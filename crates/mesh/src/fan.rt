@@ -1,15 +1,15 @@
 // Circulating about a vertex, and the cause that it decides: 9.
-use crate::corner::next_corner;
-use crate::corner::prev_corner;
-use crate::corner::wide;
-use crate::model::Mesh;
+use corner::next_corner;
+use corner::prev_corner;
+use corner::wide;
+use limits::model::Mesh;
 ghost use mathlib.Core.Path.{_≡_};
 ghost use mathlib.Core.Bool.{not};
 ghost use Prim.Native.Nat.{ℕ, _≤_, _<_};
 ghost use lib.Dec.{eqb};
 ghost use lib.ListN.{length};
 ghost use Rattle.finite.specs.Fold.{anyBelow};
-ghost use Rattle.mesh.specs.Limits.{maxVertices};
+ghost use Rattle.limits.specs.Limits.{maxVertices};
 ghost use Rattle.mesh.specs.HalfEdge.{twin, Simple};
 ghost use Rattle.mesh.specs.Fan.{valence, around, fan};
 ghost use Rattle.mesh.specs.Tables.{Corners, Holds, vertexOf, twinOf, latest, Indices};

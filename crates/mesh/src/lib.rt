@@ -1,39 +1,23 @@
 // The mesh: its record with the limits, the corners of a face, and the check of a whole mesh with its twins.
 mod chain;
-mod corner;
 mod count;
-pub mod entries;
+mod entries;
 mod fan;
-pub mod model;
 mod phases;
 mod vertex;
 
 use crate::chain::clear_twins;
 use crate::chain::fill_twins;
-use crate::model::Checked;
-use crate::model::Mesh;
 use crate::phases::accepted;
 use crate::phases::early_refusal;
 use crate::phases::late_refusal;
 use crate::phases::own_refusal;
+use limits::model::Checked;
+use limits::model::Mesh;
 ghost use mathlib.Core.Path.{_≡_};
 ghost use mathlib.Core.List.{[], _∷_};
 ghost use Rattle.mesh.specs.IndexedMesh.{indexed};
-ghost use Rattle.mesh.specs.Answer.{checked, meshAnswer, lentRows, given, MeshChecked, faceCorners};
-
-// The corners of face f.
-// Returns: the four vertex numbers of the face, as that part of the face list; an empty part where 4f + 4 is above its length.
-// Writes: nothing. Refuses: nothing.
-pub fn face_corners(faces: &[u16], f: usize) -> &[u16]
-    ensures { λ r. ⌜ now r ≡ faceCorners (now (faces .entry)) f ⌝ }
-{
-    if f < faces.len() / 4 {
-        let a = 4 * f;
-        let e = a + 4;
-        return &faces[a..e];
-    }
-    &faces[0..0]
-}
+ghost use Rattle.mesh.specs.Answer.{checked, meshAnswer, lentRows, given, MeshChecked};
 
 // The check of a whole mesh of v vertices and f faces.
 // Returns: V, F, E and B of an accepted mesh, or the number of the refusal.

@@ -1,17 +1,18 @@
 // Tables by vertex, and the causes that look at one vertex at a time: 8, 10 and 11.
-use crate::corner::wide;
-use crate::entries::off_range;
-use crate::model::Mesh;
+use corner::wide;
+use limits::inner_tagged;
+use limits::model::Mesh;
+use limits::valence_bad;
 ghost use mathlib.Core.Path.{_≡_};
 ghost use mathlib.Core.Bool.{false, not, _&&_, _||_};
 ghost use Prim.Native.Nat.{_≤_};
 ghost use lib.Dec.{eqb};
 ghost use lib.ListN.{length, getD};
 ghost use Rattle.finite.specs.Fold.{anyBelow};
-ghost use Rattle.mesh.specs.Limits.{maxVertices, cornerTag};
+ghost use Rattle.limits.specs.Limits.{maxVertices, cornerTag};
+ghost use Rattle.limits.specs.Range.{valenceBad};
 ghost use Rattle.mesh.specs.HalfEdge.{twin};
 ghost use Rattle.mesh.specs.Fan.{valence, onBoundary};
-ghost use Rattle.mesh.specs.Refusal.{valenceBad};
 ghost use Rattle.mesh.specs.Tables.{Holds, vertexOf, Indices};
 
 // Counts the corners at each vertex, over a table of zeros.
@@ -62,16 +63,6 @@ pub(crate) fn any_unused(valences: &[u16], v: usize) -> bool
     false
 }
 
-// Whether a vertex with `valence` corners has too few or too many.
-fn valence_bad(boundary: bool, valence: usize) -> bool
-    ensures { λ r. ⌜ r ≡ valenceBad boundary valence ⌝ }
-{
-    if boundary {
-        return off_range(Mesh::MIN_BOUNDARY_FACES, Mesh::MAX_BOUNDARY_FACES, valence);
-    }
-    off_range(Mesh::MIN_VALENCE, Mesh::MAX_VALENCE, valence)
-}
-
 // Cause 10, for the first v vertices.
 pub(crate) fn any_valence_off(valences: &[u16], on_boundary: &[bool], v: usize) -> bool
     requires { ⌜ (v ≤ length (now valences)) × (v ≤ length (now «on_boundary»)) ⌝ }
@@ -81,16 +72,6 @@ pub(crate) fn any_valence_off(valences: &[u16], on_boundary: &[bool], v: usize) 
         if valence_bad(on_boundary[p], wide(valences[p])) {
             return true;
         }
-    }
-    false
-}
-
-// Whether a vertex is tagged a corner and is not on the boundary.
-fn inner_tagged(tag: u8, boundary: bool) -> bool
-    ensures { λ r. ⌜ r ≡ (eqb tag cornerTag && not boundary) ⌝ }
-{
-    if tag == Mesh::CORNER_TAG {
-        return !boundary;
     }
     false
 }

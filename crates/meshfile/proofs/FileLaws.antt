@@ -14,9 +14,9 @@ use Rattle.finite.specs.Table.{row, firstMet}
 use Rattle.finite.proofs.AnyAll.{or-false}
 use Rattle.finite.proofs.TableLaws.{met-here, skipped, none-met, some-append, none-append}
 use Rattle.finite.proofs.FilledLaws.{length-listBelow}
-use Rattle.mesh.specs.Limits.{minVertices, maxVertices, minFaces, maxFaces}
-use Rattle.mesh.specs.Refusal.{off}
-use Rattle.mesh.proofs.SizeLaws.{off-false}
+use Rattle.limits.specs.Limits.{minVertices, maxVertices, minFaces, maxFaces}
+use Rattle.limits.specs.Range.{off}
+use Rattle.limits.proofs.RangeLaws.{off-false}
 use Rattle.meshfile.specs.File.{vertices, faces, positionAt, tagAt, indexAt, headerShort, headerOff, lengthOff, fileRows}
 use Rattle.meshfile.specs.declared.model.Header.{Header}
 use Rattle.meshfile.specs.declared.model.Decoded.the-variants.{Read, Refused}

@@ -12,7 +12,7 @@ use Rattle.finite.specs.Filled.{listBelow, filled}
 use Rattle.finite.specs.Table.{Row, row, firstMet, result, refusal}
 use Rattle.finite.proofs.FilledLaws.{length-listBelow}
 use Rattle.finite.proofs.TableLaws.{skipped, orElse, orElse-none, some-append, none-append, append-none, result-none, refusal-met}
-use Rattle.mesh.specs.Limits.{maxVertices, maxFaces}
+use Rattle.limits.specs.Limits.{maxVertices, maxFaces}
 use Rattle.mesh.specs.IndexedMesh.{IndexedMesh, indexed, corners}
 use Rattle.mesh.specs.Refusal.{earlyRows, lateRows}
 use Rattle.mesh.specs.WellFormed.{Sized}

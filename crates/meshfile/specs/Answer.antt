@@ -19,7 +19,8 @@ use lib.IntN.{ℤ}
 use lib.ListN.{length}
 use Rattle.finite.specs.Filled.{filled}
 use Rattle.finite.specs.Table.{row, firstMet, Answer, result, refusal, answerBy, writtenBy}
-use Rattle.mesh.specs.Refusal.{off, earlyRows, lateRows}
+use Rattle.limits.specs.Range.{off}
+use Rattle.mesh.specs.Refusal.{earlyRows, lateRows}
 use Rattle.mesh.specs.Answer.{countsOf}
 use Rattle.sample.specs.Refusal.{minSteps, maxSteps}
 use Rattle.patch.specs.Patch.{patchesAfter}

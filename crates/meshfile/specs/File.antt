@@ -13,9 +13,9 @@ use lib.IntN.{ℤ}
 use lib.ListN.{length, getD}
 use Rattle.finite.specs.Filled.{listBelow}
 use Rattle.finite.specs.Table.{Row, row}
-use Rattle.mesh.specs.Limits.{minVertices, maxVertices, minFaces, maxFaces}
+use Rattle.limits.specs.Limits.{minVertices, maxVertices, minFaces, maxFaces}
+use Rattle.limits.specs.Range.{off}
 use Rattle.mesh.specs.IndexedMesh.{IndexedMesh, indexed}
-use Rattle.mesh.specs.Refusal.{off}
 use Rattle.meshfile.specs.Bytes.{le16, le32, signed32}
 
 abbrev pub vertices : List ℕ → ℕ

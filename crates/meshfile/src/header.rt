@@ -1,15 +1,15 @@
 // The sizes of a file, and the refusals that look at the file by itself.
 use crate::bytes::size_at;
 use crate::model::Header;
-use mesh::entries::off_range;
-use mesh::model::Mesh;
+use limits::model::Mesh;
+use limits::off_range;
 ghost use mathlib.Core.Path.{_≡_};
 ghost use mathlib.Core.Bool.{_||_};
 ghost use Prim.Native.Nat.{_*_, _≤_};
 ghost use lib.Dec.{ltb};
 ghost use lib.ListN.{length};
 ghost use Rattle.finite.specs.Table.{firstMet, refusalOf};
-ghost use Rattle.mesh.specs.Limits.{maxVertices, maxFaces};
+ghost use Rattle.limits.specs.Limits.{maxVertices, maxFaces};
 ghost use Rattle.meshfile.specs.File.{vertices, faces, steps, fileRows};
 
 // The number of the file's own refusal: 15 for fewer bytes than the sizes have, 1 for the sizes, 15 for the length; 0 for none.

@@ -14,7 +14,7 @@ use crate::model::Decoded;
 use crate::model::Header;
 use crate::model::Opened;
 use crate::tessellate::tessellate;
-use mesh::model::Mesh;
+use limits::model::Mesh;
 ghost use Rattle.meshfile.specs.Answer.{FileDecoded, FileOpened};
 
 // The sizes and the mesh of a file.

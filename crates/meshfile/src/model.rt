@@ -1,5 +1,5 @@
 // What a file gives.
-use mesh::model::Mesh;
+use limits::model::Mesh;
 
 // The sizes of a file: V, F and N (rule F1). The lengths of the file's parts are its constants, named here once.
 pub struct Header {

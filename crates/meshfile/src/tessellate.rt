@@ -1,9 +1,9 @@
 // The mesh of a file, checked and turned into patches.
 use crate::model::Opened;
 use crate::model::Tessellation;
-use mesh::entries::off_range;
-use mesh::model::Checked;
-use mesh::model::Mesh;
+use limits::model::Checked;
+use limits::model::Mesh;
+use limits::off_range;
 use sample::model::MAX_STEPS;
 use sample::model::MIN_STEPS;
 ghost use mathlib.Core.Path.{_≡_};

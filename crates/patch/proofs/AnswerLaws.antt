@@ -12,12 +12,12 @@ use Rattle.finite.specs.Table.{row, firstMet, result, answerBy}
 use Rattle.finite.proofs.TableLaws.{none-met, append-none, result-none}
 use Rattle.finite.proofs.AnyAll.{or-false}
 use Rattle.finite.proofs.FilledLaws.{length-filled, filled-at}
+use Rattle.limits.specs.declared.model.Mesh.{Mesh}
 use Rattle.mesh.specs.HalfEdge.{twin}
 use Rattle.mesh.specs.IndexedMesh.{IndexedMesh, corners, at}
 use Rattle.mesh.specs.Refusal.{earlyRows, lateRows}
 use Rattle.mesh.specs.WellFormed.{WellFormed}
 use Rattle.mesh.specs.Answer.{countsOf, meshRefusal, meshAnswer, twinsAfter, twinsShort, lentRows, given}
-use Rattle.mesh.specs.declared.model.Mesh.{Mesh}
 use Rattle.mesh.proofs.AcceptedLaws.{accepted-from}
 use Rattle.mesh.proofs.PhaseLaws.{early-passed, refusal-alike, twins-alike, twins-accepted}
 use Rattle.patch.specs.Patch.{patchesAfter}

@@ -14,8 +14,8 @@ use Rattle.finite.specs.Fold.{foldBelow}
 use Rattle.finite.specs.Filled.{listBelow, filled}
 use Rattle.finite.proofs.AnyAll.{all-true}
 use Rattle.finite.proofs.FilledLaws.{filled-start, filled-more}
-use Rattle.mesh.specs.Limits.{noTwin}
-use Rattle.mesh.specs.Corner.{turn}
+use Rattle.limits.specs.Limits.{noTwin}
+use Rattle.corner.specs.Corner.{turn}
 use Rattle.mesh.specs.HalfEdge.{boundary}
 use Rattle.mesh.proofs.CornerLaws.{turn-below}
 use Rattle.mesh.specs.Tables.{vertexOf, twinOf}

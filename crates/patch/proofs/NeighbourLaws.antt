@@ -13,7 +13,7 @@ use Rattle.finite.proofs.FoldLaws.{fold-ext, fold-op, fold-only}
 use Rattle.finite.proofs.AnyAll.{and-true}
 use Rattle.finite.proofs.Gather.{gather-along}
 use Rattle.finite.proofs.IntegerSum.{sumℤ-monoid}
-use Rattle.mesh.specs.Corner.{next, across, prev}
+use Rattle.corner.specs.Corner.{next, across, prev}
 use Rattle.mesh.specs.HalfEdge.{twin, boundary, Simple}
 use Rattle.mesh.specs.Fan.{valence, onBoundary, around, iterate, fan}
 use Rattle.mesh.proofs.CornerLaws.{next-below, not-none}

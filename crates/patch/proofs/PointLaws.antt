@@ -7,7 +7,7 @@ use native.Mathlib.Omega.{arith}
 use lib.IntN.{pos, natAbs, _*ℤ_}
 use Rattle.integer.proofs.Laws.{abs-+, abs-*}
 use Rattle.integer.proofs.NearestLaws.{nearest-bounded}
-use Rattle.mesh.specs.Limits.{maxCoordinate}
+use Rattle.limits.specs.Limits.{maxCoordinate}
 use Rattle.mesh.specs.IndexedMesh.{IndexedMesh}
 use Rattle.mesh.specs.WellFormed.{WellFormed}
 use Rattle.patch.specs.Patch.{patchPoint, controlValue, view}

@@ -14,7 +14,7 @@ use lib.Dec.{eqb}
 use lib.IntN.{ℤ, pos, _+ℤ_, _*ℤ_}
 use borrow.Author.Tests.{eqb-true, not-false}
 use Rattle.finite.specs.Fold.{foldBelow, gather}
-use Rattle.mesh.specs.Corner.{turn, next, prev}
+use Rattle.corner.specs.Corner.{turn, next, prev}
 use Rattle.mesh.specs.HalfEdge.{twin}
 use Rattle.mesh.specs.Fan.{valence}
 use Rattle.mesh.specs.IndexedMesh.{IndexedMesh, corners, at}

@@ -5,7 +5,7 @@ use Prim.Native.Nat.{ℕ, _+_, _*_, _/_, _%_, _≤_, _<_}
 use native.Mathlib.Omega.{arith}
 use lib.IntN.{ℤ}
 use lib.ListN.{length}
-use Rattle.mesh.specs.Corner.{turn}
+use Rattle.corner.specs.Corner.{turn}
 use Rattle.mesh.specs.IndexedMesh.{IndexedMesh, corners, at}
 use Rattle.mesh.specs.WellFormed.{WellFormed}
 use Rattle.mesh.proofs.CornerLaws.{turn-below}

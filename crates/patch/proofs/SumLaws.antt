@@ -9,7 +9,7 @@ use lib.IntN.{ℤ, pos, natAbs, _+ℤ_}
 use borrow.Author.Tests.{ne-eqb}
 use Rattle.finite.specs.Fold.{foldBelow, indicator, gather}
 use Rattle.finite.proofs.FoldLaws.{fold-ext, bool-cases}
-use Rattle.mesh.specs.Limits.{maxCoordinate}
+use Rattle.limits.specs.Limits.{maxCoordinate}
 use Rattle.mesh.specs.Fan.{anyAt, valence}
 use Rattle.patch.proofs.PointLaws.{bounds}
 use Rattle.patch.proofs.Related.{sum-at}

@@ -11,8 +11,8 @@ use lib.Seq.{getD-set-same, getD-set-other}
 use borrow.Author.Tests.{eqb-true, eqb-false, not-false}
 use Rattle.integer.proofs.Laws.{abs-+}
 use Rattle.finite.proofs.FoldLaws.{bool-cases}
-use Rattle.mesh.specs.Limits.{maxVertices, maxCoordinate, maxValence}
-use Rattle.mesh.specs.Corner.{turn, next, prev, across}
+use Rattle.limits.specs.Limits.{maxVertices, maxCoordinate, maxValence}
+use Rattle.corner.specs.Corner.{turn, next, prev, across}
 use Rattle.mesh.specs.HalfEdge.{boundary}
 use Rattle.mesh.specs.Fan.{onBoundary}
 use Rattle.mesh.specs.IndexedMesh.{IndexedMesh, corners, at, tag}

@@ -6,7 +6,7 @@ use native.Mathlib.Omega.{arith}
 use lib.IntN.{ℤ, pos, natAbs}
 use lib.ListN.{length, getD}
 use Rattle.finite.proofs.FilledLaws.{length-filled, filled-at}
-use Rattle.mesh.specs.Limits.{maxCoordinate}
+use Rattle.limits.specs.Limits.{maxCoordinate}
 use Rattle.mesh.specs.IndexedMesh.{IndexedMesh}
 use Rattle.mesh.specs.WellFormed.{WellFormed}
 use Rattle.patch.specs.Patch.{controlValue, view, patchNumber, patchesAfter}

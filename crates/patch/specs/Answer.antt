@@ -15,10 +15,10 @@ use lib.Dec.{ltb}
 use lib.IntN.{ℤ}
 use lib.ListN.{length}
 use Rattle.finite.specs.Table.{Row, row, Answer, writtenBy}
+use Rattle.limits.specs.declared.model.Mesh.{Mesh}
+use Rattle.limits.specs.declared.model.Checked.{Checked}
 use Rattle.mesh.specs.IndexedMesh.{IndexedMesh}
 use Rattle.mesh.specs.Answer.{checked, meshRefusal, meshAnswer, twinsAfter, twinsShort}
-use Rattle.mesh.specs.declared.model.Mesh.{Mesh}
-use Rattle.mesh.specs.declared.model.Checked.{Checked}
 use Rattle.patch.specs.Patch.{patchesAfter}
 
 abbrev pub patchesShort : IndexedMesh → List ℤ → Bool

@@ -10,7 +10,7 @@ use Prim.Native.Nat.{ℕ, _+_, _*_, _≤_, _<_}
 use lib.Dec.{eqb}
 use lib.IntN.{ℤ, pos, natAbs}
 use lib.ListN.{length, getD}
-use Rattle.mesh.specs.Limits.{maxCoordinate, noTwin}
+use Rattle.limits.specs.Limits.{maxCoordinate, noTwin}
 use Rattle.mesh.specs.HalfEdge.{twin}
 use Rattle.mesh.specs.Tables.{Corners, Holds, vertexOf, twinOf}
 use Rattle.patch.specs.Point.{Shape, View}

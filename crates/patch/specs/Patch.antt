@@ -18,7 +18,7 @@ use lib.IntN.{ℤ, pos, _*ℤ_}
 use lib.ListN.{getD}
 use Rattle.integer.specs.Nearest.{nearest}
 use Rattle.finite.specs.Filled.{filled}
-use Rattle.mesh.specs.Corner.{turn}
+use Rattle.corner.specs.Corner.{turn}
 use Rattle.mesh.specs.IndexedMesh.{IndexedMesh, corners, at, tag, coordinate}
 use Rattle.patch.specs.Mask.{Fraction}
 use Rattle.patch.specs.Point.{Shape, View, Kind, corner, along, before, inner, point}

@@ -13,7 +13,7 @@ use Prim.Native.Nat.{ℕ, _+_, _*_, _≤_, _<_}
 use lib.Dec.{eqb}
 use lib.IntN.{ℤ, pos}
 use lib.ListN.{length, getD}
-use Rattle.mesh.specs.Limits.{maxVertices, cornerTag}
+use Rattle.limits.specs.Limits.{maxVertices, cornerTag}
 use Rattle.mesh.specs.IndexedMesh.{IndexedMesh, corners}
 use Rattle.mesh.specs.Tables.{Holds}
 use Rattle.patch.specs.Mask.{Fraction, smoothCornerMask, boundaryCornerMask, vertexMask}

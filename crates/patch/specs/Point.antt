@@ -19,8 +19,8 @@ use Prim.Native.Nat.{ℕ, _*_}
 use lib.Dec.{eqb}
 use lib.IntN.{ℤ, pos, _+ℤ_, _*ℤ_}
 use Rattle.finite.specs.Fold.{gather}
-use Rattle.mesh.specs.Limits.{cornerTag}
-use Rattle.mesh.specs.Corner.{next, across, prev}
+use Rattle.limits.specs.Limits.{cornerTag}
+use Rattle.corner.specs.Corner.{next, across, prev}
 use Rattle.mesh.specs.HalfEdge.{twin, boundary}
 use Rattle.mesh.specs.Fan.{valence, onBoundary}
 use Rattle.patch.specs.Mask.{Fraction, innerMask, edgeMask, boundaryEdgeMask, smoothCornerMask, boundaryCornerMask, vertexMask}

@@ -6,8 +6,8 @@
 use mathlib.Core.Path.{_≡_}
 use Prim.Native.Nat.{ℕ, _*_, _≤_, _<_}
 use lib.IntN.{natAbs}
-use Rattle.mesh.specs.Limits.{maxCoordinate}
-use Rattle.mesh.specs.Corner.{next, across, prev}
+use Rattle.limits.specs.Limits.{maxCoordinate}
+use Rattle.corner.specs.Corner.{next, across, prev}
 use Rattle.patch.specs.Mask.{Fraction}
 use Rattle.patch.specs.Point.{View, x}
 use Rattle.patch.specs.declared.fraction.Fraction as code

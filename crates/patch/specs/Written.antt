@@ -8,7 +8,7 @@ use mathlib.Core.List.{List}
 use Prim.Native.Nat.{ℕ, _+_, _*_, _/_, _%_, _<_}
 use lib.IntN.{ℤ, pos}
 use lib.ListN.{length, getD}
-use Rattle.mesh.specs.Corner.{turn}
+use Rattle.corner.specs.Corner.{turn}
 use Rattle.mesh.specs.Tables.{vertexOf}
 use Rattle.patch.specs.Point.{Kind, corner, along, before, inner, innerPoint, alongPoint, beforePoint}
 use Rattle.patch.specs.Patch.{owner, kind, units}

@@ -1,12 +1,12 @@
 // The corner point of a vertex, of one coordinate: the three masks.
 use crate::fraction::Fraction;
-use mesh::model::Mesh;
+use limits::model::Mesh;
 ghost use mathlib.Core.Path.{_≡_};
 ghost use mathlib.Core.Bool.{false, _||_};
 ghost use Prim.Native.Nat.{_*_, _≤_, _<_};
 ghost use lib.Dec.{eqb};
 ghost use lib.IntN.{natAbs};
-ghost use Rattle.mesh.specs.Limits.{maxCoordinate, maxValence, cornerTag};
+ghost use Rattle.limits.specs.Limits.{maxCoordinate, maxValence, cornerTag};
 ghost use Rattle.patch.specs.Mask.{smoothCornerMask, boundaryCornerMask, vertexMask};
 ghost use Rattle.patch.specs.Values.{Made};
 ghost use Rattle.patch.specs.PatchTables.{cornerFrom};

@@ -7,7 +7,7 @@ ghost use Prim.Native.Nat.{_+_, _*_, _≤_, _<_};
 ghost use lib.ListN.{length, getD, set};
 ghost use Rattle.finite.specs.Fold.{indicator};
 ghost use Rattle.finite.specs.Filled.{filled};
-ghost use Rattle.mesh.specs.Limits.{maxVertices, maxFaces};
+ghost use Rattle.limits.specs.Limits.{maxVertices, maxFaces};
 ghost use Rattle.mesh.specs.Tables.{Holds, Indices};
 ghost use Rattle.patch.specs.Point.{weight};
 ghost use Rattle.patch.specs.Lists.{shapeOf, Twins};

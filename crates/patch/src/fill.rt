@@ -1,7 +1,7 @@
 // The patches of an accepted mesh: the tables, then each patch into its own stretch of the list.
 use crate::tables::fill_tables;
 use crate::writer::write_patch;
-use mesh::model::Mesh;
+use limits::model::Mesh;
 ghost use mathlib.Core.Path.{_≡_};
 ghost use Prim.Native.Nat.{_*_, _≤_};
 ghost use lib.ListN.{length};

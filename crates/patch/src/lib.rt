@@ -11,7 +11,7 @@ mod values;
 mod writer;
 
 use crate::fill::fill_patches;
-use mesh::model::Checked;
+use limits::model::Checked;
 ghost use mathlib.Core.Path.{_≡_};
 ghost use mathlib.Core.Bool.{cond};
 ghost use Prim.Native.Nat.{_*_};

@@ -3,7 +3,7 @@ use crate::fraction::Fraction;
 use crate::values::FaceValues;
 ghost use Prim.Native.Nat.{_≤_};
 ghost use lib.IntN.{natAbs};
-ghost use Rattle.mesh.specs.Limits.{maxCoordinate};
+ghost use Rattle.limits.specs.Limits.{maxCoordinate};
 ghost use Rattle.patch.specs.Mask.{innerMask, edgeMask, boundaryEdgeMask};
 ghost use Rattle.patch.specs.Values.{Small, Made};
 

@@ -9,7 +9,7 @@ ghost use mathlib.Core.Bool.{cond};
 ghost use Prim.Native.Nat.{_+_, _*_, _≤_, _<_};
 ghost use lib.IntN.{pos, natAbs, _+ℤ_, _*ℤ_};
 ghost use lib.ListN.{length, getD, set};
-ghost use Rattle.mesh.specs.Limits.{maxVertices, maxCoordinate};
+ghost use Rattle.limits.specs.Limits.{maxVertices, maxCoordinate};
 ghost use Rattle.mesh.specs.Tables.{Holds, Indices};
 ghost use Rattle.patch.specs.Point.{sharpTerm, ringTerm};
 ghost use Rattle.patch.specs.Lists.{seen, Coordinates, Twins};

@@ -1,10 +1,10 @@
 // What is read from the lists of a mesh: corners of a face, coordinates, and which half-edges are sharp.
-use mesh::model::Mesh;
+use limits::model::Mesh;
 ghost use mathlib.Core.Path.{_≡_};
 ghost use Prim.Native.Nat.{_+_, _*_, _<_};
 ghost use lib.IntN.{pos};
 ghost use lib.ListN.{length, getD};
-ghost use Rattle.mesh.specs.Corner.{turn};
+ghost use Rattle.corner.specs.Corner.{turn};
 ghost use Rattle.mesh.specs.Tables.{vertexOf};
 ghost use Rattle.patch.specs.Lists.{seen, Coordinates, boundaryIn, sharpIn};
 ghost use Rattle.patch.specs.Values.{SeenFrom};

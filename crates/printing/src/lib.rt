@@ -4,7 +4,7 @@ pub mod model;
 
 use crate::model::Printing;
 use libc::STDOUT_FILENO;
-use mesh::model::Mesh;
+use limits::model::Mesh;
 use meshfile::model::Header;
 use meshfile::model::Opened;
 ghost use Rattle.meshfile.specs.Answer.{FileOpened};

@@ -17,6 +17,7 @@ use Rattle.finite.proofs.FilledLaws.{listBelow-at}
 use Rattle.finite.proofs.IntegerSum.{sum-size}
 use Rattle.sample.specs.Bernstein.{bernstein, numerator, rounded}
 use Rattle.sample.specs.Refusal.{maxControl}
+use Rattle.sample.specs.declared.model.Point.{Point}
 use Rattle.sample.specs.Blend.{controlOf, Small, Steps, Light, Fine, Mean, blended, blendedTwice}
 use Rattle.sample.proofs.BernsteinLaws.{bernstein-small, sixth-small}
 use Rattle.sample.proofs.SampleLaws.{numerator-rows, rounded-nearest, numerator-bound}
@@ -97,3 +98,7 @@ module _ (n a b : ℕ) (g : ℕ → ℤ) {u v : List ℕ} {d : ℕ} (e : u ≡ l
       let p : 0 < n ^ 6 = one-le-pow 6 n some in
       ap₂ nearest blended-numerator h
       ∙ nearest-unique (numerator n a b g) (n ^ 6) _ _ p (nearest-meets (numerator n a b g) (n ^ 6) p) (rounded-nearest n a b g some)
+
+-- a point is its three coordinates
+pub same-point : {x y z x' y' z' : ℤ} → x ≡ x' → y ≡ y' → z ≡ z' → _≡_ {A = Point} (record { x = x; y = y; z = z }) (record { x = x'; y = y'; z = z' })
+same-point e f g = cc

@@ -8,8 +8,8 @@ use native.Mathlib.Omega.{arith}
 use lib.IntN.{ℤ}
 use Rattle.finite.specs.Filled.{listBelow}
 use Rattle.finite.proofs.FilledLaws.{agree}
+use Rattle.corner.specs.Corner.{turn, next}
 use Rattle.mesh.proofs.CornerLaws.{turn-none, turn-next, turn-mod}
-use Rattle.mesh.specs.Corner.{turn, next}
 use Rattle.sample.specs.Bernstein.{rounded}
 use Rattle.sample.proofs.SampleLaws.{rounded-ext, rounded-turn}
 use Rattle.patch.specs.Point.{View, Kind, point}

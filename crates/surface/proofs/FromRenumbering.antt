@@ -8,7 +8,7 @@ use Prim.Native.Nat.{ℕ, _+_, _-_, _*_, _/_, _%_, _<_}
 use native.Mathlib.Omega.{arith}
 use lib.IntN.{natAbs}
 use Rattle.finite.specs.Permutation.{Permutation}
-use Rattle.mesh.specs.Corner.{turn, next}
+use Rattle.corner.specs.Corner.{turn, next}
 use Rattle.mesh.specs.IndexedMesh.{IndexedMesh, corners, at}
 use Rattle.symmetry.proofs.Sense.{same}
 use Rattle.symmetry.proofs.WellFormedMoves.{Alike}

@@ -5,8 +5,8 @@ use Prim.Native.Nat.{ℕ, zero, suc, _-_, _*_, _/_, _%_, _≤_, _<_}
 use native.Mathlib.Nat.{mod-lt}
 use native.Mathlib.Omega.{arith}
 use borrow.Author.Tests.{ne-eqb}
-use Rattle.mesh.specs.Limits.{noTwin}
-use Rattle.mesh.specs.Corner.{next}
+use Rattle.limits.specs.Limits.{noTwin}
+use Rattle.corner.specs.Corner.{next}
 use Rattle.mesh.specs.HalfEdge.{twin, boundary, Simple}
 use Rattle.mesh.proofs.CornerLaws.{prev-next, not-none, turn-none, turn-first}
 use Rattle.mesh.proofs.TwinLaws.{twin-ends, twin-twin}

@@ -1,5 +1,5 @@
 // What the witness is asked for and what it hands back.
-use mesh::model::Checked;
+use limits::model::Checked;
 use sample::model::Sampled;
 
 // A place of a face, as the sample call is given it.

@@ -6,7 +6,7 @@ use Prim.Native.Nat.{ℕ, zero, suc, _+_, _-_, _<_}
 use native.Mathlib.Nat.{suc-add, not-suc-le-zero}
 use native.Mathlib.Omega.{arith}
 use Rattle.finite.proofs.AnyAll.{same-test}
-use Rattle.mesh.specs.Limits.{noTwin}
+use Rattle.limits.specs.Limits.{noTwin}
 use Rattle.mesh.specs.HalfEdge.{twin, Simple}
 use Rattle.mesh.specs.Fan.{valence, iterate, fanBy, fan}
 use Rattle.mesh.proofs.CirculationLaws.{Turning, Keeps, iterate-in}

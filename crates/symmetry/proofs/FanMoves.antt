@@ -9,7 +9,7 @@ use Prim.Native.Nat.{ℕ, zero, suc, _<_}
 use native.Mathlib.Omega.{arith}
 use Rattle.finite.proofs.FoldLaws.{fold-ext}
 use Rattle.finite.proofs.AnyAll.{any-monoid, all-monoid}
-use Rattle.mesh.specs.Limits.{noTwin}
+use Rattle.limits.specs.Limits.{noTwin}
 use Rattle.mesh.specs.HalfEdge.{twin}
 use Rattle.mesh.specs.Fan.{valence, around, iterate, fanBy, fan}
 use Rattle.mesh.proofs.CornerLaws.{not-none}

@@ -11,8 +11,8 @@ use lib.Dec.{eqb}
 use borrow.Author.Tests.{ne-eqb}
 use Rattle.finite.specs.Permutation.{Permutation}
 use Rattle.finite.proofs.PermutationLaws.{to-injective, to-same}
-use Rattle.mesh.specs.Limits.{noTwin}
-use Rattle.mesh.specs.Corner.{turn, next, across, prev}
+use Rattle.limits.specs.Limits.{noTwin}
+use Rattle.corner.specs.Corner.{turn, next, across, prev}
 use Rattle.mesh.specs.HalfEdge.{twin, boundary, Simple}
 use Rattle.mesh.proofs.CornerLaws.{not-none, turn-none, turn-suc}
 use Rattle.mesh.proofs.TwinLaws.{twin-cases, twin-is}

@@ -11,7 +11,7 @@
 use mathlib.Core.Path.{_≡_, refl, sym}
 use Prim.Native.Nat.{ℕ, suc, _*_, _<_}
 use native.Mathlib.Omega.{arith}
-use Rattle.mesh.specs.Corner.{turn, next, prev}
+use Rattle.corner.specs.Corner.{turn, next, prev}
 use Rattle.mesh.specs.HalfEdge.{Simple}
 use Rattle.mesh.proofs.CornerLaws.{turn-below, next-below, prev-below, next-prev, prev-next, turn-none, turn-suc}
 use Rattle.mesh.specs.Tables.{Corners}

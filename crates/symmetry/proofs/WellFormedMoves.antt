@@ -11,8 +11,8 @@ use Rattle.finite.specs.Fold.{indicator}
 use Rattle.finite.proofs.FoldLaws.{fold-ext, fold-reindex}
 use Rattle.finite.proofs.Counting.{sum-monoid}
 use Rattle.finite.proofs.PermutationLaws.{to-every}
-use Rattle.mesh.specs.Limits.{maxCoordinate, minValence, maxValence, minBoundaryFaces, maxBoundaryFaces, cornerTag}
-use Rattle.mesh.specs.Corner.{turn}
+use Rattle.limits.specs.Limits.{maxCoordinate, minValence, maxValence, minBoundaryFaces, maxBoundaryFaces, cornerTag}
+use Rattle.corner.specs.Corner.{turn}
 use Rattle.mesh.specs.HalfEdge.{boundary, edges, boundaries}
 use Rattle.mesh.specs.Fan.{valence, onBoundary, fan}
 use Rattle.mesh.specs.IndexedMesh.{IndexedMesh, indexed, corners, at, tag, coordinate}

@@ -17,7 +17,7 @@ use crate::sums::Sums;
 use crate::sums::of_list;
 use crate::sums::print_sums;
 use crate::sums::with_sample;
-use mesh::model::Checked;
+use limits::model::Checked;
 ghost use Prim.Native.Nat.{_≤_, _<_, _^_};
 
 // The places of the list of patches: three more than the largest mesh takes up.

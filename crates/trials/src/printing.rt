@@ -1,6 +1,6 @@
 // The parts of a trial's line, on standard output.
 use libc::STDOUT_FILENO;
-use mesh::model::Checked;
+use limits::model::Checked;
 use sample::model::Reading;
 use sample::model::Sampled;
 

@@ -8,7 +8,7 @@ use lib.Dec.{leb}
 use lib.ListN.{length, take, drop, length-drop}
 use lib.Seq.{length-take-le}
 use borrow.Author.Tests.{leb-true}
-use Rattle.mesh.specs.Answer.{faceCorners}
+use Rattle.corner.specs.Corner.{faceCorners}
 use Rattle.capi.specs.Answer.{firstCorner}
 use Rattle.capi.proofs.rusketja_face_corners.Statement.{statement}
 use Rattle.capi.proofs.rusketja_face_corners.Tie as tie

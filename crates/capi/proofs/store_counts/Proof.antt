@@ -4,8 +4,8 @@ use mathlib.Core.List.{List, [], _∷_}
 use Prim.Native.Nat.{ℕ}
 use borrow.Author.Needs.{needs}
 use Rattle.finite.specs.Table.{Answer}
+use Rattle.limits.specs.declared.model.Mesh.{Mesh}
 use Rattle.mesh.specs.Answer.{checked}
-use Rattle.mesh.specs.declared.model.Mesh.{Mesh}
 use Rattle.capi.specs.Answer.{code, counted}
 use Rattle.capi.proofs.store_counts.Statement.{statement}
 use Rattle.capi.proofs.store_counts.Tie as tie

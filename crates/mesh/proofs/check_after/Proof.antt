@@ -15,9 +15,9 @@ use borrow.Author.Needs.{needs}
 use Rattle.finite.specs.Table.{Row, firstMet, refusalOf}
 use Rattle.finite.proofs.FilledLaws.{filled-at, filled-again}
 use Rattle.finite.proofs.TableLaws.{none-met, refusal-some}
-use Rattle.mesh.specs.declared.model.Checked.the-variants.{Accepted}
-use Rattle.mesh.specs.declared.model.Mesh.{Mesh}
-use Rattle.mesh.specs.Limits.{maxVertices}
+use Rattle.limits.specs.declared.model.Checked.the-variants.{Accepted}
+use Rattle.limits.specs.declared.model.Mesh.{Mesh}
+use Rattle.limits.specs.Limits.{maxVertices}
 use Rattle.mesh.specs.HalfEdge.{twin}
 use Rattle.mesh.specs.IndexedMesh.{IndexedMesh, indexed, corners, at}
 use Rattle.mesh.specs.Refusal.{earlyRows, lateRows}

@@ -11,7 +11,7 @@ use borrow.Author.Tests.{le-ltb}
 use borrow.Author.Needs.{needs}
 use Rattle.finite.specs.Table.{firstMet, answerBy}
 use Rattle.finite.proofs.TableLaws.{skipped}
-use Rattle.mesh.specs.Limits.{maxFaces}
+use Rattle.limits.specs.Limits.{maxFaces}
 use Rattle.mesh.specs.IndexedMesh.{IndexedMesh, indexed, corners}
 use Rattle.mesh.specs.Refusal.{meshSizesOff}
 use Rattle.mesh.specs.Answer.{countsOf, given, lentRows}

@@ -11,7 +11,7 @@ use borrow.Author.Needs.{needs}
 use Rattle.finite.specs.Filled.{filled}
 use Rattle.finite.specs.Table.{firstMet, refusalOf}
 use Rattle.finite.proofs.TableLaws.{refusal-some}
-use Rattle.mesh.specs.Limits.{maxVertices, maxFaces}
+use Rattle.limits.specs.Limits.{maxVertices, maxFaces}
 use Rattle.meshfile.specs.declared.model.Header.{Header}
 use Rattle.meshfile.specs.Bytes.{le16}
 use Rattle.meshfile.specs.File.{vertices, faces, positionAt, fileRows}

@@ -7,7 +7,7 @@ use native.Mathlib.Omega.{arith}
 use lib.IntN.{ℤ, pos}
 use lib.ListN.{length, replicate, length-replicate}
 use borrow.Author.Needs.{needs}
-use Rattle.mesh.specs.Limits.{maxVertices, maxFaces}
+use Rattle.limits.specs.Limits.{maxVertices, maxFaces}
 use Rattle.meshfile.specs.File.{vertices, faces, steps, positionAt, tagAt, indexAt}
 use Rattle.meshfile.specs.declared.model.Header.{Header}
 use Rattle.meshfile.specs.Answer.{decoded}

@@ -1,12 +1,11 @@
 -- `sample_lines` meets its contract: the lines up to the next place are stored, and the loop stops where no face is left or the next line might have
 -- no room.
-use mathlib.Core.Path.{_≡_, sym, ap, _∙_}
-use Prim.Native.Nat.{ℕ, suc, _+_, _*_, _-_, _≤_, _<_}
+use Prim.Native.Nat.{_+_, _*_, _-_, _≤_}
 use native.Mathlib.Omega.{arith}
 use lib.ListN.{length, length-take, length-drop}
 use borrow.Author.Needs.{needs}
 use borrow.Author.Tests.{leb-true, leb-false}
-use Rattle.mesh.specs.Limits.{maxFaces}
+use Rattle.limits.specs.Limits.{maxFaces}
 use Rattle.sample.specs.Refusal.{maxSteps}
 use Rattle.text.specs.Text.{linePlaces}
 use Rattle.text.proofs.TextLaws.{printed-within}

@@ -7,7 +7,7 @@ use lib.ListN.{length}
 use borrow.Author.Needs.{needs}
 use Rattle.finite.proofs.FilledLaws.{filled-start, filled-more, filled-all}
 use Rattle.finite.specs.Filled.{filled}
-use Rattle.mesh.specs.Limits.{noTwin}
+use Rattle.limits.specs.Limits.{noTwin}
 use Rattle.mesh.proofs.chain.clear_twins.Statement.{statement}
 use Rattle.mesh.proofs.chain.clear_twins.Tie as tie
 

@@ -7,7 +7,7 @@ use native.Mathlib.Nat.{lt-of-lt-of-le}
 use native.Mathlib.Omega.{arith}
 use lib.Dec.{eqb}
 use lib.ListN.{length, getD}
-use Rattle.mesh.specs.Corner.{next}
+use Rattle.corner.specs.Corner.{next}
 use Rattle.mesh.proofs.ChainLaws.{latest-le, Walked, walked-start, walked-found, walked-none, walked-more}
 use Rattle.mesh.proofs.SizeLaws.{indices-corners}
 use Rattle.mesh.proofs.CornerLaws.{next-below}

@@ -11,8 +11,8 @@ use lib.ListN.{length, getD, length-set}
 use borrow.Author.Needs.{needs}
 use Rattle.finite.specs.Fold.{anyBelow}
 use Rattle.finite.proofs.AnyAll.{any-start, any-more, any-found, any-not}
-use Rattle.mesh.specs.Limits.{maxVertices}
-use Rattle.mesh.specs.Corner.{next}
+use Rattle.limits.specs.Limits.{maxVertices}
+use Rattle.corner.specs.Corner.{next}
 use Rattle.mesh.specs.HalfEdge.{runs}
 use Rattle.mesh.proofs.ChainLaws.{chained-start, chained-more, doubled-earlier}
 use Rattle.mesh.proofs.chain.link_corners.Statement.{statement}

@@ -5,7 +5,7 @@ use Prim.Native.Nat.{ℕ}
 use native.Mathlib.Omega.{arith}
 use native.Mathlib.Nat.{le-of-lt}
 use lib.Dec.{eqb}
-use Rattle.mesh.specs.Corner.{next}
+use Rattle.corner.specs.Corner.{next}
 use Rattle.mesh.specs.HalfEdge.{runs}
 use Rattle.mesh.proofs.ChainLaws.{latest-any}
 use Rattle.mesh.proofs.chain.occurs_before.Statement.{statement}

@@ -5,8 +5,8 @@ use mathlib.Core.Bool.{Bool}
 use Prim.Native.Nat.{ℕ, _<_}
 use native.Mathlib.Nat.{le-refl}
 use native.Mathlib.Omega.{arith}
-use Rattle.mesh.specs.Limits.{maxVertices}
-use Rattle.mesh.specs.Corner.{next}
+use Rattle.limits.specs.Limits.{maxVertices}
+use Rattle.corner.specs.Corner.{next}
 use Rattle.mesh.specs.HalfEdge.{runs}
 use Rattle.mesh.proofs.ChainLaws.{twin-none, twin-found}
 use Rattle.mesh.proofs.SizeLaws.{indices-corners}

@@ -13,7 +13,7 @@ use mir.Val.{SFits}
 use borrow.Author.Needs.{needs}
 use Rattle.finite.specs.Fold.{anyBelow}
 use Rattle.finite.proofs.AnyAll.{any-start, any-more, any-found, any-not}
-use Rattle.mesh.specs.Limits.{maxCoordinate}
+use Rattle.limits.specs.Limits.{maxCoordinate}
 use Rattle.mesh.proofs.entries.any_coordinate_off.Statement.{statement}
 use Rattle.mesh.proofs.entries.any_coordinate_off.Tie as tie
 
@@ -24,7 +24,7 @@ abbrev μ-loop : tie.MeasureT-loop
 μ-loop positions count i₀ i = count - i
 
 -- ---- the coordinate at i is read and tested
-module _ (c : tie.After-beyond Inv-loop μ-loop) where
+module _ (c : tie.After-coordinate-off Inv-loop μ-loop) where
   abbrev passing : tie.In-loop Inv-loop μ-loop
   passing = c .before .before
 
@@ -32,24 +32,24 @@ module _ (c : tie.After-beyond Inv-loop μ-loop) where
   x = let l : tie.At-loop Inv-loop μ-loop = passing .before in getD (l .before .args .positions .now) (l .loop .i) (pos 0)
 
   x-fits : SFits w32 x
-  x-fits = record { sfits = c .before .beyond-arg .given }
+  x-fits = record { sfits = c .before .coordinate-off-arg .given }
 
-  told : c .beyond .result ≡ ltb maxCoordinate (natAbs x)
-  told = c .beyond .ensures ∙ ap (λ (z : ℤ). ltb maxCoordinate (natAbs z)) (toZ-ofZ x-fits)
+  told : c .coordinate-off .result ≡ ltb maxCoordinate (natAbs x)
+  told = c .coordinate-off .ensures ∙ ap (λ (z : ℤ). ltb maxCoordinate (natAbs z)) (toZ-ofZ x-fits)
 
 -- ---- the answers, in the order of the code
 loop-holds : tie.Need-loop-holds Inv-loop μ-loop
 loop-holds c = search (any-start, needs)
 
-mul-beyond : tie.Need-mul-beyond Inv-loop μ-loop
-mul-beyond c = omega arith
+mul-coordinate-off : tie.Need-mul-coordinate-off Inv-loop μ-loop
+mul-coordinate-off c = omega arith
 
-shared-slice-copy-out-beyond :
-    tie.Need-shared-slice-copy-out-beyond Inv-loop μ-loop
-shared-slice-copy-out-beyond c = omega arith
+shared-slice-copy-out-coordinate-off :
+    tie.Need-shared-slice-copy-out-coordinate-off Inv-loop μ-loop
+shared-slice-copy-out-coordinate-off c = omega arith
 
-beyond-requires : tie.Need-beyond-requires Inv-loop μ-loop
-beyond-requires c κs = tt
+coordinate-off-requires : tie.Need-coordinate-off-requires Inv-loop μ-loop
+coordinate-off-requires c κs = tt
 
 returns : tie.Need-returns Inv-loop μ-loop
 returns c = let t = c .before in any-found _ _ _ _ (passing t .loop-test .taken) (told t) (c .if1 .taken)
@@ -76,9 +76,9 @@ any-coordinate-off-spec =
     Inv-loop
     μ-loop
     loop-holds
-    mul-beyond
-    shared-slice-copy-out-beyond
-    beyond-requires
+    mul-coordinate-off
+    shared-slice-copy-out-coordinate-off
+    coordinate-off-requires
     returns
     add-i
     loop-less

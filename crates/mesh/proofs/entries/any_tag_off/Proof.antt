@@ -10,7 +10,7 @@ use borrow.Author.Needs.{needs}
 use borrow.Author.Tests.{lt-ltb, le-ltb}
 use Rattle.finite.specs.Fold.{anyBelow}
 use Rattle.finite.proofs.AnyAll.{any-start, any-more, any-found, any-not}
-use Rattle.mesh.specs.Limits.{cornerTag}
+use Rattle.limits.specs.Limits.{cornerTag}
 use Rattle.mesh.proofs.entries.any_tag_off.Statement.{statement}
 use Rattle.mesh.proofs.entries.any_tag_off.Tie as tie
 

@@ -8,7 +8,7 @@ use lib.Dec.{eqb}
 use borrow.Author.Needs.{needs}
 use Rattle.finite.specs.Fold.{anyBelow}
 use Rattle.finite.proofs.AnyAll.{any-start, any-more, any-found, any-not}
-use Rattle.mesh.specs.Corner.{turn}
+use Rattle.corner.specs.Corner.{turn}
 use Rattle.mesh.proofs.entries.any_vertex_twice.Statement.{statement}
 use Rattle.mesh.proofs.entries.any_vertex_twice.Tie as tie
 use Rattle.mesh.specs.Tables.{vertexOf}

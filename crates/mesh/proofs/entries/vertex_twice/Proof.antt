@@ -7,11 +7,11 @@ use native.Mathlib.Omega.{arith}
 use lib.Dec.{eqb}
 use borrow.Author.Tests.{eq-eqb, ne-eqb}
 use Rattle.finite.proofs.AnyAll.{any-found, or-no}
+use Rattle.corner.specs.Corner.{turn, next, across}
 use Rattle.mesh.proofs.SizeLaws.{indices-corners, any-of-three}
 use Rattle.mesh.proofs.CornerLaws.{prev-below}
 use Rattle.mesh.proofs.entries.vertex_twice.Statement.{statement}
 use Rattle.mesh.proofs.entries.vertex_twice.Tie as tie
-use Rattle.mesh.specs.Corner.{turn, next, across}
 use Rattle.mesh.specs.Tables.{vertexOf}
 
 -- ---- at the entry: the vertices of the corners, and whether the corner i + 1 further has the vertex of c

@@ -5,7 +5,7 @@ use Prim.Native.Nat.{ℕ, _<_}
 use native.Mathlib.Omega.{arith}
 use lib.Dec.{eqb}
 use lib.ListN.{getD}
-use Rattle.mesh.specs.Limits.{maxVertices}
+use Rattle.limits.specs.Limits.{maxVertices}
 use Rattle.mesh.specs.HalfEdge.{twin, Simple}
 use Rattle.mesh.proofs.FanLaws.{table-fan}
 use Rattle.mesh.proofs.TwinLaws.{twin-paired, paired-ext}

@@ -10,7 +10,7 @@ use lib.ListN.{getD-replicate}
 use borrow.Author.Needs.{needs}
 use Rattle.finite.specs.Table.{Row, row}
 use Rattle.finite.proofs.TableLaws.{From, all-rows, row-met, row-passed}
-use Rattle.mesh.specs.Limits.{maxVertices}
+use Rattle.limits.specs.Limits.{maxVertices}
 use Rattle.mesh.specs.HalfEdge.{twin}
 use Rattle.mesh.specs.Refusal.{vertexUnused, fanBroken, valenceOff, fanRows}
 use Rattle.mesh.proofs.PhaseLaws.{unused-table, valence-table}

@@ -11,7 +11,7 @@ use lib.ListN.{getD-replicate}
 use borrow.Author.Needs.{needs}
 use Rattle.finite.specs.Table.{Row, firstMet, refusalOf}
 use Rattle.finite.proofs.TableLaws.{met-here, skipped, some-append, none-append, refusal-some}
-use Rattle.mesh.specs.Limits.{maxVertices}
+use Rattle.limits.specs.Limits.{maxVertices}
 use Rattle.mesh.specs.IndexedMesh.{IndexedMesh, indexed}
 use Rattle.mesh.specs.Refusal.{innerTagged, fanRows, vertexRows}
 use Rattle.mesh.proofs.PhaseLaws.{tagged-table}

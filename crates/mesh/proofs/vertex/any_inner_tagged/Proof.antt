@@ -9,7 +9,7 @@ use lib.ListN.{getD}
 use borrow.Author.Needs.{needs}
 use Rattle.finite.specs.Fold.{anyBelow}
 use Rattle.finite.proofs.AnyAll.{any-start, any-more, any-found, any-not}
-use Rattle.mesh.specs.Limits.{cornerTag}
+use Rattle.limits.specs.Limits.{cornerTag}
 use Rattle.mesh.proofs.vertex.any_inner_tagged.Statement.{statement}
 use Rattle.mesh.proofs.vertex.any_inner_tagged.Tie as tie
 

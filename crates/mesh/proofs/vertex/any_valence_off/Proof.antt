@@ -8,7 +8,7 @@ use lib.ListN.{getD}
 use borrow.Author.Needs.{needs}
 use Rattle.finite.specs.Fold.{anyBelow}
 use Rattle.finite.proofs.AnyAll.{any-start, any-more, any-found, any-not}
-use Rattle.mesh.specs.Refusal.{valenceBad}
+use Rattle.limits.specs.Range.{valenceBad}
 use Rattle.mesh.proofs.vertex.any_valence_off.Statement.{statement}
 use Rattle.mesh.proofs.vertex.any_valence_off.Tie as tie
 

@@ -10,8 +10,8 @@ use borrow.Author.Needs.{needs}
 use Rattle.finite.proofs.Gather.{Gathered, gathered-none, gathered-more, gather-count}
 use Rattle.finite.proofs.Counting.{sum-monoid, count-le}
 use Rattle.finite.specs.Fold.{gather}
+use Rattle.limits.specs.Limits.{maxVertices}
 use Rattle.mesh.specs.Fan.{valence}
-use Rattle.mesh.specs.Limits.{maxVertices}
 use Rattle.mesh.proofs.vertex.count_corners.Statement.{statement}
 use Rattle.mesh.proofs.vertex.count_corners.Tie as tie
 use Rattle.mesh.specs.Tables.{vertexOf}

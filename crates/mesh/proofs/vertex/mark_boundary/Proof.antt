@@ -11,8 +11,8 @@ use borrow.Author.Needs.{needs}
 use Rattle.finite.proofs.Gather.{Gathered, gathered-none, gathered-more}
 use Rattle.finite.proofs.AnyAll.{any-monoid}
 use Rattle.finite.specs.Fold.{gather}
+use Rattle.limits.specs.Limits.{noTwin, maxVertices}
 use Rattle.mesh.specs.HalfEdge.{twin, boundary}
-use Rattle.mesh.specs.Limits.{noTwin, maxVertices}
 use Rattle.mesh.specs.Fan.{onBoundary}
 use Rattle.mesh.proofs.vertex.mark_boundary.Statement.{statement}
 use Rattle.mesh.proofs.vertex.mark_boundary.Tie as tie

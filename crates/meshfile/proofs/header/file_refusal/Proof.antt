@@ -4,9 +4,9 @@ use mathlib.Core.List.{List}
 use Prim.Native.Nat.{ℕ, _+_, _*_, _≤_}
 use native.Mathlib.Omega.{arith}
 use borrow.Author.Needs.{needs}
-use Rattle.mesh.specs.Limits.{minVertices, maxVertices, minFaces, maxFaces}
-use Rattle.mesh.specs.Refusal.{off}
-use Rattle.mesh.proofs.SizeLaws.{off-false}
+use Rattle.limits.specs.Limits.{minVertices, maxVertices, minFaces, maxFaces}
+use Rattle.limits.specs.Range.{off}
+use Rattle.limits.proofs.RangeLaws.{off-false}
 use Rattle.meshfile.specs.File.{vertices, faces}
 use Rattle.meshfile.proofs.FileLaws.{rows-header, rows-vertices, rows-faces, rows-length, rows-none}
 use Rattle.meshfile.proofs.header.file_refusal.Statement.{statement}

@@ -10,7 +10,7 @@ use lib.ListN.{replicate}
 use borrow.Author.Tests.{lt-ltb, le-ltb}
 use borrow.Author.Needs.{needs}
 use Rattle.finite.proofs.TableLaws.{result-none, refusal-met}
-use Rattle.mesh.specs.Limits.{maxFaces}
+use Rattle.limits.specs.Limits.{maxFaces}
 use Rattle.mesh.specs.IndexedMesh.{IndexedMesh, indexed}
 use Rattle.mesh.specs.Answer.{countsOf, checked, meshRefusal}
 use Rattle.patch.specs.Answer.{patchesShort, patchRows}

@@ -6,7 +6,7 @@ use mir.Syntax.{w64}
 use mir.Val.{SFits}
 use mir.Facts.{toZ-ofZ}
 use Rattle.integer.proofs.Laws.{abs-+, abs-*, sfits-abs}
-use Rattle.mesh.specs.Limits.{maxCoordinate}
+use Rattle.limits.specs.Limits.{maxCoordinate}
 use Rattle.patch.specs.Mask.{boundaryCornerMask}
 use Rattle.patch.proofs.MaskLaws.{made-of}
 use Rattle.patch.proofs.corner_point.boundary_corner.Statement.{statement}

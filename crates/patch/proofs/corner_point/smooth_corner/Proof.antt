@@ -9,7 +9,7 @@ use mir.Val.{SFits, toZ}
 use mir.Facts.{toZ-ofZ, toZ-pos}
 use borrow.Author.Needs.{needs}
 use Rattle.integer.proofs.Laws.{abs-+, abs-*-≤, sfits-abs}
-use Rattle.mesh.specs.Limits.{maxCoordinate, maxValence}
+use Rattle.limits.specs.Limits.{maxCoordinate, maxValence}
 use Rattle.patch.specs.Mask.{smoothCornerMask}
 use Rattle.patch.proofs.MaskLaws.{made-of}
 use Rattle.patch.proofs.corner_point.smooth_corner.Statement.{statement}

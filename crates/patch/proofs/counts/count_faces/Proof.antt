@@ -9,7 +9,7 @@ use lib.ListN.{length, getD}
 use Rattle.finite.specs.Fold.{indicator, gather}
 use Rattle.finite.proofs.Gather.{Gathered, gathered-none, gathered-more}
 use Rattle.finite.proofs.Counting.{sum-monoid, indicator-le}
-use Rattle.mesh.specs.Limits.{maxVertices}
+use Rattle.limits.specs.Limits.{maxVertices}
 use Rattle.mesh.specs.Fan.{valence, onBoundary}
 use Rattle.mesh.specs.Tables.{vertexOf}
 use Rattle.patch.specs.Lists.{boundaryIn}

@@ -6,7 +6,7 @@ use native.Mathlib.Omega.{arith}
 use lib.ListN.{length, length-set}
 use Rattle.finite.specs.Filled.{filled}
 use Rattle.finite.proofs.FilledLaws.{filled-start, filled-more, filled-all}
-use Rattle.mesh.specs.Limits.{maxVertices}
+use Rattle.limits.specs.Limits.{maxVertices}
 use Rattle.mesh.specs.Tables.{vertexOf}
 use Rattle.patch.specs.Point.{Shape, weight}
 use Rattle.patch.specs.Lists.{shapeOf}

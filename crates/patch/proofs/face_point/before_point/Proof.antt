@@ -3,7 +3,7 @@ use mathlib.Core.Path.{_≡_, sym, ap, ap₂, _∙_}
 use Prim.Native.Nat.{ℕ, _<_}
 use lib.ListN.{length}
 use borrow.Author.Needs.{needs}
-use Rattle.mesh.specs.Corner.{prev}
+use Rattle.corner.specs.Corner.{prev}
 use Rattle.mesh.proofs.CornerLaws.{prev-below}
 use Rattle.mesh.specs.Tables.{twinOf}
 use Rattle.patch.specs.Point.{View, sharp, edgePoint, beforePoint}

@@ -7,7 +7,7 @@ use lib.ListN.{length}
 use borrow.Author.Needs.{needs}
 use Rattle.finite.specs.Filled.{filled}
 use Rattle.finite.proofs.FilledLaws.{filled-start, filled-all, stretch-long, filled-stretch}
-use Rattle.mesh.specs.Limits.{maxVertices, maxFaces}
+use Rattle.limits.specs.Limits.{maxVertices, maxFaces}
 use Rattle.mesh.specs.IndexedMesh.{IndexedMesh, indexed}
 use Rattle.patch.specs.Patch.{patchNumber}
 use Rattle.patch.specs.PatchTables.{Tables}

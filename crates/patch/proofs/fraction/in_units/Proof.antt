@@ -10,7 +10,7 @@ use borrow.Author.Needs.{needs}
 use Rattle.integer.specs.Nearest.{nearest}
 use Rattle.integer.proofs.Laws.{abs-*, sfits-abs}
 use Rattle.integer.proofs.NearestLaws.{nearest-bounded}
-use Rattle.mesh.specs.Limits.{maxCoordinate}
+use Rattle.limits.specs.Limits.{maxCoordinate}
 use Rattle.patch.specs.Patch.{units}
 use Rattle.patch.specs.Values.{fractionOf}
 use Rattle.patch.proofs.fraction.in_units.Statement.{statement}

@@ -12,7 +12,7 @@ use Rattle.integer.proofs.Laws.{read-back}
 use Rattle.finite.specs.Fold.{gather}
 use Rattle.finite.proofs.Gather.{Gathered, gathered-none, gathered-more}
 use Rattle.finite.proofs.IntegerSum.{sumℤ-monoid}
-use Rattle.mesh.specs.Limits.{maxVertices, maxCoordinate}
+use Rattle.limits.specs.Limits.{maxVertices, maxCoordinate}
 use Rattle.mesh.specs.Tables.{vertexOf}
 use Rattle.patch.specs.Point.{View, ringTerm, sharpTerm, ringSum, sharpSum}
 use Rattle.patch.specs.Lists.{seen}

@@ -9,8 +9,8 @@ use mir.Syntax.{w64}
 use mir.Val.{toZ, ofZ}
 use borrow.Author.Needs.{needs}
 use Rattle.integer.proofs.Laws.{read-back}
-use Rattle.mesh.specs.Limits.{maxCoordinate}
-use Rattle.mesh.specs.Corner.{next, prev}
+use Rattle.limits.specs.Limits.{maxCoordinate}
+use Rattle.corner.specs.Corner.{next, prev}
 use Rattle.mesh.specs.HalfEdge.{boundary}
 use Rattle.mesh.proofs.CornerLaws.{next-below, prev-below}
 use Rattle.patch.specs.Point.{View, x, sharp}

@@ -11,7 +11,7 @@ use mir.Syntax.{w32, w64}
 use mir.Val.{toZ, ofZ}
 use borrow.Author.Needs.{needs}
 use Rattle.integer.proofs.Laws.{read-back}
-use Rattle.mesh.specs.Limits.{maxVertices}
+use Rattle.limits.specs.Limits.{maxVertices}
 use Rattle.mesh.specs.IndexedMesh.{IndexedMesh, indexed}
 use Rattle.mesh.specs.WellFormed.{WellFormed}
 use Rattle.patch.specs.Point.{View, faces, inside, sharpSum, ringSum, cornerPoint}

@@ -6,8 +6,8 @@ use lib.ListN.{length}
 use mir.Syntax.{w64}
 use borrow.Author.Needs.{needs}
 use Rattle.integer.proofs.Laws.{read-back}
-use Rattle.mesh.specs.Limits.{maxCoordinate}
-use Rattle.mesh.specs.Corner.{turn}
+use Rattle.limits.specs.Limits.{maxCoordinate}
+use Rattle.corner.specs.Corner.{turn}
 use Rattle.mesh.proofs.CornerLaws.{turn-below}
 use Rattle.mesh.specs.Tables.{vertexOf}
 use Rattle.patch.specs.Point.{View, x}

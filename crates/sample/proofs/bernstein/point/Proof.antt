@@ -11,7 +11,7 @@ use Rattle.integer.specs.Nearest.{nearest}
 use Rattle.integer.proofs.Laws.{read-back}
 use Rattle.sample.specs.Bernstein.{rounded}
 use Rattle.sample.specs.Blend.{controlOf, Small, Light, Mean, blendedTwice}
-use Rattle.sample.proofs.BlendLaws.{weights-light, sample-mean, blended-mean, rounded-blended}
+use Rattle.sample.proofs.BlendLaws.{weights-light, sample-mean, blended-mean, rounded-blended, same-point}
 use Rattle.sample.proofs.bernstein.point.Statement.{statement}
 use Rattle.sample.proofs.bernstein.point.Tie as tie
 
@@ -71,10 +71,10 @@ coordinate-requires-3 c κs = asked (c .before .before) 2 (omega arith)
 returns : tie.Need-returns
 returns c =
     let d = c .before .before .before in
-    let x = told d 0 (c .before .before .coordinate .ok) (c .before .before .coordinate .ensures) in
-    let y = told d 1 (c .before .coordinate2 .ok) (c .before .coordinate2 .ensures) in
-    let z = told d 2 (c .coordinate3 .ok) (c .coordinate3 .ensures) in
-    cc
+    same-point
+    (told d 0 (c .before .before .coordinate .ok) (c .before .before .coordinate .ensures))
+    (told d 1 (c .before .coordinate2 .ok) (c .before .coordinate2 .ensures))
+    (told d 2 (c .coordinate3 .ok) (c .coordinate3 .ensures))
 
 pub point-spec : {M : Type 1} → statement M
 point-spec =

@@ -2,8 +2,8 @@
 use borrow.Author.Needs.{needs}
 use borrow.Author.Tests.{lt-ltb, le-ltb}
 use Rattle.finite.proofs.AnyAll.{or-yes, or-no}
-use Rattle.mesh.proofs.entries.off_range.Statement.{statement}
-use Rattle.mesh.proofs.entries.off_range.Tie as tie
+use Rattle.limits.proofs.off_range.Statement.{statement}
+use Rattle.limits.proofs.off_range.Tie as tie
 
 returns : tie.Need-returns
 returns c = search (or-yes, or-no, lt-ltb, le-ltb, needs)

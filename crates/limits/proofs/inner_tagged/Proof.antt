@@ -2,8 +2,8 @@
 use mathlib.Core.Path.{refl}
 use borrow.Author.Tests.{eq-eqb, ne-eqb}
 use Rattle.finite.proofs.AnyAll.{and-yes, and-no}
-use Rattle.mesh.proofs.vertex.inner_tagged.Statement.{statement}
-use Rattle.mesh.proofs.vertex.inner_tagged.Tie as tie
+use Rattle.limits.proofs.inner_tagged.Statement.{statement}
+use Rattle.limits.proofs.inner_tagged.Tie as tie
 
 returns : tie.Need-returns
 returns c = and-yes _ _ _ (eq-eqb _ _ (c .if1 .taken)) refl

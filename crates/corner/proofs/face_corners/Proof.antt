@@ -1,8 +1,8 @@
 -- `face_corners` meets its contract: a whole face ends at or before the end of the list.
 use native.Mathlib.Omega.{arith}
-use Rattle.mesh.proofs.SizeLaws.{corners-some, corners-none}
-use Rattle.mesh.proofs.face_corners.Statement.{statement}
-use Rattle.mesh.proofs.face_corners.Tie as tie
+use Rattle.corner.proofs.FaceLaws.{corners-some, corners-none}
+use Rattle.corner.proofs.face_corners.Statement.{statement}
+use Rattle.corner.proofs.face_corners.Tie as tie
 
 mul-a : tie.Need-mul-a
 mul-a c = omega arith

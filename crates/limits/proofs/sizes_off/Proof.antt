@@ -5,11 +5,11 @@ use native.Mathlib.Omega.{arith}
 use borrow.Author.Tests.{eq-eqb, ne-eqb}
 use borrow.Author.Needs.{needs}
 use Rattle.finite.proofs.AnyAll.{or-yes, or-no, not-yes, not-no}
-use Rattle.mesh.specs.Limits.{minVertices, minFaces, maxFaces, maxVertices}
-use Rattle.mesh.specs.Refusal.{sizesOff}
-use Rattle.mesh.proofs.SizeLaws.{off-false, or-found, or-passed}
-use Rattle.mesh.proofs.entries.sizes_off.Statement.{statement}
-use Rattle.mesh.proofs.entries.sizes_off.Tie as tie
+use Rattle.limits.specs.Limits.{minVertices, minFaces, maxFaces, maxVertices}
+use Rattle.limits.specs.Range.{sizesOff}
+use Rattle.limits.proofs.RangeLaws.{off-false, or-found, or-passed}
+use Rattle.limits.proofs.sizes_off.Statement.{statement}
+use Rattle.limits.proofs.sizes_off.Tie as tie
 
 -- ---- past the ranges of V and of F: both are small
 few-vertices : (c : tie.Else1) → c .before .before .args .v ≤ maxVertices

@@ -1,10 +1,9 @@
 -- `valence_bad` meets its contract: it is the definition, by cases of the boundary.
 use mathlib.Core.Path.{sym, ap, _∙_}
 use mathlib.Core.Bool.{Bool}
-use Rattle.mesh.specs.Refusal.{valenceBad}
-use Rattle.mesh.specs.Fan.{valence}
-use Rattle.mesh.proofs.vertex.valence_bad.Statement.{statement}
-use Rattle.mesh.proofs.vertex.valence_bad.Tie as tie
+use Rattle.limits.specs.Range.{valenceBad}
+use Rattle.limits.proofs.valence_bad.Statement.{statement}
+use Rattle.limits.proofs.valence_bad.Tie as tie
 
 off-range-requires : tie.Need-off-range-requires
 off-range-requires c κs = tt

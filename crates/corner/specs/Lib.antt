@@ -1,0 +1,2 @@
+-- Corners by their numbers.
+pub mod Corner

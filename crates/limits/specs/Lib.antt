@@ -1,0 +1,3 @@
+-- The limits, and what is off them.
+pub mod Limits
+pub mod Range
