@@ -1,4 +1,2 @@
--- The laws of the file.
-pub mod ByteLaws
-pub mod FileLaws
+-- The laws of the file, opened.
 pub mod OpenLaws

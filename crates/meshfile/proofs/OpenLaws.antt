@@ -20,14 +20,15 @@ use Rattle.mesh.specs.Answer.{meshRefusal, twinsShort}
 use Rattle.mesh.proofs.AcceptedLaws.{sizes-none}
 use Rattle.mesh.proofs.PhaseLaws.{refusal-alike, refusal-split, refusal-own}
 use Rattle.patch.specs.Answer.{patchesShort, patchRows}
-use Rattle.meshfile.specs.File.{vertices, faces, steps, positionAt, tagAt, indexAt, meshOf, fileRows}
-use Rattle.meshfile.specs.declared.model.Header.{Header}
-use Rattle.meshfile.specs.declared.model.Decoded.{Decoded}
+use Rattle.decoding.specs.File.{vertices, faces, steps, positionAt, tagAt, indexAt, meshOf, fileRows}
+use Rattle.decoding.specs.declared.model.Header.{Header}
+use Rattle.decoding.specs.declared.model.Decoded.{Decoded}
 use Rattle.meshfile.specs.declared.model.Opened.{Opened}
 use Rattle.meshfile.specs.declared.model.Opened.the-variants.{Refused as OpenRefused}
-use Rattle.meshfile.specs.Answer.{headerOf, decoded, stepsOff, placesShort, decodeRefusal, FileDecoded, openRefusal, FileOpened}
+use Rattle.decoding.specs.Decoding.{headerOf, decoded, placesShort, decodeRefusal, FileDecoded}
+use Rattle.meshfile.specs.Answer.{stepsOff, openRefusal, FileOpened}
 use Rattle.meshfile.specs.Private.{tessellateRefusal, Tessellated}
-use Rattle.meshfile.proofs.FileLaws.{Whole, file-whole, decode-file, decode-read, take-filled}
+use Rattle.decoding.proofs.FileLaws.{Whole, file-whole, decode-file, decode-read, take-filled}
 
 -- the sizes of a mesh and of its lists are in order
 abbrev pub MeshSized : IndexedMesh → Type 0

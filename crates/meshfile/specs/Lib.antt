@@ -1,5 +1,3 @@
--- The file (rules F1 to F4).
-pub mod Bytes
-pub mod File
+-- The file, opened (rule F4).
 pub mod Answer
 pub mod Private

@@ -3,9 +3,9 @@
 pub mod model;
 
 use crate::model::Printing;
+use decoding::model::Header;
 use libc::STDOUT_FILENO;
 use limits::model::Mesh;
-use meshfile::model::Header;
 use meshfile::model::Opened;
 ghost use Rattle.meshfile.specs.Answer.{FileOpened};
 

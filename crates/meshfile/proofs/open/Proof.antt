@@ -8,10 +8,10 @@ use lib.IntN.{ℤ, pos}
 use lib.ListN.{length, replicate, length-replicate}
 use borrow.Author.Needs.{needs}
 use Rattle.limits.specs.Limits.{maxVertices, maxFaces}
-use Rattle.meshfile.specs.File.{vertices, faces, steps, positionAt, tagAt, indexAt}
-use Rattle.meshfile.specs.declared.model.Header.{Header}
-use Rattle.meshfile.specs.Answer.{decoded}
-use Rattle.meshfile.proofs.FileLaws.{Whole, file-whole}
+use Rattle.decoding.specs.File.{vertices, faces, steps, positionAt, tagAt, indexAt}
+use Rattle.decoding.specs.declared.model.Header.{Header}
+use Rattle.decoding.specs.Decoding.{decoded}
+use Rattle.decoding.proofs.FileLaws.{Whole, file-whole}
 use Rattle.meshfile.proofs.OpenLaws.{MeshSized, FileRead, file-read, file-turned-down, part-fits, mesh-is, whole-sized, open-mesh, open-refused}
 use Rattle.meshfile.proofs.open.Statement.{statement}
 use Rattle.meshfile.proofs.open.Tie as tie

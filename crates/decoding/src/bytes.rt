@@ -3,7 +3,7 @@ ghost use mathlib.Core.Path.{_≡_};
 ghost use Prim.Native.Nat.{_+_, _*_, _≤_, _<_};
 ghost use lib.ListN.{length, getD};
 ghost use Rattle.finite.specs.Filled.{filled};
-ghost use Rattle.meshfile.specs.Bytes.{le16, le32, signed32};
+ghost use Rattle.decoding.specs.Bytes.{le16, le32, signed32};
 
 // A byte as a wider number.
 fn wide(x: u8) -> u32

@@ -6,8 +6,8 @@ use lib.ListN.{length, getD}
 use borrow.Author.Needs.{needs}
 use Rattle.finite.specs.Filled.{filled}
 use Rattle.finite.proofs.FilledLaws.{filled-start, filled-more, filled-all}
-use Rattle.meshfile.proofs.bytes.fill_bytes.Statement.{statement}
-use Rattle.meshfile.proofs.bytes.fill_bytes.Tie as tie
+use Rattle.decoding.proofs.bytes.fill_bytes.Statement.{statement}
+use Rattle.decoding.proofs.bytes.fill_bytes.Tie as tie
 
 abbrev Inv-loop : tie.InvT-loop
 Inv-loop bytes from n copies₀ i₀ copies i = (i ≤ n) × (length copies ≡ length copies₀) × (copies ≡ filled (λ k. getD bytes (from + k) 0) i copies₀)

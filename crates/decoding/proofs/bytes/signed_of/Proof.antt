@@ -1,8 +1,8 @@
 -- `signed_of` meets its contract: below 2^31 it is the number, from there on -1 less what is missing to 2^32 - 1.
 use borrow.Author.Needs.{needs}
-use Rattle.meshfile.proofs.ByteLaws.{signed-low, high-fits, signed-high}
-use Rattle.meshfile.proofs.bytes.signed_of.Statement.{statement}
-use Rattle.meshfile.proofs.bytes.signed_of.Tie as tie
+use Rattle.decoding.proofs.ByteLaws.{signed-low, high-fits, signed-high}
+use Rattle.decoding.proofs.bytes.signed_of.Statement.{statement}
+use Rattle.decoding.proofs.bytes.signed_of.Tie as tie
 
 cast-result : tie.Need-cast-result
 cast-result c = search needs

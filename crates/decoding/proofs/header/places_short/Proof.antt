@@ -2,8 +2,8 @@
 use borrow.Author.Needs.{needs}
 use borrow.Author.Tests.{lt-ltb, le-ltb}
 use Rattle.finite.proofs.AnyAll.{or-yes, or-no}
-use Rattle.meshfile.proofs.header.places_short.Statement.{statement}
-use Rattle.meshfile.proofs.header.places_short.Tie as tie
+use Rattle.decoding.proofs.header.places_short.Statement.{statement}
+use Rattle.decoding.proofs.header.places_short.Tie as tie
 
 mul-if1 : tie.Need-mul-if1
 mul-if1 c = search needs

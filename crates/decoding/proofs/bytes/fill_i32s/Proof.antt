@@ -8,9 +8,9 @@ use borrow.Author.Needs.{needs}
 use Rattle.integer.proofs.Laws.{read-back}
 use Rattle.finite.specs.Filled.{filled}
 use Rattle.finite.proofs.FilledLaws.{filled-start, filled-more, filled-all}
-use Rattle.meshfile.specs.Bytes.{le32, signed32}
-use Rattle.meshfile.proofs.bytes.fill_i32s.Statement.{statement}
-use Rattle.meshfile.proofs.bytes.fill_i32s.Tie as tie
+use Rattle.decoding.specs.Bytes.{le32, signed32}
+use Rattle.decoding.proofs.bytes.fill_i32s.Statement.{statement}
+use Rattle.decoding.proofs.bytes.fill_i32s.Tie as tie
 
 abbrev Inv-loop : tie.InvT-loop
 Inv-loop bytes from n numbers₀ i₀ numbers i =

@@ -12,13 +12,13 @@ use Rattle.finite.specs.Filled.{filled}
 use Rattle.finite.specs.Table.{firstMet, refusalOf}
 use Rattle.finite.proofs.TableLaws.{refusal-some}
 use Rattle.limits.specs.Limits.{maxVertices, maxFaces}
-use Rattle.meshfile.specs.declared.model.Header.{Header}
-use Rattle.meshfile.specs.Bytes.{le16}
-use Rattle.meshfile.specs.File.{vertices, faces, positionAt, fileRows}
-use Rattle.meshfile.specs.Answer.{placesShort}
-use Rattle.meshfile.proofs.FileLaws.{Whole, file-whole, decode-file, decode-short, decode-read, places-long, file-refused, file-decoded}
-use Rattle.meshfile.proofs.decode.Statement.{statement}
-use Rattle.meshfile.proofs.decode.Tie as tie
+use Rattle.decoding.specs.declared.model.Header.{Header}
+use Rattle.decoding.specs.Bytes.{le16}
+use Rattle.decoding.specs.File.{vertices, faces, positionAt, fileRows}
+use Rattle.decoding.specs.Decoding.{placesShort}
+use Rattle.decoding.proofs.FileLaws.{Whole, file-whole, decode-file, decode-short, decode-read, places-long, file-refused, file-decoded}
+use Rattle.decoding.proofs.decode.Statement.{statement}
+use Rattle.decoding.proofs.decode.Tie as tie
 
 -- ---- the file's own refusals have passed
 module _ (c : tie.Else1) where

@@ -3,9 +3,9 @@ use mathlib.Core.Path.{ap, _∙_}
 use mir.Syntax.{w32}
 use borrow.Author.Needs.{needs}
 use Rattle.integer.proofs.Laws.{read-back}
-use Rattle.meshfile.specs.Bytes.{signed32}
-use Rattle.meshfile.proofs.bytes.i32_at.Statement.{statement}
-use Rattle.meshfile.proofs.bytes.i32_at.Tie as tie
+use Rattle.decoding.specs.Bytes.{signed32}
+use Rattle.decoding.proofs.bytes.i32_at.Statement.{statement}
+use Rattle.decoding.proofs.bytes.i32_at.Tie as tie
 
 u32-at-requires : tie.Need-u32-at-requires
 u32-at-requires c κs = search needs

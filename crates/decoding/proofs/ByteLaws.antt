@@ -9,7 +9,7 @@ use mir.Syntax.{w32}
 use mir.Val.{SFits, toZ, ofZ}
 use mir.Facts.{toZ-pos, toZ-ofZ}
 use borrow.Author.Tests.{lt-ltb, le-ltb}
-use Rattle.meshfile.specs.Bytes.{signed32}
+use Rattle.decoding.specs.Bytes.{signed32}
 
 pub signed-low : (n : ℕ) → n < 2 ^ 31 → toZ w32 n ≡ signed32 n
 signed-low n h = toZ-pos w32 h ∙ sym (ap (λ (b : Bool). cond b (pos n) (negsuc (2 ^ 32 - 1 - n))) (lt-ltb n (2 ^ 31) h))

@@ -10,7 +10,7 @@ ghost use lib.Dec.{ltb};
 ghost use lib.ListN.{length};
 ghost use Rattle.finite.specs.Table.{firstMet, refusalOf};
 ghost use Rattle.limits.specs.Limits.{maxVertices, maxFaces};
-ghost use Rattle.meshfile.specs.File.{vertices, faces, steps, fileRows};
+ghost use Rattle.decoding.specs.File.{vertices, faces, steps, fileRows};
 
 // The number of the file's own refusal: 15 for fewer bytes than the sizes have, 1 for the sizes, 15 for the length; 0 for none.
 pub(crate) fn file_refusal(bytes: &[u8]) -> u8

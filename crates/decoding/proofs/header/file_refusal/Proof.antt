@@ -7,10 +7,10 @@ use borrow.Author.Needs.{needs}
 use Rattle.limits.specs.Limits.{minVertices, maxVertices, minFaces, maxFaces}
 use Rattle.limits.specs.Range.{off}
 use Rattle.limits.proofs.RangeLaws.{off-false}
-use Rattle.meshfile.specs.File.{vertices, faces}
-use Rattle.meshfile.proofs.FileLaws.{rows-header, rows-vertices, rows-faces, rows-length, rows-none}
-use Rattle.meshfile.proofs.header.file_refusal.Statement.{statement}
-use Rattle.meshfile.proofs.header.file_refusal.Tie as tie
+use Rattle.decoding.specs.File.{vertices, faces}
+use Rattle.decoding.proofs.FileLaws.{rows-header, rows-vertices, rows-faces, rows-length, rows-none}
+use Rattle.decoding.proofs.header.file_refusal.Statement.{statement}
+use Rattle.decoding.proofs.header.file_refusal.Tie as tie
 
 -- the file
 abbrev file : tie.Else1 → List ℕ

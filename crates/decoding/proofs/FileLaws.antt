@@ -17,10 +17,10 @@ use Rattle.finite.proofs.FilledLaws.{length-listBelow}
 use Rattle.limits.specs.Limits.{minVertices, maxVertices, minFaces, maxFaces}
 use Rattle.limits.specs.Range.{off}
 use Rattle.limits.proofs.RangeLaws.{off-false}
-use Rattle.meshfile.specs.File.{vertices, faces, positionAt, tagAt, indexAt, headerShort, headerOff, lengthOff, fileRows}
-use Rattle.meshfile.specs.declared.model.Header.{Header}
-use Rattle.meshfile.specs.declared.model.Decoded.the-variants.{Read, Refused}
-use Rattle.meshfile.specs.Answer.{headerOf, placesShort, decodeRefusal, FileDecoded}
+use Rattle.decoding.specs.File.{vertices, faces, positionAt, tagAt, indexAt, headerShort, headerOff, lengthOff, fileRows}
+use Rattle.decoding.specs.declared.model.Header.{Header}
+use Rattle.decoding.specs.declared.model.Decoded.the-variants.{Read, Refused}
+use Rattle.decoding.specs.Decoding.{headerOf, placesShort, decodeRefusal, FileDecoded}
 
 -- ---- the first cause met, of those of the file
 module _ (b : List ℕ) where

@@ -16,7 +16,7 @@ use Rattle.finite.specs.Table.{Row, row}
 use Rattle.limits.specs.Limits.{minVertices, maxVertices, minFaces, maxFaces}
 use Rattle.limits.specs.Range.{off}
 use Rattle.mesh.specs.IndexedMesh.{IndexedMesh, indexed}
-use Rattle.meshfile.specs.Bytes.{le16, le32, signed32}
+use Rattle.decoding.specs.Bytes.{le16, le32, signed32}
 
 abbrev pub vertices : List ℕ → ℕ
 vertices b = le16 b 0

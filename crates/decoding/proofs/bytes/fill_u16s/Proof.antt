@@ -6,9 +6,9 @@ use lib.ListN.{length}
 use borrow.Author.Needs.{needs}
 use Rattle.finite.specs.Filled.{filled}
 use Rattle.finite.proofs.FilledLaws.{filled-start, filled-more, filled-all}
-use Rattle.meshfile.specs.Bytes.{le16}
-use Rattle.meshfile.proofs.bytes.fill_u16s.Statement.{statement}
-use Rattle.meshfile.proofs.bytes.fill_u16s.Tie as tie
+use Rattle.decoding.specs.Bytes.{le16}
+use Rattle.decoding.proofs.bytes.fill_u16s.Statement.{statement}
+use Rattle.decoding.proofs.bytes.fill_u16s.Tie as tie
 
 abbrev Inv-loop : tie.InvT-loop
 Inv-loop bytes from n numbers₀ i₀ numbers i = (i ≤ n) × (length numbers ≡ length numbers₀) × (numbers ≡ filled (λ k. le16 bytes (from + 2 * k)) i numbers₀)

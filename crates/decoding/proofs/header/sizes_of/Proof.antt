@@ -1,8 +1,8 @@
 -- `sizes_of` meets its contract: the three sizes stand one after the other.
 use mathlib.Core.Path.{refl}
 use borrow.Author.Needs.{needs}
-use Rattle.meshfile.proofs.header.sizes_of.Statement.{statement}
-use Rattle.meshfile.proofs.header.sizes_of.Tie as tie
+use Rattle.decoding.proofs.header.sizes_of.Statement.{statement}
+use Rattle.decoding.proofs.header.sizes_of.Tie as tie
 
 size-at-requires : tie.Need-size-at-requires
 size-at-requires c κs = search needs
