@@ -53,8 +53,25 @@ decimal-more n f h =
     more-digits 19 n h
     ∙ ap (λ (t : List ℕ). field t (48 + n % 10)) (sym (spare 18 19 (n / 10) (lit≤ tt) (tenth 19 n (lt-of-lt-of-le f (lit≤ tt)))))
 
-pub decimal-longer : (n : ℕ) → n < 2 ^ 64 → 10 ≤ n → length (decimal n) ≡ length (decimal (n / 10)) + 1
-decimal-longer n f h = ap length (decimal-more n f h) ∙ length-append (decimal (n / 10)) ((48 + n % 10) ∷ [])
+pub decimal-two : (n : ℕ) → n < 100 → 10 ≤ n → decimal n ≡ field ((48 + n / 10) ∷ []) (48 + n % 10)
+decimal-two n f h = decimal-more n (lt-of-lt-of-le f (lit≤ tt)) h ∙ ap (λ (t : List ℕ). field t (48 + n % 10)) (decimal-one (n / 10) (omega arith))
+
+pub decimal-hundred : (n : ℕ) → n < 2 ^ 64 → 100 ≤ n → decimal n ≡ field (field (decimal (n / 100)) (48 + n / 10 % 10)) (48 + n % 10)
+decimal-hundred n f h =
+    let tens : decimal (n / 10) ≡ field (decimal (n / 10 / 10)) (48 + n / 10 % 10) = decimal-more (n / 10) (omega (arith, f)) (omega arith) in
+    let hundreds : n / 10 / 10 ≡ n / 100 = omega arith in
+    decimal-more n f (omega arith)
+    ∙ ap (λ (t : List ℕ). field t (48 + n % 10)) (tens ∙ ap (λ (m : ℕ). field (decimal m) (48 + n / 10 % 10)) hundreds)
+
+pub decimal-longer : (n : ℕ) → n < 2 ^ 64 → 100 ≤ n → length (decimal n) ≡ length (decimal (n / 100)) + 2
+decimal-longer n f h =
+    let tens = field (decimal (n / 100)) (48 + n / 10 % 10) in
+    omega (
+      arith,
+      ap length (decimal-hundred n f h),
+      length-append tens ((48 + n % 10) ∷ []),
+      length-append (decimal (n / 100)) ((48 + n / 10 % 10) ∷ []),
+    )
 
 pub decimal-length : (n : ℕ) → length (decimal n) ≤ 20
 decimal-length n = digits-length 20 n

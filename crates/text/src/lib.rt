@@ -1,5 +1,5 @@
 //! The text of the printed lines, in ASCII.
-ghost use Prim.Native.Nat.{_+_, _≤_};
+ghost use Prim.Native.Nat.{_+_, _≤_, _<_};
 ghost use lib.ListN.{length};
 ghost use Rattle.text.specs.Text.{decimal, text, countsLine, sampleLine, refusalLine, Printed};
 ghost use Rattle.text.specs.Put.{Put, field, refused};
@@ -7,16 +7,32 @@ ghost use Rattle.text.specs.Put.{Put, field, refused};
 // The places that are enough for every line.
 pub const LINE_PLACES: usize = 128;
 
-// Stores the digits of n from a place on, and returns the place behind them.
-fn put_digits(n: usize, line: &mut [u8], at: usize) -> usize
-    requires { ⌜ at + length (decimal n) ≤ length (now line) ⌝ }
+// Stores the digits of an n below 100 from a place on, and returns the place behind them.
+fn put_short(n: usize, line: &mut [u8], at: usize) -> usize
+    requires { ⌜ (n < 100) × (at + length (decimal n) ≤ length (now line)) ⌝ }
     ensures { λ r. ⌜ Put (decimal n) at (now (line .entry)) (now (line .exit)) r ⌝ }
 {
     if n < 10 {
         line[at] = b'0' + n as u8;
         return at + 1;
     }
-    let last = put_digits(n / 10, line, at);
+    line[at] = b'0' + (n / 10) as u8;
+    let ones = at + 1;
+    line[ones] = b'0' + (n % 10) as u8;
+    ones + 1
+}
+
+// Stores the digits of n from a place on, and returns the place behind them. Two digits a call, as printing spends most of its time on these calls.
+fn put_digits(n: usize, line: &mut [u8], at: usize) -> usize
+    requires { ⌜ at + length (decimal n) ≤ length (now line) ⌝ }
+    ensures { λ r. ⌜ Put (decimal n) at (now (line .entry)) (now (line .exit)) r ⌝ }
+{
+    if n < 100 {
+        return put_short(n, line, at);
+    }
+    let tens = put_digits(n / 100, line, at);
+    line[tens] = b'0' + (n / 10 % 10) as u8;
+    let last = tens + 1;
     line[last] = b'0' + (n % 10) as u8;
     last + 1
 }
