@@ -77,7 +77,7 @@ class MeshReading:
         """The corners at a vertex, parted into sets that turning about the vertex joins."""
         fans = [{c} for c in corners]
         for c in corners:
-            # The next corner is the start of the mate of the side that comes in.
+            # On to the corner that begins the twin of the entering half-edge.
             after = self.mates[c - c % 4 + (c + 3) % 4]
             joined = [fan for fan in fans if c in fan or after in fan]
             fans = [fan for fan in fans if fan not in joined] + [set().union(*joined)]

@@ -36,7 +36,7 @@ impl Refusal {
             6 => "a face names a vertex twice",
             7 => "a half-edge occurs twice the same way round",
             8 => "a vertex is in no face",
-            9 => "the corners at a vertex form neither one turn nor one chain",
+            9 => "the corners at a vertex are not one fan, closed or open",
             10 => "a vertex has too few or too many faces",
             11 => "an inner vertex is tagged as a corner",
             12 => "the patch list has no such face",

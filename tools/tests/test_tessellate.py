@@ -116,7 +116,7 @@ class Refused(Case):
 
     def test_words(self):
         _, _, error = self.run_tool(VECTORS / "data" / "bow-tie-refused-9")
-        self.assertIn("refused 9: the corners at a vertex form neither one turn nor one chain\n", error)
+        self.assertIn("refused 9: the corners at a vertex are not one fan, closed or open\n", error)
 
     def test_no_bytes(self):
         status, output, error = self.run_tool(input=b"")

@@ -66,8 +66,8 @@ abbrev xyz : ℕ → ℕ → ℕ → List ℤ
 xyz x y z = pos x ∷ pos y ∷ pos z ∷ []
 
 -- The square's control points and samples (rules X1 and X2); the cube's counts, corner point, inner point and edge point at (24,24,24) (rule X3);
--- the roundings of 1/2, 3/2, 5/2, -1/2, -3/2 (rule X4); faces 0 1 2 3 and 3 2 1 0, where every n is 2, the same face twice, and two faces with
--- one vertex in common and no half-edge (rule X5); two faces side by side with boundary vertices of two faces (rule X6); the square as an accepted
+-- the roundings of 1/2, 3/2, 5/2, -1/2, -3/2 (rule X4); a face and its own back, so that every n is 2, one face named twice, and two faces
+-- that share a vertex but no half-edge (rule X5); two faces side by side with boundary vertices of two faces (rule X6); the square as an accepted
 -- mesh (rule X1); the strip with a boundary vertex tagged 1 and 2, and the cube with a tagged vertex (rule X7); open fans of eight and nine faces
 -- (rule X8).
 pub examples : List Example

@@ -37,7 +37,7 @@ pillow = collapsed 4 2 (0 ∷ 1 ∷ 2 ∷ 3 ∷ 3 ∷ 2 ∷ 1 ∷ 0 ∷ [])
 abbrev pub doubledFace : IndexedMesh
 doubledFace = collapsed 4 2 (0 ∷ 1 ∷ 2 ∷ 3 ∷ 0 ∷ 1 ∷ 2 ∷ 3 ∷ [])
 
--- two faces with one vertex in common and no half-edge
+-- two faces that share a vertex but no half-edge
 abbrev pub bowTie : IndexedMesh
 bowTie = collapsed 7 2 (0 ∷ 1 ∷ 2 ∷ 3 ∷ 0 ∷ 4 ∷ 5 ∷ 6 ∷ [])
 

@@ -1,4 +1,4 @@
-//! Rounding of a quotient to the nearest whole number, halves to the even one. The laws of whole numbers stand in `proofs/`.
+//! Rounding of a quotient to a whole number, ties to even. The laws of whole numbers stand in `proofs/`.
 ghost use mathlib.Core.Path.{_≡_};
 ghost use Prim.Native.Nat.{_≤_, _^_};
 ghost use lib.Dec.{ltb};
@@ -44,7 +44,7 @@ fn negated(size: u64) -> i64
     }
 }
 
-// Returns `num / den` rounded once to the nearest whole number, halves to the even one, for every `num`; 0 for a divisor 0.
+// Returns `num / den` as a whole number, rounded once with ties to even, for every `num`; 0 for a divisor 0.
 pub fn round(num: i64, den: u32) -> i64
     ensures { λ r. ⌜ r ≡ nearest num den ⌝ }
 {

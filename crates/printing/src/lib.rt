@@ -31,7 +31,7 @@ fn write_stretches(answer: Opened, patches: &[i32], out: &mut [u8]) -> bool {
     }
 }
 
-// Prints the text of a file: of an accepted mesh the counts and then, for each face, b from 0 and within it a from 0, the samples; of any other the
+// Prints the text of a file: of an accepted mesh the counts and then the samples, face by face, in each by rows of one b and along a row by a; of any other the
 // refusal alone. After a write that fails nothing more is written, so that what came out is the beginning of the text.
 // Returns: the answer of `meshfile::open`, and whether the text is whole. Writes, leaves alone, refuses: as `meshfile::open`.
 pub fn print(bytes: &[u8], patches: &mut [i32]) -> Printing

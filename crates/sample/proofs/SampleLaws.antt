@@ -39,7 +39,7 @@ module _ (n a b : ℕ) (g : ℕ → ℤ) where
       ∙ sum-scale (pos (bernstein n a i)) (λ j. pos (bernstein n b j) *ℤ g (i + 4 * j)) 4)
 
 -- ---- a sample by its sum
--- over n^6 and rounded to the nearest whole number, halves to the even one
+-- over n^6 and rounded once, ties to even
 pub rounded-nearest : (n a b : ℕ) (g : ℕ → ℤ) → 0 < n → IsNearest (numerator n a b g) (n ^ 6) (rounded n a b g)
 unfolding rounded
 rounded-nearest n a b g some = nearest-meets (numerator n a b g) (n ^ 6) (one-le-pow 6 n some)
@@ -74,11 +74,11 @@ sum-flip f =
 abbrev pub quarterTurn : (ℕ → ℤ) → ℕ → ℤ
 quarterTurn g m = g (3 - m / 4 + 4 * (m % 4))
 
--- the corner points b(0,0), b(3,0), b(3,3), b(0,3) of q0 to q3 (rule B5), which are q1, q2, q3, q0 of the face as it was
+-- points 0, 3, 15 and 12 are the corner points of q0 to q3 (rule B5), which are q1, q2, q3, q0 of the face as it was
 corners : (g : ℕ → ℤ) → (quarterTurn g 0 ≡ g 3) × (quarterTurn g 3 ≡ g 15) × (quarterTurn g 15 ≡ g 12) × (quarterTurn g 12 ≡ g 0)
 corners g = (refl, refl, refl, refl)
 
--- in a face begun one corner later the place that matches (a, b) is (b, N - a) (rule C9)
+-- a face that starts one corner later has at (b, N - a) what it had at (a, b) (rule C9)
 pub numerator-turn : (n a b : ℕ) (g : ℕ → ℤ) → a ≤ n → numerator n b (n - a) (quarterTurn g) ≡ numerator n a b g
 unfolding numerator
 numerator-turn n a b g h =

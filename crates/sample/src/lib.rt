@@ -15,7 +15,7 @@ ghost use Rattle.sample.specs.Answer.{sampled, sampleAnswer, Reads};
 
 // The sample of face f at (a, b), for N = n (rules S1 to S4).
 // Returns: x, y and z of the sample, each rounded once, or the number of the refusal.
-// Writes: nothing. Leaves alone: the patch list, of which it reads only the 48 numbers from place 48f on.
+// Writes: nothing. Leaves alone: the patch list; of it, places 48f to 48f + 47 are read and no others.
 // Refuses, in this order: 12 patch list shorter than 48f + 48, 13 a control value of that patch beyond 268,435,456,
 // 14 n off the range from 1 to 32, or a or b above n.
 // Units: control values and sample in 1/256 micrometre.
@@ -39,7 +39,7 @@ pub fn sample(patches: &[i32], f: usize, n: usize, a: usize, b: usize) -> Sample
 
 // The sample of face f at (a, b), for N = n, in micrometres (rule S5).
 // Returns: three doubles, each exactly the coordinate of the sample over 256, or the number of the refusal.
-// Writes: nothing. Leaves alone: the patch list, of which it reads only the 48 numbers from place 48f on.
+// Writes: nothing. Leaves alone: the patch list; of it, places 48f to 48f + 47 are read and no others.
 // Refuses: as `sample`, in the same order.
 // Units: control values in 1/256 micrometre, reading in micrometres.
 pub fn reading(patches: &[i32], f: usize, n: usize, a: usize, b: usize) -> Reading

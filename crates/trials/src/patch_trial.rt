@@ -5,7 +5,7 @@
 //
 // with every place of the lent twins afterwards. Then come a line `patches` with the two sums of the lent patch list afterwards, its
 // first 816 places in clear, 48 to a line, and for each face of an accepted mesh a line `samples` with the two sums of its samples at
-// all (a, b), b from 0 and within it a from 0, and the sample and the reading at half N. Of numbers x0, x1 .. the two sums are that
+// all (a, b), row by row in b and along each row in a, and the sample and the reading at half N. Of numbers x0, x1 .. the two sums are that
 // of the numbers and that of the sums x0, x0 + x1 .. on the way, both modulo 2^32. Every place of both lists holds 7 before the call.
 use crate::printing::print_checked;
 use crate::printing::print_every;
