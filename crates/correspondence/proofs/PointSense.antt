@@ -16,7 +16,7 @@ use Rattle.corner.specs.Corner.{turn, next, across, prev}
 use Rattle.mesh.specs.HalfEdge.{twin, boundary}
 use Rattle.mesh.proofs.CornerLaws.{turn-mod}
 use Rattle.symmetry.proofs.Sense.{Sense, same, reversed, turned, ahead, behind, leaving, entering, origin, target, Opposite}
-use Rattle.patch.specs.Mask.{Fraction, innerMask, edgeMask, boundaryEdgeMask}
+use Rattle.mask.specs.Mask.{Fraction, innerMask, edgeMask, boundaryEdgeMask}
 use Rattle.patch.specs.Point.{View, x, weight, sharp, sharpTerm, ringTerm, innerPoint, edgePoint, alongPoint, beforePoint}
 use Rattle.patch.specs.Point.{Kind, corner, along, before, inner, point}
 use Rattle.patch.specs.Patch.{owner, kind}

@@ -1,9 +1,10 @@
 -- What a passed test of a range gives, and a test in two steps.
 use mathlib.Core.Path.{_≡_, sym, ap, _∙_}
 use mathlib.Core.Bool.{Bool, true, false, _||_}
-use Prim.Native.Nat.{ℕ, _≤_}
+use Prim.Native.Nat.{ℕ, _≤_, _<_}
 use lib.Dec.{ltb}
-use borrow.Author.Tests.{ltb-false}
+use borrow.Author.Tests.{lt-ltb, le-ltb, ltb-true, ltb-false}
+use Rattle.finite.proofs.FoldLaws.{bool-cases}
 use Rattle.finite.proofs.AnyAll.{or-false}
 use Rattle.limits.specs.Range.{off}
 
@@ -16,3 +17,8 @@ or-found b x y e q = sym (ap (λ (t : Bool). t || y) (sym e ∙ q))
 
 pub or-passed : (b x y w : Bool) → b ≡ x → b ≡ false → w ≡ y → w ≡ (x || y)
 or-passed b x y w e q h = h ∙ sym (ap (λ (t : Bool). t || y) (sym e ∙ q))
+
+-- two tests that hold and fail together
+pub ltb-same : (a b c d : ℕ) → (a < b → c < d) → (b ≤ a → d ≤ c) → ltb a b ≡ ltb c d
+ltb-same a b c d below above =
+    bool-cases (ltb a b) (λ t. t ∙ sym (lt-ltb c d (below (ltb-true a b t)))) (λ e. e ∙ sym (le-ltb c d (above (ltb-false a b e))))

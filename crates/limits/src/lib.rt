@@ -4,6 +4,7 @@ pub mod model;
 use crate::model::Mesh;
 ghost use mathlib.Core.Path.{_≡_};
 ghost use mathlib.Core.Bool.{not, _&&_};
+ghost use Prim.Native.Nat.{_*_};
 ghost use lib.Dec.{eqb, ltb};
 ghost use lib.IntN.{natAbs};
 ghost use Rattle.limits.specs.Limits.{maxCoordinate, cornerTag};
@@ -63,4 +64,18 @@ pub fn inner_tagged(tag: u8, boundary: bool) -> bool
         return !boundary;
     }
     false
+}
+
+// Whether a list has too few places for the twins of f faces: cause 2. Writes: nothing. Refuses: nothing.
+pub fn twins_short(f: usize, places: usize) -> bool
+    ensures { λ r. ⌜ r ≡ ltb places (4 * f) ⌝ }
+{
+    places / 4 < f
+}
+
+// Whether a list has too few places for the patches of f faces: cause 2. Writes: nothing. Refuses: nothing.
+pub fn patches_short(f: usize, places: usize) -> bool
+    ensures { λ r. ⌜ r ≡ ltb places (48 * f) ⌝ }
+{
+    places / 48 < f
 }

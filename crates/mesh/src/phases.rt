@@ -13,6 +13,7 @@ use crate::vertex::count_corners;
 use crate::vertex::mark_boundary;
 use limits::model::Mesh;
 use limits::sizes_off;
+use limits::twins_short;
 ghost use mathlib.Core.Path.{_≡_};
 ghost use mathlib.Core.Bool.{false};
 ghost use mathlib.Core.List.{List, [], _∷_};
@@ -94,7 +95,7 @@ pub(crate) fn own_refusal(own: u8, f: usize, twins: usize) -> u8
     if own != 0 {
         return own;
     }
-    if twins / 4 < f {
+    if twins_short(f, twins) {
         return 2;
     }
     0

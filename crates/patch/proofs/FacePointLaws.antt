@@ -19,15 +19,14 @@ use Rattle.corner.specs.Corner.{turn}
 use Rattle.mesh.specs.HalfEdge.{boundary}
 use Rattle.mesh.proofs.CornerLaws.{turn-below}
 use Rattle.mesh.specs.Tables.{vertexOf, twinOf}
-use Rattle.patch.specs.Mask.{Fraction, innerMask, edgeMask}
+use Rattle.mask.specs.Mask.{Fraction, innerMask, edgeMask}
+use Rattle.mask.specs.declared.model.Fraction as code
+use Rattle.mask.specs.declared.model.FaceValues.{FaceValues}
 use Rattle.patch.specs.Point.{View, weight, sharp, ringTerm, innerPoint, edgePoint}
 use Rattle.patch.specs.Patch.{owner, kind}
 use Rattle.patch.specs.Lists.{shapeOf, boundaryIn, sharpIn, Twins}
 use Rattle.patch.specs.Values.{SeenFrom, Made}
 use Rattle.patch.specs.Written.{Source, pointFrom, numberFrom}
-use Rattle.patch.specs.declared.fraction.Fraction as code
-use Rattle.patch.specs.declared.values.FaceValues.{FaceValues}
-use Rattle.patch.proofs.MaskLaws.{stored, stored-is}
 use Rattle.patch.proofs.NeighbourLaws.{twin-below}
 
 -- ---- twins
@@ -58,10 +57,8 @@ unfolding edgePoint
 edge-seen S c d w a b e h g = rw (e, h .here-is, h .next-is, h .prev-is, g .across-is, h .across-is, g .prev-is)
 
 pub ring-term-seen : (S : View) (c : ℕ) (a : FaceValues) → SeenFrom S c a
-    → pos 2 *ℤ stored (a .next) +ℤ pos 2 *ℤ stored (a .prev) +ℤ stored (a .across) ≡ ringTerm S c
-ring-term-seen S c a h =
-    let s = h .small in
-    rw (stored-is _ _ (s .next) (h .next-is), stored-is _ _ (s .prev) (h .prev-is), stored-is _ _ (s .across) (h .across-is))
+    → pos 2 *ℤ a .next +ℤ pos 2 *ℤ a .prev +ℤ a .across ≡ ringTerm S c
+ring-term-seen S c a h = rw (h .next-is, h .prev-is, h .across-is)
 
 -- ---- the two tables of a patch
 -- the corner of a face that owns a point is one of its corners

@@ -1,4 +1,4 @@
--- The laws of the control points: the sums of neighbours, what the masks keep, their size, and the list that is written.
+-- The laws of the control points: the sums of neighbours, what the points keep, their size, and the list that is written.
 pub mod NeighbourLaws
 pub mod Related
 pub mod PointLaws

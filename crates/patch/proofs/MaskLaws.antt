@@ -1,85 +1,51 @@
--- A weighted sum of coordinates as the machine computes it, in 64 bits: each number is stored as its bits and read back, and nothing is lost.
+-- What the masks give of coordinates within their range: a fraction within it, as the code's `Fraction` of it.
 --
---   Sum            a sum of coordinates, each with a weight (`term`) or as it is (`one`)
---   value e        the integer that it is
---   weights e      the sum of its weights
---   stored z       the integer z, stored and read back
---   machine e      what the machine computes for e, from what it has stored
---   Ranged e       its coordinates are within their range
---   made e         the fraction of e over its weights, as the machine hands it on
-use mathlib.Core.Path.{_≡_, refl, sym, ap, ap₂, _∙_, subst}
-use Prim.Native.Nat.{ℕ, _+_, _*_, _≤_, _<_}
-use native.Mathlib.Nat.{mul-le-mul-left}
+--   Sized q        the divisor of q is above 0, and q within the range of the coordinates: `bounds` of `LinearLaws`, for a mask
+use mathlib.Core.Path.{_≡_, sym, ap₂, _∙_, subst}
+use Prim.Native.Nat.{ℕ, _*_, _≤_, _<_}
 use native.Mathlib.Omega.{arith}
-use lib.IntN.{ℤ, pos, natAbs, _+ℤ_, _*ℤ_}
-use mir.Syntax.{w64}
-use mir.Val.{SFits, toZ, ofZ}
-use mir.Facts.{toZ-ofZ, toZ-pos}
-use Rattle.integer.proofs.Laws.{abs-+, abs-*, sfits-abs}
+use lib.IntN.{ℤ, natAbs}
+use mir.Syntax.{w32}
+use mir.Val.{toZ, ofZ}
+use mir.Facts.{toZ-ofZ}
+use Rattle.integer.proofs.Laws.{sfits-abs}
 use Rattle.limits.specs.Limits.{maxCoordinate}
-use Rattle.patch.specs.Values.{Made}
+use Rattle.mask.specs.Mask.{Fraction, innerMask, edgeMask, boundaryEdgeMask, smoothCornerMask, boundaryCornerMask, vertexMask}
+use Rattle.mask.specs.FractionOf.{fractionOf}
+use Rattle.mask.specs.declared.model.Fraction as code
+use Rattle.mask.specs.declared.model.FaceValues.{FaceValues}
+use Rattle.mask.proofs.LinearLaws.{Related, bounds, inner-mask, edge-mask, boundary-edge-mask, smooth-corner-mask, boundary-corner-mask, vertex-mask}
+use Rattle.patch.specs.Values.{Small, Within, Made}
 
-infixl 6 _⊞_
-pub data Sum : Type 0 where
-  one : ℤ → Sum
-  term : ℕ → ℤ → Sum
-  _⊞_ : Sum → Sum → Sum
+abbrev pub Sized : Fraction → Type 0
+Sized q = Related (λ k z _. natAbs z ≤ maxCoordinate * k) q q
 
-abbrev pub value : Sum → ℤ
-value (one z) = z
-value (term k z) = pos k *ℤ z
-value (e ⊞ f) = value e +ℤ value f
+pub made : {q : Fraction} (r : code.Fraction) → Sized q → fractionOf r ≡ q → Made q r
+made r s e = record { is = e; within = subst Within (sym e) (record { positive = s .positive; small = s .related }) }
 
-abbrev pub weights : Sum → ℕ
-weights (one z) = 1
-weights (term k z) = k
-weights (e ⊞ f) = weights e + weights f
+pub inner-sized : (w : ℕ) (a : FaceValues) → Small a → Sized (innerMask w (a .here) (a .next) (a .prev) (a .across))
+inner-sized w a s = inner-mask (bounds maxCoordinate) w (s .here) (s .next) (s .prev) (s .across)
 
-abbrev pub stored : ℤ → ℤ
-stored z = toZ w64 (ofZ w64 z)
+pub edge-sized : (w : ℕ) (a b : FaceValues) → Small a → Small b → Sized (edgeMask w (a .here) (a .next) (a .prev) (b .across) (a .across) (b .prev))
+edge-sized w a b s t = edge-mask (bounds maxCoordinate) w (s .here) (s .next) (s .prev) (t .across) (s .across) (t .prev)
 
-abbrev pub machine : Sum → ℤ
-machine (one z) = z
-machine (term k z) = toZ w64 k *ℤ stored z
-machine (e ⊞ f) = stored (machine e) +ℤ stored (machine f)
+pub smooth-sized : (n : ℕ) (p s : ℤ) → 0 < n → natAbs p ≤ maxCoordinate → natAbs s ≤ 5 * maxCoordinate * n → Sized (smoothCornerMask n p s)
+smooth-sized n p s l hp hs = smooth-corner-mask (bounds maxCoordinate) n l hp (omega (arith, hs))
 
-abbrev pub Ranged : Sum → Type 0
-Ranged (one z) = natAbs z ≤ maxCoordinate
-Ranged (term k z) = natAbs z ≤ maxCoordinate
-Ranged (e ⊞ f) = Ranged e × Ranged f
+pub boundary-sized : (p s : ℤ) → natAbs p ≤ maxCoordinate → natAbs s ≤ 2 * maxCoordinate → Sized (boundaryCornerMask p s)
+boundary-sized p s hp hs = boundary-corner-mask (bounds maxCoordinate) hp hs
 
-pub size : (e : Sum) → Ranged e → natAbs (value e) ≤ maxCoordinate * weights e
-size (one z) l = omega arith
-size (term k z) l = omega (arith, abs-* (pos k) z, mul-le-mul-left k l)
-size (e ⊞ f) l = omega (arith, abs-+ (value e) (value f), size e (l .0), size f (l .1))
+pub vertex-sized : (p : ℤ) → natAbs p ≤ maxCoordinate → Sized (vertexMask p)
+vertex-sized p hp = vertex-mask (bounds maxCoordinate) hp
 
--- the value fits, with room to spare
-value-fits : (e : Sum) → Ranged e → weights e ≤ 1024 → SFits w64 (value e)
-value-fits e l w = sfits-abs (value e) (omega (arith, size e l))
+-- a coordinate z that is known as y, stored and read back
+pub stored-is : (z y : ℤ) → natAbs z ≤ maxCoordinate → z ≡ y → toZ w32 (ofZ w32 z) ≡ y
+stored-is z y l e = rw (toZ-ofZ (sfits-abs {w = w32} z (omega arith))) e
 
-pub exact : (e : Sum) → Ranged e → weights e ≤ 1024 → machine e ≡ value e
-exact (one z) l w = refl
-exact (term k z) l w = ap₂ _*ℤ_ (toZ-pos w64 (omega arith)) (toZ-ofZ (value-fits (one z) l (omega arith)))
-exact (e ⊞ f) l w =
-    let le : weights e ≤ 1024 = omega arith in
-    let lf : weights f ≤ 1024 = omega arith in
-    ap₂ _+ℤ_ (ap stored (exact e (l .0) le) ∙ toZ-ofZ (value-fits e (l .0) le)) (ap stored (exact f (l .1) lf) ∙ toZ-ofZ (value-fits f (l .1) lf))
-
-pub exact-stored : (e : Sum) → Ranged e → weights e ≤ 1024 → stored (machine e) ≡ value e
-exact-stored e l w = ap stored (exact e l w) ∙ toZ-ofZ (value-fits e l w)
-
-pub fits : (e : Sum) → Ranged e → weights e ≤ 1024 → SFits w64 (machine e)
-fits e l w = subst (SFits w64) (sym (exact e l w)) (value-fits e l w)
-
--- a coordinate z that is known as y, read back
-pub stored-is : (z y : ℤ) → natAbs z ≤ maxCoordinate → z ≡ y → stored z ≡ y
-stored-is z y l e = exact-stored (one z) l (omega arith) ∙ e
-
--- a numerator, stored as z, and a divisor
-pub made-of : (num z : ℤ) (den : ℕ) → z ≡ num → 0 < den → natAbs num ≤ maxCoordinate * den
-    → Made (record { num = num; den = den }) (record { num = z; den = den })
-made-of num z den e p l = record { is = rw e; within = record { positive = p; small = rw e l } }
-
-pub made : (e : Sum) → Ranged e → (den : ℕ) → weights e ≡ den → 0 < den → den ≤ 1024
-    → Made (record { num = value e; den = den }) (record { num = stored (machine e); den = den })
-made e l den q p h = made-of (value e) (stored (machine e)) den (exact-stored e l (omega arith)) p (omega (arith, size e l))
+-- the edge point of two values p and q that are known as y and z
+pub boundary-edge-made : (r : code.Fraction) (p q y z : ℤ) → natAbs p ≤ maxCoordinate → natAbs q ≤ maxCoordinate → p ≡ y → q ≡ z
+    → fractionOf r ≡ boundaryEdgeMask (toZ w32 (ofZ w32 p)) (toZ w32 (ofZ w32 q)) → Made (boundaryEdgeMask y z) r
+boundary-edge-made r p q y z hp hq e f g =
+    let ly : natAbs y ≤ maxCoordinate = rw e at hp in
+    let lz : natAbs z ≤ maxCoordinate = rw f at hq in
+    made r (boundary-edge-mask (bounds maxCoordinate) ly lz) (g ∙ ap₂ boundaryEdgeMask (stored-is p y hp e) (stored-is q z hq f))

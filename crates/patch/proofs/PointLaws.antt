@@ -1,24 +1,15 @@
 -- The control points of an accepted mesh: their divisors are above 0, and none leaves the range of the coordinates.
---
---   bounds B     the instance of `Linear` that gives it: a sum of terms within B, with weights that sum to k, is within B k
 use Prim.Native.Nat.{ℕ, _+_, _*_, _≤_, _<_}
-use native.Mathlib.Nat.{mul-le-mul-left}
 use native.Mathlib.Omega.{arith}
 use lib.IntN.{pos, natAbs, _*ℤ_}
-use Rattle.integer.proofs.Laws.{abs-+, abs-*}
+use Rattle.integer.proofs.Laws.{abs-*}
 use Rattle.integer.proofs.NearestLaws.{nearest-bounded}
 use Rattle.limits.specs.Limits.{maxCoordinate}
 use Rattle.mesh.specs.IndexedMesh.{IndexedMesh}
 use Rattle.mesh.specs.WellFormed.{WellFormed}
+use Rattle.mask.proofs.LinearLaws.{Related, bounds}
 use Rattle.patch.specs.Patch.{patchPoint, controlValue, view}
-use Rattle.patch.proofs.Related.{Linear, Related, patch-related}
-
-pub bounds : (B : ℕ) → Linear (λ k z _. natAbs z ≤ B * k)
-bounds B = record {
-  nil = omega arith;
-  plus = λ {y = y} {z = z} f g. omega (arith, abs-+ y z);
-  scale = λ j {z = z} h. omega (arith, abs-* (pos j) z, mul-le-mul-left j h);
-}
+use Rattle.patch.proofs.Related.{patch-related}
 
 module _ {M : IndexedMesh} (a : WellFormed M) (f m k : ℕ) (face : f < M .faces) (axis : k < 3) where
   within : Related (λ k z _. natAbs z ≤ maxCoordinate * k) (patchPoint (view M k) (4 * f) m) (patchPoint (view M k) (4 * f) m)

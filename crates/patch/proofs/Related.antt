@@ -1,17 +1,14 @@
--- One law for bounds, shifts and other moves of the positions: the masks keep every relation between two coordinates of the vertices
--- that 0, sums and non-negative weights keep. Each mask's weights sum to its divisor, so its two numerators are related with the divisor.
+-- One law for bounds, shifts and other moves of the positions: the control points keep every relation between two coordinates of the
+-- vertices that 0, sums and non-negative weights keep, since each mask does (`Linear R`, `Related R q q'`: `LinearLaws` of `mask`).
 --
---   Linear R          R k z z' of two sums z and z', whose weights sum to k, holds where it holds term by term
---   Related R q q'    two fractions with one divisor above 0, and their numerators related with it
 --   valued M X        the mesh M, with the coordinate X p of each vertex p: `view M k` is one
 --   Nearby R M X X' p   the coordinates X and X' of each vertex of a face at p are related
 use mathlib.Core.Path.{_≡_, refl, ap, _∙_, subst}
 use mathlib.Core.Bool.{Bool, true, false, cond}
 use Prim.Native.Nat.{ℕ, zero, suc, _+_, _*_, _<_}
-use native.Mathlib.Nat.{mul-pos}
 use native.Mathlib.Omega.{arith}
 use lib.Dec.{eqb}
-use lib.IntN.{ℤ, pos, _+ℤ_, _*ℤ_}
+use lib.IntN.{ℤ, pos, _+ℤ_}
 use borrow.Author.Tests.{eqb-true, not-false}
 use Rattle.finite.specs.Fold.{foldBelow, gather}
 use Rattle.corner.specs.Corner.{turn, next, prev}
@@ -24,21 +21,13 @@ use Rattle.mesh.proofs.TwinLaws.{twin-ends}
 use Rattle.mesh.proofs.BoundaryLaws.{boundary-vertex}
 use Rattle.mesh.proofs.AcceptedLaws.{accepted-corners}
 use Rattle.mesh.specs.Tables.{Corners}
-use Rattle.patch.specs.Mask.{Fraction, innerMask, edgeMask, boundaryEdgeMask, smoothCornerMask, boundaryCornerMask, vertexMask}
+use Rattle.mask.specs.Mask.{Fraction}
+use Rattle.mask.proofs.LinearLaws.{Linear, Related, cast, ring}
+use Rattle.mask.proofs.LinearLaws.{inner-mask, edge-mask, boundary-edge-mask, smooth-corner-mask, boundary-corner-mask, vertex-mask}
 use Rattle.patch.specs.Point.{View, x, faces, inside, weight, sharp, ringTerm, sharpSum, ringSum, fixed}
 use Rattle.patch.specs.Point.{cornerPoint, innerPoint, edgePoint, alongPoint, beforePoint, Kind, corner, along, before, inner, point}
 use Rattle.patch.specs.Patch.{owner, kind, patchPoint, shape}
 use Rattle.patch.proofs.NeighbourLaws.{twin-below, sharp-neighbours}
-
-pub record Linear (R : ℕ → ℤ → ℤ → Type 0) : Type 0 where
-  pub nil : R 0 (pos 0) (pos 0)
-  pub plus : {k l : ℕ} {y y' z z' : ℤ} → R k y y' → R l z z' → R (k + l) (y +ℤ z) (y' +ℤ z')
-  pub scale : (j : ℕ) {k : ℕ} {z z' : ℤ} → R k z z' → R (j * k) (pos j *ℤ z) (pos j *ℤ z')
-
-pub record Related (R : ℕ → ℤ → ℤ → Type 0) (q q' : Fraction) : Type 0 where
-  pub positive : 0 < q .den
-  pub same : q' .den ≡ q .den
-  pub related : R (q .den) (q .num) (q' .num)
 
 abbrev pub valued : IndexedMesh → (ℕ → ℤ) → View
 valued M X = record { shape = shape M; value = X }
@@ -57,52 +46,9 @@ gather-times at p k (suc n) = ap (λ (m : ℕ). m + cond (eqb (at n) p) k 0) (ga
     distributes m false = omega arith
 
 module _ {R : ℕ → ℤ → ℤ → Type 0} (L : Linear R) where
-  cast : {k l : ℕ} {z z' : ℤ} → k ≡ l → R k z z' → R l z z'
-  cast {k} {l} {z} {z'} e h = subst (λ (j : ℕ). R j z z') e h
-
   either : {y y' z z' : Fraction} (b : Bool) → (b ≡ true → Related R y y') → (b ≡ false → Related R z z') → Related R (cond b y z) (cond b y' z')
   either true f g = f refl
   either false f g = g refl
-
-  -- ---- the masks
-  inner-mask : (w : ℕ) {p e f g p' e' f' g' : ℤ} → R 1 p p' → R 1 e e' → R 1 f f' → R 1 g g' → Related R (innerMask w p e f g) (innerMask w p' e' f' g')
-  unfolding innerMask
-  inner-mask w hp he hf hg = record {
-    positive = omega arith;
-    same = refl;
-    related = cast (let s : w * 1 + 2 * 1 + 2 * 1 + 1 ≡ w + 5 = omega arith in s)
-        (L .plus (L .plus (L .plus (L .scale w hp) (L .scale 2 he)) (L .scale 2 hf)) hg);
-  }
-
-  edge-mask : (w : ℕ) {p q a b c d p' q' a' b' c' d' : ℤ} → R 1 p p' → R 1 q q' → R 1 a a' → R 1 b b' → R 1 c c' → R 1 d d'
-      → Related R (edgeMask w p q a b c d) (edgeMask w p' q' a' b' c' d')
-  unfolding edgeMask
-  edge-mask w hp hq ha hb hc hd = record {
-    positive = omega arith;
-    same = refl;
-    related = cast (let s : 2 * w * 1 + 4 * 1 + 2 * 1 + 2 * 1 + 1 + 1 ≡ 2 * w + 10 = omega arith in s)
-        (L .plus (L .plus (L .plus (L .plus (L .plus (L .scale (2 * w) hp) (L .scale 4 hq)) (L .scale 2 ha)) (L .scale 2 hb)) hc) hd);
-  }
-
-  boundary-edge-mask : {p q p' q' : ℤ} → R 1 p p' → R 1 q q' → Related R (boundaryEdgeMask p q) (boundaryEdgeMask p' q')
-  unfolding boundaryEdgeMask
-  boundary-edge-mask hp hq = record { positive = omega arith; same = refl; related = L .plus (L .scale 2 hp) hq }
-
-  smooth-corner-mask : (n : ℕ) {p s p' s' : ℤ} → 0 < n → R 1 p p' → R (5 * n) s s' → Related R (smoothCornerMask n p s) (smoothCornerMask n p' s')
-  unfolding smoothCornerMask
-  smooth-corner-mask n l hp hs = record {
-    positive = mul-pos l (omega arith);
-    same = refl;
-    related = cast (let s : n * n * 1 + 5 * n ≡ n * (n + 5) = omega arith in s) (L .plus (L .scale (n * n) hp) hs);
-  }
-
-  boundary-corner-mask : {p s p' s' : ℤ} → R 1 p p' → R 2 s s' → Related R (boundaryCornerMask p s) (boundaryCornerMask p' s')
-  unfolding boundaryCornerMask
-  boundary-corner-mask hp hs = record { positive = omega arith; same = refl; related = L .plus (L .scale 4 hp) hs }
-
-  vertex-mask : {p p' : ℤ} → R 1 p p' → Related R (vertexMask p) (vertexMask p')
-  unfolding vertexMask
-  vertex-mask hp = record { positive = omega arith; same = refl; related = hp }
 
   -- ---- a sum over the corners at a vertex, with weights that sum to k c at corner c
   pub sum-at : (at : ℕ → ℕ) (p : ℕ) (k : ℕ → ℕ) (f f' : ℕ → ℤ) (n : ℕ) → ((c : ℕ) → c < n → at c ≡ p → R (k c) (f c) (f' c))
@@ -133,9 +79,8 @@ module _ {R : ℕ → ℤ → ℤ → Type 0} (L : Linear R) where
       ring-sum : R (5 * faces (shape M) p) (ringSum S p) (ringSum S' p)
       unfolding ringSum
       ring-sum =
-          cast (gather-times (at M) p 5 (corners M))
-          (sum-at (at M) p (λ c. 5) (ringTerm S) (ringTerm S') (corners M) (λ c l e.
-          L .plus (L .plus (L .scale 2 (near c l e 1)) (L .scale 2 (near c l e 3))) (near c l e 2)))
+          cast L (gather-times (at M) p 5 (corners M))
+          (sum-at (at M) p (λ c. 5) (ringTerm S) (ringTerm S') (corners M) (λ c l e. ring L (near c l e 1) (near c l e 3) (near c l e 2)))
 
       sharp-sum : p < M .vertices → inside (shape M) p ≡ false → R 2 (sharpSum S p) (sharpSum S' p)
       sharp-sum l e =
@@ -148,12 +93,12 @@ module _ {R : ℕ → ℤ → ℤ → Type 0} (L : Linear R) where
       corner-related : p < M .vertices → R 1 (X p) (X' p) → Related R (cornerPoint S p) (cornerPoint S' p)
       unfolding cornerPoint fixed
       corner-related l own =
-          either (inside (shape M) p) (λ _. smooth-corner-mask (faces (shape M) p) (a .used p l) own ring-sum)
-          (λ e. either (fixed (shape M) p) (λ _. vertex-mask own) (λ _. boundary-corner-mask own (sharp-sum l e)))
+          either (inside (shape M) p) (λ _. smooth-corner-mask L (faces (shape M) p) (a .used p l) own ring-sum)
+          (λ e. either (fixed (shape M) p) (λ _. vertex-mask L own) (λ _. boundary-corner-mask L own (sharp-sum l e)))
 
       inner-related : (c : ℕ) → c < corners M → at M c ≡ p → Related R (innerPoint S c) (innerPoint S' c)
       unfolding innerPoint weight
-      inner-related c l e = inner-mask (weight (shape M) c) (here c l e) (near c l e 1) (near c l e 3) (near c l e 2)
+      inner-related c l e = inner-mask L (weight (shape M) c) (here c l e) (near c l e 1) (near c l e 3) (near c l e 2)
 
       -- half-edge c leaves p, and half-edge d enters it
       edge-related : (c d : ℕ) → c < corners M → at M c ≡ p → d < corners M → at M (next d) ≡ p → Related R (edgePoint S c d) (edgePoint S' c d)
@@ -161,12 +106,12 @@ module _ {R : ℕ → ℤ → ℤ → Type 0} (L : Linear R) where
       edge-related c d l e k f =
           let further : (i : ℕ) → R 1 (x S (turn (suc i) d)) (x S' (turn (suc i) d)) =
           λ i. subst (λ (j : ℕ). R 1 (x S j) (x S' j)) (turn-next i d) (near (next d) (next-below whole d k) f i) in
-          edge-mask _ (here c l e) (near c l e 1) (near c l e 3) (further 1) (near c l e 2) (further 2)
+          edge-mask L _ (here c l e) (near c l e 1) (near c l e 3) (further 1) (near c l e 2) (further 2)
 
       along-related : (c : ℕ) → c < corners M → at M c ≡ p → Related R (alongPoint S c) (alongPoint S' c)
       unfolding alongPoint sharp
       along-related c l e =
-          either (sharp (shape M) c) (λ _. boundary-edge-mask (here c l e) (near c l e 1)) (λ h.
+          either (sharp (shape M) c) (λ _. boundary-edge-mask L (here c l e) (near c l e 1)) (λ h.
           let t = twin-below (shape M) c h in
           edge-related c (twin (at M) (corners M) c) l e t (twin-ends (at M) (corners M) c whole t .1 ∙ e))
 
@@ -174,7 +119,7 @@ module _ {R : ℕ → ℤ → ℤ → Type 0} (L : Linear R) where
       unfolding beforePoint sharp
       before-related c l e =
           let end : at M (next (prev c)) ≡ p = ap (at M) (next-prev c) ∙ e in
-          either (sharp (shape M) (prev c)) (λ _. boundary-edge-mask (here c l e) (near c l e 3)) (λ h.
+          either (sharp (shape M) (prev c)) (λ _. boundary-edge-mask L (here c l e) (near c l e 3)) (λ h.
           let t = twin-below (shape M) (prev c) h in
           edge-related (twin (at M) (corners M) (prev c)) (prev c) t (twin-ends (at M) (corners M) (prev c) whole t .0 ∙ end) (prev-below whole c l) end)
 

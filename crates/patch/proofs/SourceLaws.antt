@@ -15,7 +15,7 @@ use Rattle.patch.specs.Patch.{owner, kind, patchPoint, view, units, patc
 use Rattle.patch.specs.Lists.{Twins}
 use Rattle.patch.specs.PatchTables.{Tables}
 use Rattle.patch.specs.Written.{Source, pointFrom, numberFrom}
-use Rattle.patch.proofs.TableLaws.{weight-seen, accepted-whole, accepted-light, accepted-coordinates}
+use Rattle.patch.proofs.TableLaws.{weight-seen, accepted-whole, accepted-coordinates}
 
 pub face-listed : {M : IndexedMesh} → WellFormed M → (g : ℕ) → g < M .faces → 4 * g + 4 ≤ length (M .indices)
 face-listed a g l = omega (arith, a .sized .indices-are)
@@ -31,7 +31,6 @@ module _ {M : IndexedMesh} (a : WellFormed M) {weights : List ℕ} {points : Lis
     weighed = record {
       listed = listed;
       are = λ c l. t .weights-are c (rw whole at l) ∙ sym (weight-seen M whole c);
-      light = λ c l. rw (weight-seen M whole c) (accepted-light a c (rw whole at l));
     };
     twinned = twinned;
     pointed = λ c k l h. omega (arith, a .named c (rw whole at l));

@@ -11,7 +11,7 @@ use Rattle.finite.specs.Fold.{foldBelow, indicator, gather}
 use Rattle.finite.proofs.FoldLaws.{fold-ext, bool-cases}
 use Rattle.limits.specs.Limits.{maxCoordinate}
 use Rattle.mesh.specs.Fan.{anyAt, valence}
-use Rattle.patch.proofs.PointLaws.{bounds}
+use Rattle.mask.proofs.LinearLaws.{bounds}
 use Rattle.patch.proofs.Related.{sum-at}
 
 pub cond-size : (b : Bool) (z : ℤ) (B : ℕ) → natAbs z ≤ B → natAbs (cond b z (pos 0)) ≤ B

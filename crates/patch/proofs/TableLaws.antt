@@ -1,6 +1,6 @@
 -- The tables of an accepted mesh: what their entries are made of, the sizes of these, and the corner point from them.
 use mathlib.Core.Path.{_≡_, _∙_}
-use mathlib.Core.Bool.{Bool, false, cond}
+use mathlib.Core.Bool.{Bool, true, false, cond}
 use mathlib.Core.List.{List}
 use Prim.Native.Nat.{ℕ, _+_, _*_, _≤_, _<_}
 use native.Mathlib.Omega.{arith}
@@ -22,11 +22,11 @@ use Rattle.mesh.proofs.BoundaryLaws.{boundary-vertex}
 use Rattle.mesh.proofs.SizeLaws.{sized-indices}
 use Rattle.mesh.proofs.AcceptedLaws.{accepted-corners}
 use Rattle.mesh.specs.Tables.{Corners, Holds, Indices}
+use Rattle.mask.proofs.LinearLaws.{bounds, ring}
 use Rattle.patch.specs.Point.{Shape, View, x, ringTerm, sharpTerm, faces, inside, weight, sharp, sharpSum, ringSum, fixed, cornerPoint}
 use Rattle.patch.specs.Patch.{shape, view}
 use Rattle.patch.specs.Lists.{shapeOf, seen, Coordinates}
 use Rattle.patch.specs.PatchTables.{cornerFrom}
-use Rattle.patch.proofs.MaskLaws.{one, term, _⊞_, size}
 use Rattle.patch.proofs.NeighbourLaws.{sharp-neighbours}
 use Rattle.patch.proofs.SumLaws.{cond-size, gather-size}
 
@@ -41,7 +41,10 @@ module _ (S : View) (k : Corners (S .shape .n)) (small : (c : ℕ) → c < S .sh
 
   pub ring-term-size : (c : ℕ) → c < S .shape .n → natAbs (ringTerm S c) ≤ 5 * maxCoordinate
   ring-term-size c l =
-      omega (arith, size (term 2 (x S (next c)) ⊞ term 2 (x S (prev c)) ⊞ one (x S (across c))) ((turn-size 1 c l, turn-size 3 c l), turn-size 2 c l))
+      let e = x S (next c) in
+      let f = x S (prev c) in
+      let g = x S (across c) in
+      ring (bounds maxCoordinate) {e = e} {f = f} {g = g} {e' = e} {f' = f} {g' = g} (turn-size 1 c l) (turn-size 3 c l) (turn-size 2 c l)
 
   pub sharp-term-size : (c : ℕ) → c < S .shape .n → natAbs (sharpTerm S c) ≤ 5 * maxCoordinate
   sharp-term-size c l =
@@ -88,16 +91,6 @@ module _ {M : IndexedMesh} (a : WellFormed M) where
       (λ e. (a .used p l, omega (arith, a .boundary-high p l e)))
       (λ e. (a .used p l, omega (arith, a .inner-high p l e)))
 
-  -- a weight is at most twice eight faces
-  pub accepted-light : (c : ℕ) → c < corners M → weight (shape M) c ≤ 32
-  unfolding weight
-  accepted-light c l =
-      let p = at M c in
-      let b = a .named c l in
-      bool-cases (onBoundary (at M) (corners M) p)
-      (λ e. rw e (omega (arith, a .boundary-high p b e)))
-      (λ e. rw e (omega (arith, a .inner-high p b e)))
-
   module _ (k : ℕ) (axis : k < 3) where
     corner-small : (c : ℕ) → c < corners M → natAbs (x (view M k) c) ≤ maxCoordinate
     corner-small c l = a .coordinates (3 * at M c + k) (omega (arith, a .named c l))
@@ -131,6 +124,11 @@ module _ {M : IndexedMesh} (a : WellFormed M) where
         (omega (arith, abs-+ (x (view M k) (next n)) (x (view M k) (prev m)), corner-size 1 n (w .leaving .below), corner-size 3 m (w .entering .below)))
 
 -- ---- the weight of a corner and the corner point, from the entries of the tables
+-- a number or twice a number
+pub twice-most : (b : Bool) (m n : ℕ) → m ≤ n → cond b m (2 * m) ≤ 2 * n
+twice-most true m n l = omega arith
+twice-most false m n l = omega arith
+
 pub weight-entries : (G : Shape) (c p : ℕ) (i : Bool) (m : ℕ) → p ≡ G .at c → i ≡ inside G p → m ≡ faces G p → cond i m (2 * m) ≡ weight G c
 unfolding weight
 weight-entries G c p i m hp hi hm = rw (hi, hm, hp)

@@ -1,5 +1,4 @@
--- The definitions of the control points, from the masks to the list of patches; the last four are cited by private functions only.
-pub mod Mask
+-- The definitions of the control points, from the points of a corner to the list of patches; the last four are cited by private functions only.
 pub mod Point
 pub mod Patch
 pub mod Answer

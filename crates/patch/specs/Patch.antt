@@ -20,7 +20,7 @@ use Rattle.integer.specs.Nearest.{nearest}
 use Rattle.finite.specs.Filled.{filled}
 use Rattle.corner.specs.Corner.{turn}
 use Rattle.mesh.specs.IndexedMesh.{IndexedMesh, corners, at, tag, coordinate}
-use Rattle.patch.specs.Mask.{Fraction}
+use Rattle.mask.specs.Mask.{Fraction}
 use Rattle.patch.specs.Point.{Shape, View, Kind, corner, along, before, inner, point}
 
 unfoldable pub owner : ℕ → ℕ

@@ -4,7 +4,7 @@
 --   Sums S ring sharp  the two sums at each vertex
 --   cornerFrom ..      the corner point of a vertex, inside or not, of its tag, its number of faces, its coordinate and its two sums
 --   CornersAre M k points   coordinate k of the corner point of each vertex p of the mesh M, in units, stands at place 3p + k
---   Weights faces weights   the weights of all the corners are listed, and at most 32
+--   Weights faces weights   the weights of all the corners are listed
 --   Tables M weights points   the weight of each corner of the mesh M, and the corner point of each vertex
 use mathlib.Core.Path.{_≡_}
 use mathlib.Core.Bool.{Bool, cond, _||_}
@@ -16,7 +16,7 @@ use lib.ListN.{length, getD}
 use Rattle.limits.specs.Limits.{maxVertices, cornerTag}
 use Rattle.mesh.specs.IndexedMesh.{IndexedMesh, corners}
 use Rattle.mesh.specs.Tables.{Holds}
-use Rattle.patch.specs.Mask.{Fraction, smoothCornerMask, boundaryCornerMask, vertexMask}
+use Rattle.mask.specs.Mask.{Fraction, smoothCornerMask, boundaryCornerMask, vertexMask}
 use Rattle.patch.specs.Point.{Shape, View, faces, inside, weight, sharpSum, ringSum, cornerPoint}
 use Rattle.patch.specs.Patch.{shape, view, units}
 use Rattle.patch.specs.Lists.{shapeOf}
@@ -41,7 +41,6 @@ CornersAre M k points = (p : ℕ) → p < M .vertices → getD points (3 * p + k
 pub record Weights (faces weights : List ℕ) : Type 0 where
   pub listed : length faces ≤ length weights
   pub are : Holds 0 weights (length faces) (weight (shapeOf faces))
-  pub light : (c : ℕ) → c < length faces → weight (shapeOf faces) c ≤ 32
 
 pub record Tables (M : IndexedMesh) (weights : List ℕ) (points : List ℤ) : Type 0 where
   pub weights-are : Holds 0 weights (corners M) (weight (shape M))

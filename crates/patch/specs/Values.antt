@@ -1,17 +1,17 @@
 -- What the code makes a control point from: the four values of a face, and a fraction.
 --
 --   Small a, SeenFrom S c a   four values within the range of a coordinate; a has the values of the face of corner c, seen from there
---   fractionOf r       the fraction of the code's `Fraction`
 --   Within q, Made q r   the fraction q is within the range of the coordinates; r is the fraction q
 use mathlib.Core.Path.{_≡_}
 use Prim.Native.Nat.{ℕ, _*_, _≤_, _<_}
 use lib.IntN.{natAbs}
 use Rattle.limits.specs.Limits.{maxCoordinate}
 use Rattle.corner.specs.Corner.{next, across, prev}
-use Rattle.patch.specs.Mask.{Fraction}
+use Rattle.mask.specs.Mask.{Fraction}
+use Rattle.mask.specs.FractionOf.{fractionOf}
+use Rattle.mask.specs.declared.model.Fraction as code
+use Rattle.mask.specs.declared.model.FaceValues.{FaceValues}
 use Rattle.patch.specs.Point.{View, x}
-use Rattle.patch.specs.declared.fraction.Fraction as code
-use Rattle.patch.specs.declared.values.FaceValues.{FaceValues}
 
 pub record Small (a : FaceValues) : Type 0 where
   pub here : natAbs (a .here) ≤ maxCoordinate
@@ -25,9 +25,6 @@ pub record SeenFrom (S : View) (c : ℕ) (a : FaceValues) : Type 0 where
   pub next-is : a .next ≡ x S (next c)
   pub across-is : a .across ≡ x S (across c)
   pub prev-is : a .prev ≡ x S (prev c)
-
-abbrev pub fractionOf : code.Fraction → Fraction
-fractionOf r = record { num = r .num; den = r .den }
 
 pub record Within (q : Fraction) : Type 0 where
   pub positive : 0 < q .den

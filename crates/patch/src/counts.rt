@@ -2,12 +2,11 @@
 use crate::values::is_boundary;
 use crate::values::wide;
 ghost use mathlib.Core.Path.{_≡_};
-ghost use mathlib.Core.Bool.{cond};
-ghost use Prim.Native.Nat.{_+_, _*_, _≤_, _<_};
+ghost use Prim.Native.Nat.{_+_, _≤_, _<_};
 ghost use lib.ListN.{length, getD, set};
 ghost use Rattle.finite.specs.Fold.{indicator};
 ghost use Rattle.finite.specs.Filled.{filled};
-ghost use Rattle.limits.specs.Limits.{maxVertices, maxFaces};
+ghost use Rattle.limits.specs.Limits.{maxVertices};
 ghost use Rattle.mesh.specs.Tables.{Holds, Indices};
 ghost use Rattle.patch.specs.Point.{weight};
 ghost use Rattle.patch.specs.Lists.{shapeOf, Twins};
@@ -45,17 +44,6 @@ pub(crate) fn count_faces(faces: &[u16], twins: &[u16], valences: &mut [u16], le
     }
 }
 
-// The weight of a corner of a vertex, inside or not, with so many faces.
-fn corner_weight(inside: bool, valence: u16) -> u16
-    requires { ⌜ valence ≤ 4 * maxFaces ⌝ }
-    ensures { λ r. ⌜ r ≡ cond inside valence (2 * valence) ⌝ }
-{
-    if inside {
-        return valence;
-    }
-    valence + valence
-}
-
 // Writes the weight of each corner.
 pub(crate) fn fill_weights(faces: &[u16], valences: &[u16], leaving: &[u16], weights: &mut [u16])
     requires { ⌜ Indices (now faces) (length (now faces)) × Counts (shapeOf (now faces)) (now valences) (now leaving) ⌝ }
@@ -64,6 +52,6 @@ pub(crate) fn fill_weights(faces: &[u16], valences: &[u16], leaving: &[u16], wei
 {
     for c in 0..faces.len() {
         let p = wide(faces[c]);
-        weights[c] = corner_weight(leaving[p] == 0, valences[p]);
+        weights[c] = mask::corner_weight(leaving[p] == 0, valences[p]) as u16;
     }
 }

@@ -1,13 +1,10 @@
 // The edge and inner points that a corner of a face owns, from the lists of a mesh, its twins, and the table of weights.
-use crate::fraction::Fraction;
 use crate::fraction::point_in_units;
-use crate::mask::boundary_edge_mask;
-use crate::mask::edge_mask;
-use crate::mask::inner_mask;
 use crate::values::face_values;
 use crate::values::is_sharp;
 use crate::values::turned;
 use crate::values::wide;
+use mask::model::Fraction;
 ghost use mathlib.Core.Path.{_≡_};
 ghost use Prim.Native.Nat.{ℕ, _<_};
 ghost use lib.ListN.{length};
@@ -23,7 +20,7 @@ fn inner_point(positions: &[i32], faces: &[u16], weights: &[u16], k: usize, c: u
     requires { ⌜ Coordinates (now positions) (now faces) k × Weights (now faces) (now weights) × (c < length (now faces)) ⌝ }
     ensures { λ r. ⌜ Made (innerPoint (seen (now (positions .entry)) (now (faces .entry)) k) c) r ⌝ }
 {
-    inner_mask(weights[c] as u32, face_values(positions, faces, k, c))
+    mask::inner_mask(weights[c], face_values(positions, faces, k, c))
 }
 
 // The edge point on the inner edge of half-edge c, with twin d, near its start, coordinate k.
@@ -38,8 +35,8 @@ fn edge_point(
     requires { ⌜ Coordinates (now positions) (now faces) k × Weights (now faces) (now weights) × (c < length (now faces)) × (d < length (now faces)) ⌝ }
     ensures { λ r. ⌜ Made (edgePoint (seen (now (positions .entry)) (now (faces .entry)) k) c d) r ⌝ }
 {
-    edge_mask(
-        weights[c] as u32,
+    mask::edge_mask(
+        weights[c],
         face_values(positions, faces, k, c),
         face_values(positions, faces, k, d),
     )
@@ -59,7 +56,7 @@ fn along_point(
 {
     if is_sharp(twins, c) {
         let a = face_values(positions, faces, k, c);
-        return boundary_edge_mask(a.here, a.next);
+        return mask::boundary_edge_mask(a.here, a.next);
     }
     edge_point(positions, faces, weights, k, c, wide(twins[c]))
 }
@@ -79,7 +76,7 @@ fn before_point(
     let h = turned(3, c);
     if is_sharp(twins, h) {
         let a = face_values(positions, faces, k, c);
-        return boundary_edge_mask(a.here, a.prev);
+        return mask::boundary_edge_mask(a.here, a.prev);
     }
     edge_point(positions, faces, weights, k, wide(twins[h]), h)
 }

@@ -1,14 +1,10 @@
 // Control values before and after rounding: an exact fraction, and whole numbers of units.
+use mask::model::Fraction;
 ghost use mathlib.Core.Path.{_≡_};
 ghost use mathlib.Core.List.{[], _∷_};
+ghost use Rattle.mask.specs.FractionOf.{fractionOf};
 ghost use Rattle.patch.specs.Patch.{units};
-ghost use Rattle.patch.specs.Values.{fractionOf, Within};
-
-// A fraction of a micrometre.
-pub(crate) struct Fraction {
-    pub(crate) num: i64,
-    pub(crate) den: u32,
-}
+ghost use Rattle.patch.specs.Values.{Within};
 
 // A fraction within the range of the coordinates in units, rounded once.
 pub(crate) fn in_units(q: Fraction) -> i32

@@ -4,7 +4,6 @@ mod counts;
 mod face_point;
 mod fill;
 mod fraction;
-mod mask;
 mod sums;
 mod tables;
 mod values;
@@ -12,6 +11,7 @@ mod writer;
 
 use crate::fill::fill_patches;
 use limits::model::Checked;
+use limits::patches_short;
 ghost use mathlib.Core.Path.{_≡_};
 ghost use mathlib.Core.Bool.{cond};
 ghost use Prim.Native.Nat.{_*_};
@@ -23,7 +23,7 @@ ghost use Rattle.patch.specs.Answer.{Patched};
 fn own_refusal(f: usize, places: usize) -> u8
     ensures { λ r. ⌜ r ≡ cond (ltb places (48 * f)) 2 0 ⌝ }
 {
-    if places / 48 < f {
+    if patches_short(f, places) {
         return 2;
     }
     0

@@ -7,7 +7,7 @@ use crate::values::wide;
 ghost use mathlib.Core.Path.{_≡_};
 ghost use mathlib.Core.Bool.{cond};
 ghost use Prim.Native.Nat.{_+_, _*_, _≤_, _<_};
-ghost use lib.IntN.{pos, natAbs, _+ℤ_, _*ℤ_};
+ghost use lib.IntN.{pos, natAbs, _+ℤ_};
 ghost use lib.ListN.{length, getD, set};
 ghost use Rattle.limits.specs.Limits.{maxVertices, maxCoordinate};
 ghost use Rattle.mesh.specs.Tables.{Holds, Indices};
@@ -31,29 +31,20 @@ fn add_at(sums: &mut [i64], p: usize, x: i64)
     sums[p] = plus(sums[p], x);
 }
 
-// Twice the two neighbours of a corner, and the vertex across.
-fn ring_of(next: i64, prev: i64, across: i64) -> i64
-    requires { ⌜ (natAbs next ≤ maxCoordinate) × (natAbs prev ≤ maxCoordinate) × (natAbs across ≤ maxCoordinate) ⌝ }
-    ensures { λ r. ⌜ r ≡ pos 2 *ℤ next +ℤ pos 2 *ℤ prev +ℤ across ⌝ }
-{
-    2 * next + 2 * prev + across
-}
-
 // The term of corner c in the ring sum, of coordinate k.
 fn ring_term(positions: &[i32], faces: &[u16], k: usize, c: usize) -> i64
     requires { ⌜ Coordinates (now positions) (now faces) k × (c < length (now faces)) ⌝ }
     ensures { λ r. ⌜ r ≡ ringTerm (seen (now (positions .entry)) (now (faces .entry)) k) c ⌝ }
 {
-    let a = face_values(positions, faces, k, c);
-    ring_of(a.next, a.prev, a.across)
+    mask::ring_of(face_values(positions, faces, k, c))
 }
 
 // A number where b holds, else 0.
-fn value_if(b: bool, x: i64) -> i64
+fn value_if(b: bool, x: i32) -> i64
     ensures { λ r. ⌜ r ≡ cond b x (pos 0) ⌝ }
 {
     if b {
-        return x;
+        return x as i64;
     }
     0
 }

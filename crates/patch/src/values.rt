@@ -1,5 +1,6 @@
 // What is read from the lists of a mesh: corners of a face, coordinates, and which half-edges are sharp.
 use limits::model::Mesh;
+use mask::model::FaceValues;
 ghost use mathlib.Core.Path.{_≡_};
 ghost use Prim.Native.Nat.{_+_, _*_, _<_};
 ghost use lib.IntN.{pos};
@@ -8,14 +9,6 @@ ghost use Rattle.corner.specs.Corner.{turn};
 ghost use Rattle.mesh.specs.Tables.{vertexOf};
 ghost use Rattle.patch.specs.Lists.{seen, Coordinates, boundaryIn, sharpIn};
 ghost use Rattle.patch.specs.Values.{SeenFrom};
-
-// One coordinate of the four vertices of a face, seen from a corner: of its own vertex, of the next, the one across and the previous.
-pub(crate) struct FaceValues {
-    pub(crate) here: i64,
-    pub(crate) next: i64,
-    pub(crate) across: i64,
-    pub(crate) prev: i64,
-}
 
 // The number of a vertex, as an index.
 pub(crate) fn wide(x: u16) -> usize
@@ -33,15 +26,15 @@ pub(crate) fn turned(i: usize, c: usize) -> usize
 }
 
 // Number i of the positions.
-pub(crate) fn coordinate(positions: &[i32], i: usize) -> i64
+pub(crate) fn coordinate(positions: &[i32], i: usize) -> i32
     requires { ⌜ i < length (now positions) ⌝ }
     ensures { λ r. ⌜ r ≡ getD (now (positions .entry)) i (pos 0) ⌝ }
 {
-    positions[i] as i64
+    positions[i]
 }
 
 // Coordinate k of the vertex of corner c.
-pub(crate) fn corner_value(positions: &[i32], faces: &[u16], k: usize, c: usize) -> i64
+pub(crate) fn corner_value(positions: &[i32], faces: &[u16], k: usize, c: usize) -> i32
     requires { ⌜ (c < length (now faces)) × (3 * vertexOf (now faces) c + k < length (now positions)) ⌝ }
     ensures { λ r. ⌜ r ≡ getD (now (positions .entry)) (3 * vertexOf (now (faces .entry)) c + k) (pos 0) ⌝ }
 {

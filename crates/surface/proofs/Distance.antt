@@ -5,7 +5,7 @@ use lib.IntN.{pos, natAbs, _-ℤ_, _*ℤ_}
 use Rattle.integer.proofs.NearestLaws.{nearest-meets}
 use Rattle.sample.specs.Bernstein.{numerator, rounded}
 use Rattle.sample.proofs.SampleLaws.{rounded-near}
-use Rattle.patch.specs.Mask.{Fraction}
+use Rattle.mask.specs.Mask.{Fraction}
 use Rattle.patch.specs.Patch.{units}
 
 pub distance : (n a b : ℕ) → 0 < n → a ≤ n → b ≤ n → (g : ℕ → Fraction) (L : ℕ) (q : ℕ → ℕ)

@@ -24,7 +24,7 @@ use Rattle.sample.specs.Refusal.{placeOff}
 use Rattle.sample.specs.Answer.{sampled}
 use Rattle.sample.specs.declared.model.Point.{Point}
 use Rattle.sample.specs.declared.model.Sampled.{Sampled}
-use Rattle.patch.specs.Mask.{Fraction}
+use Rattle.mask.specs.Mask.{Fraction}
 use Rattle.patch.specs.Patch.{patchPoint, view}
 use Rattle.patch.specs.Answer.{listsShort}
 use Rattle.surface.specs.Renumbering.{Renumbering, Place, place, matching, onSide}

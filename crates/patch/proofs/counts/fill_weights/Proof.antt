@@ -3,7 +3,9 @@ use mathlib.Core.Path.{_≡_, refl, _∙_}
 use Prim.Native.Nat.{ℕ, _-_, _<_, _≤_}
 use native.Mathlib.Numerals.{add-one-le, add-one-dec}
 use native.Mathlib.Omega.{arith}
-use lib.ListN.{length, length-set}
+use lib.Dec.{eqb}
+use lib.ListN.{length, getD, length-set}
+use borrow.Author.Needs.{needs}
 use Rattle.finite.specs.Filled.{filled}
 use Rattle.finite.proofs.FilledLaws.{filled-start, filled-more, filled-all}
 use Rattle.limits.specs.Limits.{maxVertices}
@@ -11,7 +13,7 @@ use Rattle.mesh.specs.Tables.{vertexOf}
 use Rattle.patch.specs.Point.{Shape, weight}
 use Rattle.patch.specs.Lists.{shapeOf}
 use Rattle.patch.proofs.SumLaws.{valence-few}
-use Rattle.patch.proofs.TableLaws.{weight-entries}
+use Rattle.patch.proofs.TableLaws.{twice-most, weight-entries}
 use Rattle.patch.proofs.counts.fill_weights.Statement.{statement}
 use Rattle.patch.proofs.counts.fill_weights.Tie as tie
 
@@ -67,15 +69,22 @@ shared-slice-read-corner-weight-2 : tie.Need-shared-slice-read-corner-weight-2 I
 shared-slice-read-corner-weight-2 c = let w = c .before .before in omega (arith, named w, start w .pre .0 .1 .valences-listed)
 
 corner-weight-requires : tie.Need-corner-weight-requires Inv-loop μ-loop
-corner-weight-requires c κs =
-    let w = c .before .before in
-    let s = start w in
-    rw (s .pre .0 .1 .valences-are (p w) (named w))
-    (omega (arith, valence-few (vertexOf (s .args .faces .now)) (p w) (length (s .args .faces .now)), s .pre .0 .0 .few))
+corner-weight-requires c κs = search needs
 
 -- the end of a turn
 abbrev placed : tie.After-corner-weight Inv-loop μ-loop → tie.After-wide Inv-loop μ-loop
 placed c = c .before .before .before
+
+-- a weight is at most twice as many as there are corners
+cast-weights : tie.Need-cast-weights Inv-loop μ-loop
+cast-weights c =
+    let w = placed c in
+    let s = start w in
+    let n : ℕ = length (s .args .faces .now) in
+    let few : getD (s .args .valences .now) (p w) 0 ≤ n =
+    rw (s .pre .0 .1 .valences-are (p w) (named w)) (valence-few (vertexOf (s .args .faces .now)) (p w) n) in
+    rw (c .corner-weight .ensures)
+    (omega (arith, twice-most (eqb (getD (s .args .leaving .now) (p w) 0) 0) (getD (s .args .valences .now) (p w) 0) n few, s .pre .0 .0 .few))
 
 mul-weights : tie.Need-mul-weights Inv-loop μ-loop
 mul-weights c = let w = placed c in omega (arith, below w, start w .pre .0 .0 .few)
@@ -124,6 +133,7 @@ fill-weights-spec =
     mul-corner-weight-2
     shared-slice-read-corner-weight-2
     corner-weight-requires
+    cast-weights
     mul-weights
     slice-write-weights
     add-c

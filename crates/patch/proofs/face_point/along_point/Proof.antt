@@ -3,7 +3,7 @@ use mathlib.Core.Path.{_≡_, sym, _∙_}
 use borrow.Author.Needs.{needs}
 use Rattle.patch.specs.Point.{sharp, alongPoint}
 use Rattle.patch.specs.Lists.{shapeOf}
-use Rattle.patch.proofs.MaskLaws.{stored-is}
+use Rattle.patch.proofs.MaskLaws.{boundary-edge-made}
 use Rattle.patch.proofs.FacePointLaws.{sharp-in, twin-listed}
 use Rattle.patch.proofs.face_point.along_point.Statement.{statement}
 use Rattle.patch.proofs.face_point.along_point.Tie as tie
@@ -31,7 +31,7 @@ returns c =
     let v = c .before .before .before in
     let a = v .face-values .ensures in
     rw (tested (v .before .before) ∙ v .before .if1 .taken)
-    (rw (stored-is _ _ (a .small .here) (a .here-is), stored-is _ _ (a .small .next) (a .next-is)) at (c .boundary-edge-mask .ensures))
+    (boundary-edge-made (c .boundary-edge-mask .result) _ _ _ _ (a .small .here) (a .small .next) (a .here-is) (a .next-is) (c .boundary-edge-mask .ensures))
 
 mul-wide : tie.Need-mul-wide
 mul-wide c = search needs

@@ -8,7 +8,7 @@ use Rattle.mesh.proofs.CornerLaws.{prev-below}
 use Rattle.mesh.specs.Tables.{twinOf}
 use Rattle.patch.specs.Point.{View, sharp, edgePoint, beforePoint}
 use Rattle.patch.specs.Lists.{seen, shapeOf, sharpIn}
-use Rattle.patch.proofs.MaskLaws.{stored-is}
+use Rattle.patch.proofs.MaskLaws.{boundary-edge-made}
 use Rattle.patch.proofs.FacePointLaws.{made-is, sharp-in, twin-listed}
 use Rattle.patch.proofs.face_point.before_point.Statement.{statement}
 use Rattle.patch.proofs.face_point.before_point.Tie as tie
@@ -51,7 +51,7 @@ returns c =
     let v = c .before .before .before in
     let a = v .face-values .ensures in
     rw (tested (v .before .before) ∙ v .before .if1 .taken)
-    (rw (stored-is _ _ (a .small .here) (a .here-is), stored-is _ _ (a .small .prev) (a .prev-is)) at (c .boundary-edge-mask .ensures))
+    (boundary-edge-made (c .boundary-edge-mask .result) _ _ _ _ (a .small .here) (a .small .prev) (a .here-is) (a .prev-is) (c .boundary-edge-mask .ensures))
 
 mul-wide : tie.Need-mul-wide
 mul-wide c = search needs

@@ -1,6 +1,6 @@
 -- `edge_point` meets its contract: it passes the mask the weight and the values that the edge point names.
-use native.Mathlib.Omega.{arith}
 use borrow.Author.Needs.{needs}
+use Rattle.patch.proofs.MaskLaws.{made, edge-sized}
 use Rattle.patch.proofs.FacePointLaws.{made-is, edge-seen}
 use Rattle.patch.proofs.face_point.edge_point.Statement.{statement}
 use Rattle.patch.proofs.face_point.edge_point.Tie as tie
@@ -14,9 +14,6 @@ mul-edge-mask c = search needs
 shared-slice-read-edge-mask : tie.Need-shared-slice-read-edge-mask
 shared-slice-read-edge-mask c = search needs
 
-cast-edge-mask : tie.Need-cast-edge-mask
-cast-edge-mask c = omega (arith, c .shared-slice-known3 .given (c .before .before .before .args .c))
-
 face-values-requires : tie.Need-face-values-requires
 face-values-requires c κs = search needs
 
@@ -24,20 +21,17 @@ face-values-requires-2 : tie.Need-face-values-requires-2
 face-values-requires-2 c κs = search needs
 
 edge-mask-requires : tie.Need-edge-mask-requires
-edge-mask-requires c κs =
-    let s = start (c .before) in
-    let w = s .pre .1 in
-    (rw (w .are (s .args .c) (s .pre .2)) (w .light (s .args .c) (s .pre .2)), c .before .face-values .ensures .small, c .face-values2 .ensures .small)
+edge-mask-requires c κs = search needs
 
 returns : tie.Need-returns
 returns c =
     let w = c .before in
     let v = w .before in
     let s = start v in
-    made-is
-    (edge-seen _ (s .args .c) (s .args .d) _ (v .face-values .result) (w .face-values2 .result) (s .pre .1 .are (s .args .c) (s .pre .2))
-    (v .face-values .ensures) (w .face-values2 .ensures))
-    (c .edge-mask .ensures)
+    let a = v .face-values in
+    let b = w .face-values2 in
+    made-is (edge-seen _ (s .args .c) (s .args .d) _ (a .result) (b .result) (s .pre .1 .are (s .args .c) (s .pre .2)) (a .ensures) (b .ensures))
+    (made (c .edge-mask .result) (edge-sized _ (a .result) (b .result) (a .ensures .small) (b .ensures .small)) (c .edge-mask .ensures))
 
 pub edge-point-spec : {M : Type 1} → statement M
 edge-point-spec =
@@ -45,7 +39,6 @@ edge-point-spec =
     (tie.spec
     mul-edge-mask
     shared-slice-read-edge-mask
-    cast-edge-mask
     face-values-requires
     face-values-requires-2
     edge-mask-requires

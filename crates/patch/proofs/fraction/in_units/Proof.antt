@@ -12,7 +12,7 @@ use Rattle.integer.proofs.Laws.{abs-*, sfits-abs}
 use Rattle.integer.proofs.NearestLaws.{nearest-bounded}
 use Rattle.limits.specs.Limits.{maxCoordinate}
 use Rattle.patch.specs.Patch.{units}
-use Rattle.patch.specs.Values.{fractionOf}
+use Rattle.mask.specs.FractionOf.{fractionOf}
 use Rattle.patch.proofs.fraction.in_units.Statement.{statement}
 use Rattle.patch.proofs.fraction.in_units.Tie as tie
 

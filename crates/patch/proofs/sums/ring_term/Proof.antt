@@ -8,7 +8,7 @@ use Rattle.patch.proofs.sums.ring_term.Statement.{statement}
 use Rattle.patch.proofs.sums.ring_term.Tie as tie
 
 abbrev viewed : tie.After-ring-of → tie.After-face-values
-viewed c = c .before .before .before .before
+viewed c = c .before
 
 face-values-requires : tie.Need-face-values-requires
 face-values-requires c κs = search needs

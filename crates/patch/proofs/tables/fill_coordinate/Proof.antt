@@ -79,8 +79,8 @@ module _ (c : tie.After-corner-point-arg2 Inv-loop μ-loop) where
   abbrev head : tie.At-loop Inv-loop μ-loop
   head = turn .before
 
-  value-read : toZ w64 (ofZ w64 (valued .coordinate .result)) ≡ S head .value (p head)
-  value-read = read-back w64 (valued .coordinate .ok) (valued .coordinate .ensures)
+  value-read : toZ w32 (ofZ w32 (valued .coordinate .result)) ≡ S head .value (p head)
+  value-read = read-back w32 (valued .coordinate .ok) (valued .coordinate .ensures)
 
   faces-read : getD (start head .args .valences .now) (p head) 0 ≡ faces (S head .shape) (p head)
   faces-read = start head .pre .1 .1 .valences-are (p head) (few turn) ∙ faces-seen (mesh head) (accepted-whole (accepted head)) (p head)

@@ -3,7 +3,7 @@ use mathlib.Core.Path.{ap, _∙_}
 use Prim.Native.Nat.{ℕ, _+_, _*_}
 use lib.IntN.{pos}
 use lib.ListN.{getD}
-use mir.Syntax.{w64}
+use mir.Syntax.{w32}
 use borrow.Author.Needs.{needs}
 use Rattle.integer.proofs.Laws.{read-back}
 use Rattle.patch.proofs.values.corner_value.Statement.{statement}
@@ -31,7 +31,7 @@ returns : tie.Need-returns
 returns c =
     let w = c .before in
     let a = w .before .before .before .args in
-    read-back w64 (c .coordinate .ok) (c .coordinate .ensures ∙ ap (λ (p : ℕ). getD (a .positions .now) (3 * p + a .k) (pos 0)) (w .wide .ensures))
+    read-back w32 (c .coordinate .ok) (c .coordinate .ensures ∙ ap (λ (p : ℕ). getD (a .positions .now) (3 * p + a .k) (pos 0)) (w .wide .ensures))
 
 pub corner-value-spec : {M : Type 1} → statement M
 corner-value-spec =

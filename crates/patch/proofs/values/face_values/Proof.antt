@@ -3,7 +3,7 @@ use mathlib.Core.Path.{_≡_, ap, _∙_}
 use Prim.Native.Nat.{ℕ, _+_, _*_, _<_, _≤_}
 use lib.IntN.{ℤ, natAbs}
 use lib.ListN.{length}
-use mir.Syntax.{w64}
+use mir.Syntax.{w32}
 use borrow.Author.Needs.{needs}
 use Rattle.integer.proofs.Laws.{read-back}
 use Rattle.limits.specs.Limits.{maxCoordinate}
@@ -67,10 +67,10 @@ returns c =
     let across = c .before .before in
     let next = across .before .before in
     let here = next .before .before in
-    let e₀ = read-back w64 (here .corner-value .ok) (here .corner-value .ensures) in
-    let e₁ = read-back w64 (next .corner-value2 .ok) (next .corner-value2 .ensures ∙ ap (x (S s)) (next .before .turned .ensures)) in
-    let e₂ = read-back w64 (across .corner-value3 .ok) (across .corner-value3 .ensures ∙ ap (x (S s)) (across .before .turned2 .ensures)) in
-    let e₃ = read-back w64 (c .corner-value4 .ok) (c .corner-value4 .ensures ∙ ap (x (S s)) (c .before .turned3 .ensures)) in
+    let e₀ = read-back w32 (here .corner-value .ok) (here .corner-value .ensures) in
+    let e₁ = read-back w32 (next .corner-value2 .ok) (next .corner-value2 .ensures ∙ ap (x (S s)) (next .before .turned .ensures)) in
+    let e₂ = read-back w32 (across .corner-value3 .ok) (across .corner-value3 .ensures ∙ ap (x (S s)) (across .before .turned2 .ensures)) in
+    let e₃ = read-back w32 (c .corner-value4 .ok) (c .corner-value4 .ensures ∙ ap (x (S s)) (c .before .turned3 .ensures)) in
     record {
       small = record {
         here = rw e₀ (s .pre .0 .small (s .args .c) (s .pre .1));

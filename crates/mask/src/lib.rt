@@ -1,0 +1,117 @@
+//! The masks, of one coordinate: exact fractions of the values that a mask names, for all values; and what the corner masks are chosen by.
+pub mod model;
+
+use crate::model::FaceValues;
+use crate::model::Fraction;
+use limits::model::Mesh;
+ghost use mathlib.Core.Path.{_≡_};
+ghost use mathlib.Core.Bool.{cond, _||_};
+ghost use Prim.Native.Nat.{_*_};
+ghost use lib.Dec.{eqb};
+ghost use lib.IntN.{pos, _+ℤ_, _*ℤ_};
+ghost use Rattle.limits.specs.Limits.{cornerTag};
+ghost use Rattle.mask.specs.Mask.{innerMask, edgeMask, boundaryEdgeMask, smoothCornerMask, boundaryCornerMask, vertexMask};
+ghost use Rattle.mask.specs.FractionOf.{fractionOf};
+
+// The inner point at a corner of weight w. Writes: nothing. Refuses: nothing.
+pub fn inner_mask(w: u16, a: FaceValues) -> Fraction
+    ensures { λ r. ⌜ fractionOf r ≡ innerMask w (a .here) (a .next) (a .prev) (a .across) ⌝ }
+{
+    Fraction {
+        num: w as i64 * a.here as i64 + 2 * a.next as i64 + 2 * a.prev as i64 + a.across as i64,
+        den: w as u32 + 5,
+    }
+}
+
+// The edge point on an inner edge near its start, of weight w: a is seen from the start, b from the end in the other face.
+// Writes: nothing. Refuses: nothing.
+pub fn edge_mask(w: u16, a: FaceValues, b: FaceValues) -> Fraction
+    ensures { λ r. ⌜ fractionOf r ≡ edgeMask w (a .here) (a .next) (a .prev) (b .across) (a .across) (b .prev) ⌝ }
+{
+    let w2 = 2 * w as u32;
+    Fraction {
+        num: w2 as i64 * a.here as i64
+            + 4 * a.next as i64
+            + 2 * a.prev as i64
+            + 2 * b.across as i64
+            + a.across as i64
+            + b.prev as i64,
+        den: w2 + 10,
+    }
+}
+
+// The edge point near p on the sharp half-edge between p and q. Writes: nothing. Refuses: nothing.
+pub fn boundary_edge_mask(p: i32, q: i32) -> Fraction
+    ensures { λ r. ⌜ fractionOf r ≡ boundaryEdgeMask p q ⌝ }
+{
+    Fraction {
+        num: 2 * p as i64 + q as i64,
+        den: 3,
+    }
+}
+
+// The corner point of an inner vertex with n faces, from its ring sum s. Writes: nothing. Refuses: nothing.
+pub fn smooth_corner(n: u8, p: i32, s: i32) -> Fraction
+    ensures { λ r. ⌜ fractionOf r ≡ smoothCornerMask n p s ⌝ }
+{
+    let m = n as u32;
+    Fraction {
+        num: (m * m) as i64 * p as i64 + s as i64,
+        den: m * (m + 5),
+    }
+}
+
+// The corner point of a boundary vertex that is its own. Writes: nothing. Refuses: nothing.
+pub fn vertex_corner(p: i32) -> Fraction
+    ensures { λ r. ⌜ fractionOf r ≡ vertexMask p ⌝ }
+{
+    Fraction {
+        num: p as i64,
+        den: 1,
+    }
+}
+
+// The corner point of another boundary vertex, from the sum s of its two boundary neighbours. Writes: nothing. Refuses: nothing.
+pub fn boundary_corner(p: i32, s: i32) -> Fraction
+    ensures { λ r. ⌜ fractionOf r ≡ boundaryCornerMask p s ⌝ }
+{
+    Fraction {
+        num: 4 * p as i64 + s as i64,
+        den: 6,
+    }
+}
+
+// Whether the corner point of a boundary vertex with so many faces is the vertex itself. Writes: nothing. Refuses: nothing.
+pub fn fixed(tag: u8, faces: u16) -> bool
+    ensures { λ r. ⌜ r ≡ (eqb tag cornerTag || eqb faces 1) ⌝ }
+{
+    if tag == Mesh::CORNER_TAG {
+        return true;
+    }
+    faces == 1
+}
+
+// The weight of a corner of a vertex, inside or not, with so many faces. Writes: nothing. Refuses: nothing.
+pub fn corner_weight(inside: bool, valence: u16) -> u32
+    ensures { λ r. ⌜ r ≡ cond inside valence (2 * valence) ⌝ }
+{
+    let n = valence as u32;
+    if inside {
+        return n;
+    }
+    n + n
+}
+
+// Twice each of two values, and a third.
+fn ring_sum(next: i32, prev: i32, across: i32) -> i64
+    ensures { λ r. ⌜ r ≡ pos 2 *ℤ next +ℤ pos 2 *ℤ prev +ℤ across ⌝ }
+{
+    2 * next as i64 + 2 * prev as i64 + across as i64
+}
+
+// Twice the two neighbours of a corner, and the vertex across. Writes: nothing. Refuses: nothing.
+pub fn ring_of(a: FaceValues) -> i64
+    ensures { λ r. ⌜ r ≡ pos 2 *ℤ a .next +ℤ pos 2 *ℤ a .prev +ℤ a .across ⌝ }
+{
+    ring_sum(a.next, a.prev, a.across)
+}
