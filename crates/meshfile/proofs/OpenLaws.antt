@@ -27,7 +27,7 @@ use Rattle.meshfile.specs.declared.model.Opened.{Opened}
 use Rattle.meshfile.specs.declared.model.Opened.the-variants.{Refused as OpenRefused}
 use Rattle.decoding.specs.Decoding.{headerOf, decoded, placesShort, decodeRefusal, FileDecoded}
 use Rattle.meshfile.specs.Answer.{stepsOff, openRefusal, FileOpened}
-use Rattle.meshfile.specs.Private.{tessellateRefusal, Tessellated}
+use Rattle.meshfile.specs.Tessellated.{tessellateRefusal, Tessellated}
 use Rattle.decoding.proofs.FileLaws.{Whole, file-whole, decode-file, decode-read, take-filled}
 
 -- the sizes of a mesh and of its lists are in order

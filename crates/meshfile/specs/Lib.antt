@@ -1,3 +1,3 @@
 -- The file, opened (rule F4).
 pub mod Answer
-pub mod Private
+pub mod Tessellated

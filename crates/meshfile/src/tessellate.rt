@@ -15,7 +15,7 @@ ghost use Rattle.finite.specs.Table.{row};
 ghost use Rattle.mesh.specs.IndexedMesh.{indexed};
 ghost use Rattle.mesh.specs.WellFormed.{Sized};
 ghost use Rattle.mesh.specs.Answer.{meshRefusal};
-ghost use Rattle.meshfile.specs.Private.{Tessellated};
+ghost use Rattle.meshfile.specs.Tessellated.{Tessellated};
 
 // The number of the mesh's refusal; 14 for none, as N is off its range.
 fn steps_refusal(v: usize, f: usize, positions: &[i32], tags: &[u8], faces: &[u16]) -> u8

@@ -14,7 +14,7 @@ use Rattle.limits.specs.Limits.{maxFaces}
 use Rattle.mesh.specs.IndexedMesh.{IndexedMesh, indexed}
 use Rattle.mesh.specs.Answer.{countsOf, checked, meshRefusal}
 use Rattle.patch.specs.Answer.{patchesShort, patchRows}
-use Rattle.meshfile.specs.Private.{tessellateRefusal}
+use Rattle.meshfile.specs.Tessellated.{tessellateRefusal}
 use Rattle.meshfile.proofs.OpenLaws.{patches-short, steps-off, steps-on, refused-mesh}
 use Rattle.meshfile.proofs.tessellate.tessellate.Statement.{statement}
 use Rattle.meshfile.proofs.tessellate.tessellate.Tie as tie
