@@ -1,20 +1,22 @@
--- What a passed test of sizes gives, and a test of three corners as one after the other.
-use mathlib.Core.Path.{_≡_}
-use mathlib.Core.Bool.{Bool, false, not, _||_, or-assoc}
+-- What a passed test of sizes gives.
+use mathlib.Core.Path.{_≡_, ap}
+use mathlib.Core.Bool.{false, not}
 use mathlib.Core.List.{List}
 use Prim.Native.Nat.{ℕ, _*_, _<_}
 use native.Mathlib.Nat.{lt-of-lt-of-le}
 use native.Mathlib.Omega.{arith}
-use lib.Dec.{eqb}
+use lib.Dec.{eqb, ltb, leb}
+use lib.IntN.{natAbs}
 use lib.ListN.{length}
 use borrow.Author.Tests.{eqb-true, not-false}
-use Rattle.finite.specs.Fold.{foldBelow, anyBelow}
+use Rattle.finite.specs.Fold.{anyBelow}
 use Rattle.finite.proofs.AnyAll.{or-false}
-use Rattle.limits.specs.Limits.{minVertices, maxVertices, minFaces, maxFaces}
+use Rattle.limits.specs.Limits.{minVertices, maxVertices, minFaces, maxFaces, maxCoordinate, cornerTag}
 use Rattle.limits.specs.Range.{off, sizesOff}
 use Rattle.limits.proofs.RangeLaws.{off-false}
-use Rattle.mesh.specs.IndexedMesh.{IndexedMesh, corners, at}
-use Rattle.mesh.specs.Refusal.{meshSizesOff}
+use Rattle.entries.specs.Entries.{anyCoordinateOff, anyTagOff, anyVertexOff, vertexAgain, anyVertexTwice}
+use Rattle.mesh.specs.IndexedMesh.{IndexedMesh, corners, at, tag, coordinate}
+use Rattle.mesh.specs.Refusal.{meshSizesOff, coordinateOff, tagOff, vertexOff, vertexTwice}
 use Rattle.mesh.specs.WellFormed.{Sized, MeshSized}
 use Rattle.mesh.specs.Tables.{Corners, Indices}
 
@@ -53,6 +55,20 @@ sized-indices M s named = record {
   named = λ c l. lt-of-lt-of-le (named c l) (s .vertices-high);
 }
 
-pub any-of-three : (p : ℕ → Bool) → anyBelow p 3 ≡ (p 0 || (p 1 || p 2))
-unfolding foldBelow
-any-of-three p = or-assoc (p 0) (p 1) (p 2)
+-- ---- lists of the right lengths: a test of a whole list is the mesh's
+module _ (M : IndexedMesh) (s : MeshSized M) where
+  pub coordinates-sized : anyCoordinateOff (M .positions) ≡ coordinateOff M
+  unfolding coordinateOff
+  coordinates-sized = ap (anyBelow (λ i. ltb maxCoordinate (natAbs (coordinate M i)))) (s .positions-are)
+
+  pub tags-sized : anyTagOff (M .tags) ≡ tagOff M
+  unfolding tagOff
+  tags-sized = ap (anyBelow (λ p. ltb cornerTag (tag M p))) (s .tags-are)
+
+  pub vertices-sized : anyVertexOff (M .vertices) (M .indices) ≡ vertexOff M
+  unfolding vertexOff
+  vertices-sized = ap (anyBelow (λ c. leb (M .vertices) (at M c))) (s .indices-are)
+
+  pub twice-sized : anyVertexTwice (M .indices) ≡ vertexTwice M
+  unfolding vertexTwice
+  twice-sized = ap (anyBelow (λ c. anyBelow (vertexAgain (M .indices) c) 3)) (omega (arith, s .indices-are))

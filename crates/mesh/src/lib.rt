@@ -1,7 +1,6 @@
 // The mesh: its record with the limits, the corners of a face, and the check of a whole mesh with its twins.
 mod chain;
 mod count;
-mod entries;
 mod fan;
 mod phases;
 mod vertex;

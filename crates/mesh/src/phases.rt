@@ -1,16 +1,16 @@
 // The groups of causes, in the order of the table, and the counts of a mesh that meets none.
 use crate::chain::link_corners;
 use crate::count::count_edges;
-use crate::entries::any_coordinate_off;
-use crate::entries::any_tag_off;
-use crate::entries::any_vertex_off;
-use crate::entries::any_vertex_twice;
 use crate::fan::any_fan_broken;
 use crate::vertex::any_inner_tagged;
 use crate::vertex::any_unused;
 use crate::vertex::any_valence_off;
 use crate::vertex::count_corners;
 use crate::vertex::mark_boundary;
+use entries::any_coordinate_off;
+use entries::any_tag_off;
+use entries::any_vertex_off;
+use entries::any_vertex_twice;
 use limits::model::Mesh;
 use limits::sizes_off;
 use limits::twins_short;
@@ -47,16 +47,16 @@ fn entry_refusal(
     ensures { λ r. ⌜ EntriesMet (indexed v f (now (positions .entry)) (now (tags .entry)) (now (faces .entry))) (now (head .exit)) (now (link .exit)) r ⌝ }
 {
     let n = 4 * f;
-    if any_coordinate_off(positions, 3 * v) {
+    if any_coordinate_off(positions) {
         return 3;
     }
-    if any_tag_off(tags, v) {
+    if any_tag_off(tags) {
         return 4;
     }
-    if any_vertex_off(faces, n, v) {
+    if any_vertex_off(faces, v) {
         return 5;
     }
-    if any_vertex_twice(faces, n) {
+    if any_vertex_twice(faces) {
         return 6;
     }
     if link_corners(faces, n, head, link) {

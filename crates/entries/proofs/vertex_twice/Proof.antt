@@ -2,22 +2,20 @@
 use mathlib.Core.Path.{_≡_, refl, sym, ap, _∙_}
 use mathlib.Core.Bool.{Bool, true, false}
 use Prim.Native.Nat.{ℕ, suc}
-use native.Mathlib.Nat.{lt-of-lt-of-le}
 use native.Mathlib.Omega.{arith}
 use lib.Dec.{eqb}
+use lib.ListN.{getD}
 use borrow.Author.Tests.{eq-eqb, ne-eqb}
 use Rattle.finite.proofs.AnyAll.{any-found, or-no}
 use Rattle.corner.specs.Corner.{turn, next, across}
-use Rattle.mesh.proofs.SizeLaws.{indices-corners, any-of-three}
-use Rattle.mesh.proofs.CornerLaws.{prev-below}
-use Rattle.mesh.proofs.entries.vertex_twice.Statement.{statement}
-use Rattle.mesh.proofs.entries.vertex_twice.Tie as tie
-use Rattle.mesh.specs.Tables.{vertexOf}
+use Rattle.entries.proofs.CornerTests.{any-of-three}
+use Rattle.entries.proofs.vertex_twice.Statement.{statement}
+use Rattle.entries.proofs.vertex_twice.Tie as tie
 
 -- ---- at the entry: the vertices of the corners, and whether the corner i + 1 further has the vertex of c
 module _ (s : tie.Start) where
   abbrev vertex : ℕ → ℕ
-  vertex = vertexOf (s .args .faces .now)
+  vertex d = getD (s .args .faces .now) d 0
 
   abbrev again : ℕ → Bool
   again i = eqb (vertex (turn (suc i) (s .args .c))) (vertex (s .args .c))
@@ -93,10 +91,7 @@ mul-result : tie.Need-mul-result
 mul-result c = omega arith
 
 shared-slice-read-result : tie.Need-shared-slice-read-result
-shared-slice-read-result c =
-    let s = start₂ (c .before .before) in
-    let i = s .pre .0 in
-    rw (c .before .prev-corner .ensures) (lt-of-lt-of-le (prev-below (indices-corners i) (s .args .c) (s .pre .1)) (i .listed))
+shared-slice-read-result c = omega (arith, c .before .prev-corner .ensures)
 
 returns-3 : tie.Need-returns-3
 returns-3 c =

@@ -14,14 +14,14 @@ use borrow.Author.Needs.{needs}
 use Rattle.finite.specs.Fold.{anyBelow}
 use Rattle.finite.proofs.AnyAll.{any-start, any-more, any-found, any-not}
 use Rattle.limits.specs.Limits.{maxCoordinate}
-use Rattle.mesh.proofs.entries.any_coordinate_off.Statement.{statement}
-use Rattle.mesh.proofs.entries.any_coordinate_off.Tie as tie
+use Rattle.entries.proofs.any_coordinate_off.Statement.{statement}
+use Rattle.entries.proofs.any_coordinate_off.Tie as tie
 
 abbrev Inv-loop : tie.InvT-loop
-Inv-loop positions count i₀ i = (i ≤ count) × (anyBelow (λ j. ltb maxCoordinate (natAbs (getD positions j (pos 0)))) i ≡ false)
+Inv-loop positions i₀ i-end i = (i ≤ i-end) × (anyBelow (λ j. ltb maxCoordinate (natAbs (getD positions j (pos 0)))) i ≡ false)
 
 abbrev μ-loop : tie.MeasureT-loop
-μ-loop positions count i₀ i = count - i
+μ-loop positions i₀ i-end i = i-end - i
 
 -- ---- the coordinate at i is read and tested
 module _ (c : tie.After-coordinate-off Inv-loop μ-loop) where

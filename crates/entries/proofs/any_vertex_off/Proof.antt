@@ -5,19 +5,19 @@ use Prim.Native.Nat.{ℕ, _-_, _<_, _≤_}
 use native.Mathlib.Numerals.{add-one-le, add-one-dec}
 use native.Mathlib.Omega.{arith}
 use lib.Dec.{leb}
+use lib.ListN.{getD}
 use borrow.Author.Needs.{needs}
 use borrow.Author.Tests.{le-leb, lt-leb}
 use Rattle.finite.specs.Fold.{anyBelow}
 use Rattle.finite.proofs.AnyAll.{any-start, any-more, any-found, any-not}
-use Rattle.mesh.proofs.entries.any_vertex_off.Statement.{statement}
-use Rattle.mesh.proofs.entries.any_vertex_off.Tie as tie
-use Rattle.mesh.specs.Tables.{vertexOf}
+use Rattle.entries.proofs.any_vertex_off.Statement.{statement}
+use Rattle.entries.proofs.any_vertex_off.Tie as tie
 
 abbrev Inv-loop : tie.InvT-loop
-Inv-loop faces n v c₀ c = (c ≤ n) × (anyBelow (λ d. leb v (vertexOf faces d)) c ≡ false)
+Inv-loop faces v c₀ c-end c = (c ≤ c-end) × (anyBelow (λ d. leb v (getD faces d 0)) c ≡ false)
 
 abbrev μ-loop : tie.MeasureT-loop
-μ-loop faces n v c₀ c = n - c
+μ-loop faces v c₀ c-end c = c-end - c
 
 -- ---- the vertex of corner c is read
 module _ (c : tie.After-wide Inv-loop μ-loop) where
@@ -29,7 +29,7 @@ module _ (c : tie.After-wide Inv-loop μ-loop) where
 
   -- what is asked of it
   abbrev off : Bool
-  off = leb (start .args .v) (vertexOf (start .args .faces .now) (passing .before .loop .c))
+  off = leb (start .args .v) (getD (start .args .faces .now) (passing .before .loop .c) 0)
 
   above : start .args .v ≤ c .wide .result → true ≡ off
   above h = sym (le-leb _ _ (subst (λ (x : ℕ). start .args .v ≤ x) (c .wide .ensures) h))

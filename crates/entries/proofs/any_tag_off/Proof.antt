@@ -11,14 +11,14 @@ use borrow.Author.Tests.{lt-ltb, le-ltb}
 use Rattle.finite.specs.Fold.{anyBelow}
 use Rattle.finite.proofs.AnyAll.{any-start, any-more, any-found, any-not}
 use Rattle.limits.specs.Limits.{cornerTag}
-use Rattle.mesh.proofs.entries.any_tag_off.Statement.{statement}
-use Rattle.mesh.proofs.entries.any_tag_off.Tie as tie
+use Rattle.entries.proofs.any_tag_off.Statement.{statement}
+use Rattle.entries.proofs.any_tag_off.Tie as tie
 
 abbrev Inv-loop : tie.InvT-loop
-Inv-loop tags v p₀ p = (p ≤ v) × (anyBelow (λ q. ltb cornerTag (getD tags q 0)) p ≡ false)
+Inv-loop tags p₀ p-end p = (p ≤ p-end) × (anyBelow (λ q. ltb cornerTag (getD tags q 0)) p ≡ false)
 
 abbrev μ-loop : tie.MeasureT-loop
-μ-loop tags v p₀ p = v - p
+μ-loop tags p₀ p-end p = p-end - p
 
 loop-holds : tie.Need-loop-holds Inv-loop μ-loop
 loop-holds c = search (any-start, needs)

@@ -1,23 +1,24 @@
 -- `any_vertex_twice` meets its contract: the corners passed have vertices of their own in their faces.
 use mathlib.Core.Path.{_≡_}
 use mathlib.Core.Bool.{false}
-use Prim.Native.Nat.{suc, _-_, _≤_}
+use Prim.Native.Nat.{_-_, _≤_}
 use native.Mathlib.Numerals.{add-one-dec}
 use native.Mathlib.Omega.{arith}
-use lib.Dec.{eqb}
 use borrow.Author.Needs.{needs}
 use Rattle.finite.specs.Fold.{anyBelow}
 use Rattle.finite.proofs.AnyAll.{any-start, any-more, any-found, any-not}
-use Rattle.corner.specs.Corner.{turn}
-use Rattle.mesh.proofs.entries.any_vertex_twice.Statement.{statement}
-use Rattle.mesh.proofs.entries.any_vertex_twice.Tie as tie
-use Rattle.mesh.specs.Tables.{vertexOf}
+use Rattle.entries.specs.Entries.{vertexAgain}
+use Rattle.entries.proofs.any_vertex_twice.Statement.{statement}
+use Rattle.entries.proofs.any_vertex_twice.Tie as tie
 
 abbrev Inv-loop : tie.InvT-loop
-Inv-loop faces n c₀ c = (c ≤ n) × (anyBelow (λ d. anyBelow (λ i. eqb (vertexOf faces (turn (suc i) d)) (vertexOf faces d)) 3) c ≡ false)
+Inv-loop faces n c₀ c = (c ≤ n) × (anyBelow (λ d. anyBelow (vertexAgain faces d) 3) c ≡ false)
 
 abbrev μ-loop : tie.MeasureT-loop
 μ-loop faces n c₀ c = n - c
+
+mul-n : tie.Need-mul-n Inv-loop μ-loop
+mul-n c = omega arith
 
 loop-holds : tie.Need-loop-holds Inv-loop μ-loop
 loop-holds c = search (any-start, needs)
@@ -46,6 +47,7 @@ any-vertex-twice-spec =
     (tie.spec
     Inv-loop
     μ-loop
+    mul-n
     loop-holds
     vertex-twice-requires
     returns

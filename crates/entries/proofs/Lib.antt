@@ -1,0 +1,2 @@
+-- The laws of the crate's own proofs.
+pub mod CornerTests

@@ -1,0 +1,2 @@
+-- What the tests of the entries say.
+pub mod Entries
