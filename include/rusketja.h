@@ -16,9 +16,9 @@
  * before another has returned, and from several threads at once, as long as none writes a list or a number that another is handed.
  *
  * Stack: have 64 KiB free. Found in two ways, which agree within 100 bytes, on the archive of this version: by the frames and calls
- * in its machine code, and by how much of a painted stack the calls wrote over. rusketja_patches takes 23,479 bytes, rusketja_check
- * 4,919, the others fewer than 256, whatever the sizes; no call recurses. The arrays in crates/mesh/src and crates/patch/src make up
- * nearly all of it.
+ * in its machine code, and by how much of a painted stack the calls wrote over. rusketja_patches takes fewer than 23,600 bytes,
+ * rusketja_check fewer than 5,000, the others fewer than 256, whatever the sizes; no call recurses. The arrays in crates/mesh/src and
+ * crates/patch/src make up nearly all of it.
  *
  * Lengths, for V vertices and F faces:
  *
