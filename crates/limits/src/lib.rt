@@ -1,4 +1,4 @@
-//! The record of a mesh with its limits, and what they say of two sizes, of one entry of a list and of one vertex.
+//! The record of a mesh with its limits, and what they say of two sizes, of one entry of a list, of one vertex and of the room that a list has.
 pub mod model;
 
 use crate::model::Mesh;

@@ -1,4 +1,4 @@
--- The definitions that the contracts of the crate cite, from the limits up to the answer of the check.
+-- The definitions that the contracts of the crate cite, from half-edges up to the answer of the check.
 pub mod HalfEdge
 pub mod Fan
 pub mod IndexedMesh

@@ -1,4 +1,4 @@
-// The mesh: its record with the limits, the corners of a face, and the check of a whole mesh with its twins.
+// The mesh: its half-edges, twins and fans, and the check of a whole mesh.
 mod chain;
 mod count;
 mod fan;
