@@ -292,7 +292,7 @@ class SampleAnswer:
         causes = self.causes()
         if causes:
             return f"refused {causes[0]} reading refused {causes[0]}"
-        # A fraction is rounded to the nearest whole number, halves to the even one.
+        # A fraction is rounded once, ties to even.
         sample = [round(x) for x in self.exact()]
         return spaced(sample, doubles(sample)).lstrip()
 

@@ -127,8 +127,8 @@ pub fn check(mesh: &Mesh, twins: &mut [u16]) -> Result<Counts, Refusal> {
 /// Writes the bicubic patches of a mesh, which is checked first.
 ///
 /// - Returns the counts of an accepted mesh, as [`check`] does.
-/// - Writes the patch of each face f into places 48f to 48f + 47 of `patches`, in 1/256 micrometre: control point i + 4j, i along
-///   u and j along v, as x, y, z, each rounded once to the nearest, halves to the even one. Writes `twins` as [`check`] does.
+/// - Writes the patch of each face f into places 48f to 48f + 47 of `patches`, in 1/256 micrometre: point i + 4j of the net, where i
+///   counts along u, as x, y, z, each rounded once with ties to even. Writes `twins` as [`check`] does.
 /// - Leaves alone `patches` from 48F on, and all of it after a refusal; `twins` as [`check`] does.
 /// - Refuses 1 to 11, in this order; 2 is a `twins` shorter than 4F or a `patches` shorter than 48F.
 ///

@@ -1,6 +1,6 @@
 // The faces of each vertex, whether it is inside, and the weight of each corner.
 use crate::values::is_boundary;
-use crate::values::wide;
+use corner::wide;
 ghost use mathlib.Core.Path.{_≡_};
 ghost use Prim.Native.Nat.{_+_, _≤_, _<_};
 ghost use lib.ListN.{length, getD, set};

@@ -3,7 +3,7 @@ use crate::fraction::point_in_units;
 use crate::values::face_values;
 use crate::values::is_sharp;
 use crate::values::turned;
-use crate::values::wide;
+use corner::wide;
 use mask::model::Fraction;
 ghost use mathlib.Core.Path.{_≡_};
 ghost use Prim.Native.Nat.{ℕ, _<_};

@@ -3,7 +3,7 @@ use crate::values::face_values;
 use crate::values::is_boundary;
 use crate::values::is_sharp;
 use crate::values::turned;
-use crate::values::wide;
+use corner::wide;
 ghost use mathlib.Core.Path.{_≡_};
 ghost use mathlib.Core.Bool.{cond};
 ghost use Prim.Native.Nat.{_+_, _*_, _≤_, _<_};

@@ -1,4 +1,5 @@
 // What is read from the lists of a mesh: corners of a face, coordinates, and which half-edges are sharp.
+use corner::wide;
 use limits::model::Mesh;
 use mask::model::FaceValues;
 ghost use mathlib.Core.Path.{_≡_};
@@ -9,13 +10,6 @@ ghost use Rattle.corner.specs.Corner.{turn};
 ghost use Rattle.mesh.specs.Tables.{vertexOf};
 ghost use Rattle.patch.specs.Lists.{seen, Coordinates, boundaryIn, sharpIn};
 ghost use Rattle.patch.specs.Values.{SeenFrom};
-
-// The number of a vertex, as an index.
-pub(crate) fn wide(x: u16) -> usize
-    ensures { λ r. ⌜ r ≡ x ⌝ }
-{
-    x as usize
-}
 
 // The corner i further than c in its face.
 pub(crate) fn turned(i: usize, c: usize) -> usize

@@ -3,7 +3,7 @@ use crate::face_point::along_points;
 use crate::face_point::before_points;
 use crate::face_point::inner_points;
 use crate::values::turned;
-use crate::values::wide;
+use corner::wide;
 ghost use mathlib.Core.Path.{_≡_};
 ghost use Prim.Native.Nat.{ℕ, _+_, _*_, _≤_, _<_};
 ghost use lib.IntN.{pos};

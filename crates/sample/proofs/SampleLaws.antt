@@ -1,12 +1,10 @@
 -- The laws of a sample, over any control values g: other forms of its sum, how it is rounded, what it depends on, a quarter turn of the patch,
 -- its edge b = 0, the size of its sum, and its distance from the exact surface.
 use mathlib.Core.Path.{_≡_, refl, sym, ap, ap₂, _∙_}
-use mathlib.Core.List.{List}
 use Prim.Native.Nat.{ℕ, zero, suc, _+_, _-_, _*_, _/_, _%_, _^_, _<_, _≤_}
-use native.Mathlib.Nat.{add-zero, add-assoc, mul-comm, mul-assoc, mul-le-mul-left, mul-le-mul-right, one-le-pow}
+use native.Mathlib.Nat.{add-zero, mul-comm, mul-assoc, mul-le-mul-left, mul-le-mul-right, one-le-pow}
 use native.Mathlib.Omega.{arith}
 use lib.IntN.{ℤ, pos, natAbs, _+ℤ_, _-ℤ_, _*ℤ_, zero-*ℤ, +ℤ-assoc, +ℤ-idl, +ℤ-idr}
-use lib.ListN.{getD}
 use lib.Pow.{pow-add}
 use Rattle.integer.specs.Nearest.{IsNearest}
 use Rattle.integer.proofs.Difference.{int, nat, _⊕_, _⊝_, _⊛_, prove-eq, read-abs}
@@ -15,7 +13,7 @@ use Rattle.integer.proofs.NearestLaws.{nearest-meets}
 use Rattle.finite.specs.Fold.{foldBelow, sumBelow, sumBelowℤ}
 use Rattle.finite.proofs.FoldLaws.{fold-ext, fold-swap}
 use Rattle.finite.proofs.IntegerSum.{sumℤ-monoid, sum-scale}
-use Rattle.sample.specs.Bernstein.{bernstein, numerator, rounded, coordinateAt}
+use Rattle.sample.specs.Bernstein.{bernstein, numerator, rounded}
 use Rattle.sample.proofs.BernsteinLaws.{bernstein-flip, bernstein-sumBelow, bernstein-first, bernstein-first-others}
 
 -- ---- other forms of the sum
@@ -56,12 +54,6 @@ numerator-ext n a b h =
 
 pub rounded-ext : (n a b : ℕ) {g g′ : ℕ → ℤ} → ((m : ℕ) → m < 16 → g m ≡ g′ m) → rounded n a b g ≡ rounded n a b g′
 rounded-ext n a b h = rounded-by-sum n a b a b _ _ (numerator-ext n a b h)
-
--- the 48 numbers from place 48f on
-pub coordinate-ext : (p p′ : List ℤ) (f f′ n a b k : ℕ) → k < 3
-    → ((i : ℕ) → i < 48 → getD p (48 * f + i) (pos 0) ≡ getD p′ (48 * f′ + i) (pos 0)) → coordinateAt p f n a b k ≡ coordinateAt p′ f′ n a b k
-coordinate-ext p p′ f f′ n a b k l h =
-    rounded-ext n a b (λ m r. rw (add-assoc (48 * f) (3 * m) k, add-assoc (48 * f′) (3 * m) k) (h (3 * m + k) (omega arith)))
 
 -- ---- four points in the other direction
 sum-flip : (f : ℕ → ℤ) → sumBelowℤ (λ i. f (3 - i)) 4 ≡ sumBelowℤ f 4

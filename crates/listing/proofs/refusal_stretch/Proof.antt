@@ -1,12 +1,10 @@
 -- `refusal_stretch` meets its contract: the one line is handed out first, and then nothing.
-use mathlib.Core.Path.{refl, _∙_, subst}
+use mathlib.Core.Path.{refl}
 use native.Mathlib.Omega.{arith}
 use borrow.Author.Needs.{needs}
 use Rattle.finite.specs.Table.{refusal}
 use Rattle.text.specs.Text.{refusalLine}
 use Rattle.listing.proofs.StretchLaws.{one-stored, nothing-more, refusal-filled}
-use Rattle.listing.specs.Listing.{Stretched}
-use Rattle.listing.specs.declared.model.Stretch.{Stretch}
 use Rattle.listing.proofs.refusal_stretch.Statement.{statement}
 use Rattle.listing.proofs.refusal_stretch.Tie as tie
 

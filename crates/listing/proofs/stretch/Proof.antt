@@ -1,10 +1,7 @@
 -- `stretch` meets its contract: the stretch is that of an accepted file or of a refused one, as the answer says.
-use mathlib.Core.Path.{_≡_, sym, ap, subst}
+use mathlib.Core.Path.{sym, ap}
 use borrow.Author.Needs.{needs}
-use Rattle.finite.specs.Table.{Answer}
 use Rattle.meshfile.specs.Answer.{opened}
-use Rattle.meshfile.specs.declared.model.Tessellation.{Tessellation}
-use Rattle.listing.specs.Listing.{Stretched}
 use Rattle.listing.proofs.StretchLaws.{stretched-as}
 use Rattle.listing.proofs.stretch.Statement.{statement}
 use Rattle.listing.proofs.stretch.Tie as tie

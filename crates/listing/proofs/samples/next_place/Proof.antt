@@ -1,7 +1,4 @@
 -- `next_place` meets its contract: the next a, or the first a of the next b, or the first place of the next face, is one further.
-use mathlib.Core.Path.{_≡_}
-use Prim.Native.Nat.{ℕ, suc, _+_, _*_}
-use native.Mathlib.Nat.{add-mul}
 use native.Mathlib.Omega.{arith}
 use borrow.Author.Needs.{needs}
 use Rattle.listing.proofs.ListingLaws.{next-row, next-face}
