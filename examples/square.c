@@ -36,11 +36,48 @@ static void expect_micrometres(const char *what, double found, double wanted)
     }
 }
 
+static const int32_t positions[12] = {0, 0, 0, 21, 0, 0, 21, 21, 0, 0, 21, 0};
+static const uint8_t tags[4] = {0, 0, 0, 0};
+static const uint16_t indices[4] = {0, 1, 2, 3};
+
+/* The mirror image of the square into these lists, tags_len tags among them. */
+static uint8_t mirror_into(int32_t *out_positions, uint8_t *out_tags, size_t tags_len, uint16_t *out_indices)
+{
+    return rusketja_mirror(4, 1, positions, 12, tags, 4, indices, 4, out_positions, 12, out_tags, tags_len, out_indices, 4);
+}
+
+/* The mirror image: refused where there is room for a tag too many, then written, and one of its samples. */
+static void mirror(void)
+{
+    int32_t image[12] = {7, 7, 7, 7, 7, 7, 7, 7, 7, 7, 7, 7}, patches[48] = {0}, x = 0, y = 0, z = 0;
+    uint8_t marks[5] = {7, 7, 7, 7, 7};
+    uint16_t corners[4] = {7, 7, 7, 7}, twins[4] = {0};
+    size_t v = 0, f = 0, e = 0, b = 0;
+
+    expect("mirror, 5 tags", mirror_into(image, marks, 5, corners), 16);
+    expect("x of vertex 2 after it", image[3 * 2], 7);
+    expect("tag of vertex 2 after it", marks[2], 7);
+    expect("corner 2 after it", corners[2], 7);
+
+    expect("mirror", mirror_into(image, marks, 4, corners), 0);
+    expect("x of vertex 2", image[3 * 2], -21);
+    expect("y of vertex 2", image[3 * 2 + 1], 21);
+    expect("z of vertex 2", image[3 * 2 + 2], 0);
+    expect("tag of vertex 2", marks[2], 0);
+    expect("corner 0", corners[0], 0);
+    expect("corner 1", corners[1], 3);
+    expect("corner 2", corners[2], 2);
+    expect("corner 3", corners[3], 1);
+
+    expect("patches of the image", rusketja_patches(4, 1, image, 12, marks, 4, corners, 4, twins, 4, patches, 48, &v, &f, &e, &b), 0);
+    expect("sample (0,1), N = 2", rusketja_sample(patches, 48, 0, 2, 0, 1, &x, &y, &z), 0);
+    expect("x", x, -2688);
+    expect("y", y, 0);
+    expect("z", z, 0);
+}
+
 int main(void)
 {
-    const int32_t positions[12] = {0, 0, 0, 21, 0, 0, 21, 21, 0, 0, 21, 0};
-    const uint8_t tags[4] = {0, 0, 0, 0};
-    const uint16_t indices[4] = {0, 1, 2, 3};
     uint16_t twins[5] = {7, 7, 7, 7, 7};
     int32_t patches[49] = {0};
     size_t v = 0, f = 0, e = 0, b = 0, first = 0;
@@ -86,5 +123,7 @@ int main(void)
     expect_size("first corner's place", first, 9);
     expect_size("corners of face 0", rusketja_face_corners(indices, 4, 0, &first), 4);
     expect_size("first corner's place", first, 0);
+
+    mirror();
     return wrong;
 }

@@ -17,8 +17,8 @@
  *
  * Stack: have 64 KiB free. Found in two ways, which agree within 100 bytes, on the archive of this version: by the frames and calls
  * in its machine code, and by how much of a painted stack the calls wrote over. rusketja_patches takes fewer than 23,600 bytes,
- * rusketja_check fewer than 5,000, the others fewer than 256, whatever the sizes; no call recurses. The arrays in crates/mesh/src and
- * crates/patch/src make up nearly all of it.
+ * rusketja_mirror fewer than 7,100, rusketja_check fewer than 5,000, the others fewer than 256, whatever the sizes; no call recurses.
+ * The arrays in crates/mesh/src and crates/patch/src make up nearly all of it.
  *
  * Lengths, for V vertices and F faces:
  *
@@ -27,6 +27,8 @@
  *     indices    4F      the vertices of face f at 4f to 4f + 3, counterclockwise
  *     twins      4F      at least; place 4f + s is that of the half-edge from corner s of face f to the next corner
  *     patches   48F      at least; coordinate k of control point i + 4j of face f at 48f + 3(i + 4j) + k, in 1/256 micrometre
+ *
+ * out_positions, out_tags and out_indices, the lists of a mesh that is written, are exactly as long as positions, tags and indices.
  *
  * Names, with those of the user's document: half-edge (side), twin (mate), boundary (rim), control value (patch number). Rules are
  * those of docs/SPECIFICATION.md.
@@ -47,6 +49,9 @@
  *     12  patches is shorter than 48f + 48
  *     13  a control value of face f is beyond 268435456 either way
  *     14  n is not from 1 to 32, or a or b is above n
+ *     16  out_positions has another length than positions, out_tags than tags, or out_indices than indices
+ *
+ * 15 belongs to files alone (docs/REFUSALS.md): no call here returns it.
  */
 #ifndef RUSKETJA_H
 #define RUSKETJA_H
@@ -145,6 +150,26 @@ uint8_t rusketja_reading(
     double *x,
     double *y,
     double *z);
+
+/* The mirror image of a mesh of v vertices and f faces, which is checked first: the last of the other foot. The image is accepted
+ * too, with the same four counts, and its sample of a face at (b, a) is that of the mesh at (a, b) with the sign of x changed.
+ *
+ * Returns: 0 where the image is written, or the number of the refusal.
+ * Writes: the positions into out_positions, x with its sign changed, y and z as they are; the tags into out_tags; each face g into
+ *     places 4g to 4g + 3 of out_indices, from its first corner the other way round: corners 0, 3, 2, 1.
+ * Leaves alone: all of out_positions, out_tags and out_indices after a refusal.
+ * Refuses: 1, 3 to 11, 16, in this order; never 2, since no list of twins is lent.
+ * Lengths: positions 3v, tags v, indices 4f; out_positions 3v, out_tags v, out_indices 4f, no more.
+ * Units: positions and out_positions in micrometres. */
+uint8_t rusketja_mirror(
+    size_t v,
+    size_t f,
+    const int32_t *positions, size_t positions_len,
+    const uint8_t *tags, size_t tags_len,
+    const uint16_t *indices, size_t indices_len,
+    int32_t *out_positions, size_t out_positions_len,
+    uint8_t *out_tags, size_t out_tags_len,
+    uint16_t *out_indices, size_t out_indices_len);
 
 /* The corners of face f, as a part of indices.
  *

@@ -1,7 +1,7 @@
 """The rules of docs/SPECIFICATION.md read once more: their limits, the check of a mesh, and the patches and samples of an accepted one.
 
 A mesh is read by sets and dictionaries over the whole of it, its control points and samples by fractions in patches.py.
-tools/trials.py and tools/vectors.py use it.
+tools/trial_forms.py, with the trials, and tools/vectors.py use it.
 """
 
 import struct
@@ -51,6 +51,14 @@ def changed(mesh, **changes):
         old = getattr(mesh, name)
         setattr(mesh, name, [change.get(i, x) for i, x in enumerate(old)] if isinstance(change, dict) else change)
     return mesh
+
+
+def mirrored(mesh):
+    """The mirror image of a mesh: x with the other sign, tags as they are, each face from its first corner the other way round."""
+    points = zip(*[iter(mesh.positions)] * 3)
+    quads = zip(*[iter(mesh.faces)] * 4)
+    positions = [coordinate for x, y, z in points for coordinate in (-x, y, z)]
+    return Mesh(mesh.v, mesh.f, positions, list(mesh.tags), [p for q0, q1, q2, q3 in quads for p in (q0, q3, q2, q1)])
 
 
 # ---- What the rules say of a mesh.

@@ -1,7 +1,7 @@
-"""The rules of docs/SPECIFICATION.md read once more: control points as fractions, samples, seams and renumbering.
+"""The rules of docs/SPECIFICATION.md read once more: control points as fractions, samples, seams, renumbering and mirror images.
 
 A mask is read off its rule (B6 to B11), over the sets of vertices and faces that the rule names; there are no half-edges,
-twins or fans here. tools/meshes.py, tools/trials.py and tools/vectors.py use it.
+twins or fans here. tools/meshes.py, tools/trial_forms.py with the trials, and tools/vectors.py use it.
 """
 
 from dataclasses import dataclass
@@ -151,3 +151,27 @@ def shuffled(random, vertices, faces):
     """A renumbering of so many vertices and faces."""
     starts = [random.randrange(4) for _ in range(faces)]
     return Renumbering(random.sample(range(vertices), vertices), random.sample(range(faces), faces), starts)
+
+
+# ---- Mirror images: u and v change places, and x its sign.
+
+
+def mirrored_side(side):
+    """The side of a mesh that a side of its image runs along, backwards; and the side of the image for one of the mesh."""
+    return side - side % 4 + 3 - side % 4
+
+
+def mirrored_point(point):
+    x, y, z = point
+    return [-x, y, z]
+
+
+def mirrored_patch(patch):
+    """The patch of a face in the image: point b(i,j) is what b(j,i) was, with x negated."""
+    point = lambda i, j: patch[3 * (i + 4 * j) : 3 * (i + 4 * j) + 3]
+    return [x for j, i in product(range(4), repeat=2) for x in mirrored_point(point(j, i))]
+
+
+def mirrored_samples(samples):
+    """The samples of a face in the image: sample (a,b) is what sample (b,a) was, with x negated."""
+    return {(a, b): mirrored_point(samples[b, a]) for a, b in samples}

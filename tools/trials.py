@@ -1,36 +1,18 @@
 #!/usr/bin/env python3
 """Writes the trials of crates/trials: data/ (a file a trial), args (their names) and stdout (what the program has to print).
 
-What is expected is computed here, in meshes.py and in patches.py by the rules of docs/SPECIFICATION.md, of a mesh by sets and
-dictionaries over the whole of it and of control points and samples by fractions, and not as the library does it, so the gate compares
-two readings of the rules. A trial's name says what it is, and ends in -refused-N where the call says no.
+What is expected is computed in trial_forms.py from an independent reading of the rules. A trial's name says what it is, and ends in
+-refused-N where the call says no. The trials of the mirror call are in mirror_trials.py.
 """
 
 import argparse
 import random
-import struct
-from dataclasses import dataclass
-from fractions import Fraction
-from itertools import count, product
-from math import comb
+from itertools import chain, count, product
 from pathlib import Path
 
-from meshes import (
-    BOUNDARY_FACES,
-    CONTROL,
-    CONTROLS,
-    INNER_VALENCES,
-    MESH_FAULTS,
-    NO_MATE,
-    STEPS,
-    Mesh,
-    MeshReading,
-    PatchReading,
-    changed,
-    numbered,
-    spoiled,
-)
-from patches import PATCH, shuffled
+import mirror_trials
+from meshes import BOUNDARY_FACES, CONTROL, INNER_VALENCES, STEPS, changed
+from patches import PATCH
 from shapes import (
     Shape,
     across_twice,
@@ -53,77 +35,34 @@ from shapes import (
     torus,
     trapezohedron,
 )
+from trial_forms import (
+    FAULTS,
+    PATCH_PLACES,
+    PLACES,
+    MeshTrial,
+    SampleTrial,
+    lengthened,
+    mesh,
+    patched,
+    placed,
+    scattered,
+    shortened,
+    shuffled_trial,
+    tagged,
+    the_cube,
+    the_square,
+    the_strip,
+    with_faults,
+)
 
 CRATE = Path(__file__).resolve().parent.parent / "crates" / "trials"
-
-# What the program fills the lent lists with, and the places that it has for a list, for that of patches, and of that in clear.
-FILLING = 7
-PLACES = 2048
-PATCH_PLACES = 12291
-CLEAR = 816
-
-# What a sample trial's file begins with, and a patch trial's.
-SAMPLE = 65535
-HEAD = 65533
 
 # The control values of the sample trials, where no others are named; and the coordinates and renumberings of the patch trials.
 RANDOM = random.Random(20250607)
 PATCH_RANDOM = random.Random(20250608)
 
 
-# ---- Mesh trials: the arguments of the check.
-
-
-@dataclass
-class MeshTrial(Mesh):
-    twins: int
-
-    def bytes(self):
-        """The trial's file, as crates/trials/src/reading.rt has it."""
-        assert self.v not in (SAMPLE, HEAD)
-        sizes = struct.pack("<6H", self.v, self.f, len(self.positions), len(self.tags), len(self.faces), self.twins)
-        return sizes + self.packed()
-
-    def answer(self):
-        return MeshAnswer(self)
-
-
-def trial_of(mesh):
-    """A mesh, and a lent list three places longer than need be."""
-    return MeshTrial(**vars(mesh), twins=4 * mesh.f + 3)
-
-
-def mesh(shape):
-    """A shape with positions of its own, smooth."""
-    return trial_of(numbered(shape))
-
-
-def shortened(trial, name):
-    return changed(trial, **{name: getattr(trial, name)[:-1]})
-
-
-def lengthened(trial, name):
-    return changed(trial, **{name: getattr(trial, name) + [0]})
-
-
-# ---- Sample trials: the arguments of the sample call and of the reading.
-
-
-@dataclass
-class SampleTrial:
-    numbers: list
-    f: int = 0
-    n: int = 2
-    a: int = 1
-    b: int = 1
-
-    def bytes(self):
-        """The trial's file, as crates/trials/src/reading.rt has it."""
-        head = struct.pack("<H4Q", SAMPLE, self.f, self.n, self.a, self.b)
-        return head + struct.pack(f"<{len(self.numbers)}i", *self.numbers)
-
-    def answer(self):
-        return SampleAnswer(self)
+# ---- Control values, and coordinates.
 
 
 def patch(points):
@@ -150,151 +89,16 @@ def with_number(numbers, place, value):
     return numbers[:place] + [value] + numbers[place + 1 :]
 
 
-# ---- Patch trials: the arguments of the patch call, and the N of rule S1.
-
-
-@dataclass
-class PatchTrial(MeshTrial):
-    n: int
-    patches: int
-
-    def bytes(self):
-        """The trial's file, as crates/trials/src/reading.rt has it."""
-        return struct.pack("<3H", HEAD, self.patches, self.n) + super().bytes()
-
-    def answer(self):
-        return PatchAnswer(self)
-
-
-def patched(trial, n=2):
-    """A mesh trial as one of the patch call, with a list of patches three places longer than need be."""
-    return PatchTrial(**vars(trial), n=n, patches=PATCH * trial.f + 3)
-
-
-def placed(shape, points, n=2):
-    """A shape with the vertices at these points."""
-    return patched(changed(mesh(shape), positions=[x for point in points for x in point]), n)
-
-
 def varied(shape, n):
-    """A shape with coordinates of either sign, small ones along one axis and large ones along another."""
-    sizes = PATCH_RANDOM.sample((30, 3000, 1048576), 3)
-    return placed(shape, [[PATCH_RANDOM.randint(-size, size) for size in sizes] for _ in range(shape.vertices)], n)
+    return scattered(PATCH_RANDOM, shape, n)
 
 
 def with_renumbered(name, trial):
     """The trial, and the same one renumbered, whose samples are held against its own place by place."""
     yield name, trial
-    change = shuffled(PATCH_RANDOM, trial.v, trial.f)
-    old = trial.answer()
-    points = change.moved(old.points)
-    other = placed(Shape(change.faces(old.faces)), points, trial.n)
-    changed(other, tags=change.moved(trial.tags))
-    change.assert_same(old.samples, other.answer().samples, trial.n)
+    change, other = shuffled_trial(PATCH_RANDOM, trial)
+    change.assert_same(trial.answer().samples, other.answer().samples, trial.n)
     yield f"{name}-renumbered", other
-
-
-# ---- The rules, read once more.
-
-
-def doubles(sample):
-    """The reading of a sample: the bits of each coordinate over 256, which a double has exactly."""
-    return ["reading"] + [struct.pack(">d", x / 256).hex() for x in sample]
-
-
-def spaced(*lists):
-    return " ".join(str(x) for words in lists for x in words)
-
-
-def two_sums(numbers):
-    """The sum of the numbers and that of the sums on the way, as the program has them."""
-    first = second = 0
-    for x in numbers:
-        first += x
-        second += first
-    return [first % 2**32, second % 2**32]
-
-
-class MeshAnswer(MeshReading):
-    """What the rules say of a trial's mesh and its lent list."""
-
-    def lent_short(self):
-        return self.mesh.twins < 4 * self.mesh.f
-
-    def twins(self):
-        """The lent list after the call."""
-        refusal = min(self.causes(), default=None)
-        if refusal in range(1, 8):
-            written = []
-        elif refusal in range(8, 12):
-            written = [NO_MATE] * (4 * self.mesh.f)
-        else:
-            written = [NO_MATE if mate is None else mate for mate in self.mates]
-        return written + [FILLING] * (self.mesh.twins - len(written))
-
-    def words(self):
-        """The answer of the call."""
-        causes = self.causes()
-        return ["refused", causes[0]] if causes else self.counts()
-
-    def line(self):
-        """What the program prints after the trial's name."""
-        twins, n = self.twins(), 4 * self.mesh.f
-        shown = [str(twins[i]) if 0 <= i < len(twins) else "-" for i in (0, n - 1, n, len(twins) - 1)]
-        return spaced(self.words(), ["twins"], shown)
-
-
-class PatchAnswer(MeshAnswer, PatchReading):
-    """What the rules say of the patch call, and of the samples of what it wrote."""
-
-    def lent_short(self):
-        return super().lent_short() or self.mesh.patches < PATCH * self.mesh.f
-
-    def line(self):
-        """What the program prints after the trial's name."""
-        t = self.mesh
-        written = [x for patch in self.patches for x in patch]
-        after = written + [FILLING] * (t.patches - len(written))
-        lines = [spaced(self.words(), ["twins"], self.twins()), spaced([" patches"], two_sums(after))]
-        lines += [spaced([""], after[at : min(at + PATCH, CLEAR)]) for at in range(0, min(len(after), CLEAR), PATCH)]
-        for samples in self.samples:
-            sums = two_sums(x for sample in samples.values() for x in sample)
-            lines.append(spaced([" samples"], sums, samples[t.n // 2, t.n // 2], doubles(samples[t.n // 2, t.n // 2])))
-        return "\n".join(lines)
-
-
-class SampleAnswer:
-    """What the rules say of the sample call and of the reading."""
-
-    def __init__(self, trial):
-        self.trial = trial
-        self.patch = trial.numbers[PATCH * trial.f : PATCH * trial.f + PATCH]
-
-    def causes(self):
-        """The numbers of all causes that are met, in order; the answer is the first."""
-        t = self.trial
-        met = {
-            12: PATCH * t.f + PATCH > len(t.numbers),
-            13: any(x not in CONTROLS for x in self.patch),
-            14: t.n not in STEPS or t.a > t.n or t.b > t.n,
-        }
-        return [number for number, holds in met.items() if holds]
-
-    def exact(self):
-        """The point of the patch, before it is rounded."""
-        t = self.trial
-        bernstein = lambda x: [comb(3, i) * x**i * (1 - x) ** (3 - i) for i in range(4)]
-        u, v = bernstein(Fraction(t.a, t.n)), bernstein(Fraction(t.b, t.n))
-        return [sum(u[i] * v[j] * self.patch[3 * (i + 4 * j) + k] for i in range(4) for j in range(4)) for k in range(3)]
-
-    def line(self):
-        """What the program prints after the trial's name."""
-        causes = self.causes()
-        if causes:
-            return f"refused {causes[0]} reading refused {causes[0]}"
-        # A fraction is rounded once, ties to even.
-        sample = [round(x) for x in self.exact()]
-        return spaced(sample, doubles(sample)).lstrip()
 
 
 # ---- The trials of the mesh check.
@@ -433,20 +237,6 @@ def vertices():
     yield "tag-1-every-vertex-refused-11", changed(mesh(grid(2, 2)), tags=[1] * 9)
     yield "tag-1-cube-last-vertex-refused-11", changed(mesh(cube()), tags={7: 1})
     yield "tag-1-pole-16-refused-11", changed(mesh(trapezohedron(16)), tags={0: 1})
-
-
-# A fault for each cause, as a word for the trial's name.
-FAULTS = {1: "long-tags", 2: "short-twins", **MESH_FAULTS}
-
-
-def with_faults(causes):
-    """A trial that meets these causes, the later ones earlier in the lists."""
-    trial = trial_of(spoiled(causes))
-    if 2 in causes:
-        changed(trial, twins=4 * trial.f - 1)
-    if 1 in causes:
-        lengthened(trial, "tags")
-    return trial
 
 
 def pairs():
@@ -625,23 +415,15 @@ def sample_limits():
 # ---- The trials of the patch call.
 
 
-def tagged(trial, *corners):
-    return changed(trial, tags={p: 1 for p in corners})
-
-
 def patch_examples():
     """The square, the cube and the strip of rules X1, X3 and X6, some with tags (rule X7)."""
-    at_square = [(0, 0, 0), (21, 0, 0), (21, 21, 0), (0, 21, 0)]
-    at_cube = [(24 * x, 24 * y, 24 * z) for z in (-1, 1) for x, y in ((-1, -1), (1, -1), (1, 1), (-1, 1))]
-    at_strip = [(0, 0, 0), (9, 0, 0), (18, 0, 9), (18, 9, 0), (9, 9, 0), (0, 9, 0)]
-    two = Shape([(0, 1, 4, 5), (1, 2, 3, 4)])
     for n in (1, 2, 32):
-        yield f"patch-square-{n}-steps", placed(square(), at_square, n)
-        yield f"patch-cube-{n}-steps", placed(cube(), at_cube, n)
-        yield f"patch-strip-{n}-steps", placed(two, at_strip, n)
-    yield "patch-square-one-tag", tagged(placed(square(), at_square), 1)
-    yield "patch-strip-one-tag", tagged(placed(two, at_strip), 1)
-    yield "patch-strip-all-tags", tagged(placed(two, at_strip), *range(6))
+        yield f"patch-square-{n}-steps", the_square(n)
+        yield f"patch-cube-{n}-steps", the_cube(n)
+        yield f"patch-strip-{n}-steps", the_strip(n)
+    yield "patch-square-one-tag", tagged(the_square(), 1)
+    yield "patch-strip-one-tag", tagged(the_strip(), 1)
+    yield "patch-strip-all-tags", tagged(the_strip(), *range(6))
 
 
 def patch_shapes():
@@ -742,30 +524,31 @@ def files():
     yield "file-missing", None, "no file"
 
 
-def main():
-    about = argparse.ArgumentParser(
-        description=__doc__,
-        epilog="There are no other words: without any, crates/trials/data, args and stdout are written anew.",
-        formatter_class=argparse.RawDescriptionHelpFormatter,
-    )
-    about.parse_args()
-    data = CRATE / "data"
-    data.mkdir(parents=True, exist_ok=True)
-    written, lines = {}, []
-    meshes = (accepted, sizes, lent, entries, half_edges, vertices, pairs)
-    samples = (sample_faces, sample_controls, sample_places, sample_pairs, sample_rounding, sample_random, sample_limits)
-    patches = (patch_twice, patch_largest, patch_lent, patch_refused)
-    for group in meshes + samples + patches:
+# ---- All of them.
+
+MESHES = (accepted, sizes, lent, entries, half_edges, vertices, pairs)
+SAMPLES = (sample_faces, sample_controls, sample_places, sample_pairs, sample_rounding, sample_random, sample_limits)
+PATCHES = (patch_twice, patch_largest, patch_lent, patch_refused)
+
+
+def trials(groups):
+    """The trials of these groups: the name, the file, and what the program prints after the name."""
+    for group in groups:
         for name, trial in group():
-            assert name not in written, name
             answer = trial.answer()
             assert name.partition("-refused-")[2] == "".join(map(str, answer.causes()[:1])), name
-            written[name] = trial.bytes()
-            lines.append(f"{name} {answer.line()}\n")
-    for name, content, line in files():
+            yield name, trial.bytes(), answer.line()
+
+
+def write(contents):
+    """Writes data, args and stdout anew; None stands for a file that is missing."""
+    written, lines = {}, []
+    for name, content, line in contents:
         assert name not in written, name
         written[name] = content
         lines.append(f"{name} {line}\n")
+    data = CRATE / "data"
+    data.mkdir(parents=True, exist_ok=True)
     for old in data.iterdir():
         old.unlink()
     for name, content in written.items():
@@ -773,6 +556,16 @@ def main():
             (data / name).write_bytes(content)
     (CRATE / "args").write_text("".join(f"{name}\n" for name in written))
     (CRATE / "stdout").write_text("".join(lines))
+
+
+def main():
+    about = argparse.ArgumentParser(
+        description=__doc__,
+        epilog="There are no other words: without any, crates/trials/data, args and stdout are written anew.",
+        formatter_class=argparse.RawDescriptionHelpFormatter,
+    )
+    about.parse_args()
+    write(chain(trials(MESHES + SAMPLES + PATCHES), files(), trials(mirror_trials.GROUPS), mirror_trials.files()))
 
 
 if __name__ == "__main__":

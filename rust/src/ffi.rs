@@ -61,5 +61,22 @@ extern "C" {
         z: &mut f64,
     ) -> u8;
 
+    pub fn rusketja_mirror(
+        v: usize,
+        f: usize,
+        positions: *const i32,
+        positions_len: usize,
+        tags: *const u8,
+        tags_len: usize,
+        indices: *const u16,
+        indices_len: usize,
+        out_positions: *mut i32,
+        out_positions_len: usize,
+        out_tags: *mut u8,
+        out_tags_len: usize,
+        out_indices: *mut u16,
+        out_indices_len: usize,
+    ) -> u8;
+
     pub fn rusketja_face_corners(indices: *const u16, indices_len: usize, f: usize, first: &mut usize) -> usize;
 }

@@ -39,7 +39,7 @@ pub const NO_TWIN: u16 = 65535;
 /// The control values of one face: sixteen points of three coordinates.
 pub const PATCH_VALUES: usize = 48;
 
-/// A mesh as it is handed to [`check`] and [`patches`]: any sizes and lists, which are checked there.
+/// A mesh as it is handed to [`check`], [`patches`] and [`mirror`]: any sizes and lists, which are checked there.
 #[derive(Clone, Copy, Debug)]
 pub struct Mesh<'a> {
     /// V, from 4 to 512.
@@ -236,6 +236,69 @@ pub fn reading(patches: &[i32], face: usize, n: usize, a: usize, b: usize) -> Re
     accepted(code, point)
 }
 
+/// Writes the mirror image of a mesh, which is checked first: the last of the other foot.
+///
+/// - Returns nothing more than that it is done. The image is accepted too, with the same counts, and its [`sample`] of a face at
+///   (b, a) is that of the mesh at (a, b) with the sign of x changed.
+/// - Writes the positions into `out_positions`, x with its sign changed, the tags into `out_tags`, and each face into its place of
+///   `out_indices`, from its first corner the other way round: corners 0, 3, 2, 1.
+/// - Leaves alone all three lists after a refusal.
+/// - Refuses 1, 3 to 11, 16, in this order; 16 is a list that is shorter or longer than the list of the mesh that goes into it.
+///
+/// ```
+/// use rusketja::{mirror, patches, sample, Mesh, Refusal};
+///
+/// let square = Mesh {
+///     vertices: 4,
+///     faces: 1,
+///     positions: &[0, 0, 0, 21, 0, 0, 21, 21, 0, 0, 21, 0],
+///     tags: &[0; 4],
+///     indices: &[0, 1, 2, 3],
+/// };
+/// let (mut positions, mut tags, mut indices) = ([7; 12], [7; 4], [7; 4]);
+/// assert_eq!(mirror(&square, &mut positions, &mut tags[..3], &mut indices), Err(Refusal(16)));
+/// assert_eq!((positions, tags, indices), ([7; 12], [7; 4], [7; 4]));
+///
+/// mirror(&square, &mut positions, &mut tags, &mut indices)?;
+/// assert_eq!(positions, [0, 0, 0, -21, 0, 0, -21, 21, 0, 0, 21, 0]);
+/// assert_eq!((tags, indices), ([0; 4], [0, 3, 2, 1]));
+///
+/// let image = Mesh { positions: &positions, tags: &tags, indices: &indices, ..square };
+/// let (mut controls, mut mirrored) = ([0; 48], [0; 48]);
+/// patches(&square, &mut [0; 4], &mut controls)?;
+/// patches(&image, &mut [0; 4], &mut mirrored)?;
+/// assert_eq!(sample(&controls, 0, 2, 1, 0)?, [2688, 0, 0]);
+/// assert_eq!(sample(&mirrored, 0, 2, 0, 1)?, [-2688, 0, 0]);
+/// # Ok::<(), Refusal>(())
+/// ```
+pub fn mirror(
+    mesh: &Mesh,
+    out_positions: &mut [i32],
+    out_tags: &mut [u8],
+    out_indices: &mut [u16],
+) -> Result<(), Refusal> {
+    // SAFETY: each pointer and length are those of one slice, and what is written overlaps nothing, as it is borrowed mutably.
+    let code = unsafe {
+        ffi::rusketja_mirror(
+            mesh.vertices,
+            mesh.faces,
+            mesh.positions.as_ptr(),
+            mesh.positions.len(),
+            mesh.tags.as_ptr(),
+            mesh.tags.len(),
+            mesh.indices.as_ptr(),
+            mesh.indices.len(),
+            out_positions.as_mut_ptr(),
+            out_positions.len(),
+            out_tags.as_mut_ptr(),
+            out_tags.len(),
+            out_indices.as_mut_ptr(),
+            out_indices.len(),
+        )
+    };
+    accepted(code, ())
+}
+
 /// The four corners of a face, as that part of the list of vertex numbers; the part is empty where the list ends before them.
 ///
 /// ```
@@ -269,12 +332,14 @@ mod tests {
         let none = Mesh { vertices: usize::MAX, faces: usize::MAX, positions: &[], tags: &[], indices: &[] };
         assert_eq!(check(&none, &mut []), Err(Refusal(1)));
         assert_eq!(patches(&none, &mut [], &mut []), Err(Refusal(1)));
+        assert_eq!(mirror(&none, &mut [], &mut [], &mut []), Err(Refusal(1)));
         assert_eq!(check(&SQUARE, &mut []), Err(Refusal(2)));
         assert_eq!(patches(&SQUARE, &mut [0; 4], &mut [0; 47]), Err(Refusal(2)));
         assert_eq!(sample(&[], 0, 1, 0, 0), Err(Refusal(12)));
         assert_eq!(reading(&[0; 48], usize::MAX, 1, 0, 0), Err(Refusal(12)));
         assert_eq!(sample(&[268_435_457; 48], 0, 1, 0, 0), Err(Refusal(13)));
         assert_eq!(reading(&[0; 48], 0, usize::MAX, 0, 0), Err(Refusal(14)));
+        assert_eq!(mirror(&SQUARE, &mut [], &mut [], &mut []), Err(Refusal(16)));
         assert!(face_corners(&[], 0).is_empty());
         assert!(face_corners(&[1; 7], usize::MAX).is_empty());
     }
@@ -297,10 +362,64 @@ mod tests {
         assert_eq!((twins, controls), ([NO_TWIN, NO_TWIN, NO_TWIN, NO_TWIN, 7, 7], written));
     }
 
+    /// Three faces around vertex 0, which is inner and tagged.
+    const TAGGED: Mesh = Mesh {
+        vertices: 7,
+        faces: 3,
+        positions: &[0; 21],
+        tags: &[1, 0, 0, 0, 0, 0, 0],
+        indices: &[0, 1, 2, 3, 0, 3, 4, 5, 0, 5, 6, 1],
+    };
+
+    /// A mesh for each refusal of the check that does not concern a lent list.
+    const REFUSED: [(u8, Mesh); 10] = [
+        (1, Mesh { vertices: 3, ..SQUARE }),
+        (3, Mesh { positions: &[0, 0, 0, 0, 0, 0, 0, 0, 0, 0, 0, -1_048_577], ..SQUARE }),
+        (4, Mesh { tags: &[0, 0, 0, 2], ..SQUARE }),
+        (5, Mesh { indices: &[0, 1, 2, 4], ..SQUARE }),
+        (6, Mesh { indices: &[0, 1, 2, 0], ..SQUARE }),
+        (7, Mesh { faces: 2, indices: &[0, 1, 2, 3, 0, 1, 2, 3], ..SQUARE }),
+        (8, Mesh { vertices: 5, positions: &[0; 15], tags: &[0; 5], ..SQUARE }),
+        (9, Mesh { faces: 2, tags: &[0; 7], indices: &[0, 1, 2, 3, 0, 4, 5, 6], ..TAGGED }),
+        (10, Mesh { faces: 2, indices: &[0, 1, 2, 3, 3, 2, 1, 0], ..SQUARE }),
+        (11, TAGGED),
+    ];
+
+    /// The refusal of the mirror on lists of these lengths, each place 7 before and after.
+    fn refused_mirror(mesh: &Mesh, [positions, tags, indices]: [usize; 3]) -> Refusal {
+        let mut lists = (vec![7; positions], vec![7; tags], vec![7; indices]);
+        let before = lists.clone();
+        let answer = mirror(mesh, &mut lists.0, &mut lists.1, &mut lists.2);
+        assert_eq!(lists, before);
+        answer.expect_err("a refusal")
+    }
+
+    #[test]
+    fn a_refused_mirror_leaves_its_lists_alone() {
+        for (number, mesh) in REFUSED {
+            let right = [mesh.positions.len(), mesh.tags.len(), mesh.indices.len()];
+            assert_eq!(refused_mirror(&mesh, right), Refusal(number));
+            assert_eq!(refused_mirror(&mesh, right.map(|length| length + 1)), Refusal(number));
+        }
+        for lengths in [[11, 4, 4], [13, 4, 4], [12, 3, 4], [12, 5, 4], [12, 4, 3], [12, 4, 5], [0, 0, 0], [4, 12, 4]] {
+            assert_eq!(refused_mirror(&SQUARE, lengths), Refusal(16));
+        }
+    }
+
+    #[test]
+    fn a_mirror_writes_each_list_whole() {
+        let tagged = Mesh { positions: &[-9, 8, 7, 6, -5, 4, 3, 2, 1, 0, 1, 2], tags: &[0, 1, 0, 1], ..SQUARE };
+        let (mut positions, mut tags, mut indices) = ([7; 12], [7; 4], [7; 4]);
+        assert_eq!(mirror(&tagged, &mut positions, &mut tags, &mut indices), Ok(()));
+        assert_eq!(positions, [9, 8, 7, -6, -5, 4, -3, 2, 1, 0, 1, 2]);
+        assert_eq!((tags, indices), ([0, 1, 0, 1], [0, 3, 2, 1]));
+    }
+
     #[test]
     fn a_refusal_says_its_number_and_its_cause() {
         assert_eq!(Refusal(7).to_string(), "refused 7: a half-edge occurs twice the same way round");
-        let causes: Vec<_> = (1..=14).map(|number| Refusal(number).meaning()).collect();
+        assert_eq!(Refusal(15).meaning(), Refusal(0).meaning());
+        let causes: Vec<_> = (1..=14).chain([16]).map(|number| Refusal(number).meaning()).collect();
         for (place, cause) in causes.iter().enumerate() {
             assert!(!causes[..place].contains(cause) && *cause != Refusal(0).meaning());
         }

@@ -21,6 +21,9 @@ use std::fmt;
 /// | 12 | the patch list ends before the patch of the face: it is shorter than 48f + 48 |
 /// | 13 | a control value of the face is beyond 268,435,456 either way |
 /// | 14 | n is not from 1 to 32, or a or b is above n |
+/// | 16 | a list to be written, `out_positions`, `out_tags` or `out_indices`, is not as long as that list of the mesh |
+///
+/// 15 belongs to files alone (`docs/REFUSALS.md`): no function here gives it.
 #[derive(Clone, Copy, Debug, PartialEq, Eq, Hash)]
 pub struct Refusal(pub u8);
 
@@ -42,6 +45,7 @@ impl Refusal {
             12 => "the patch list has no such face",
             13 => "a control value is beyond its limit",
             14 => "the number of steps is off its range, or a place is beyond it",
+            16 => "a list to be written is not as long as that list of the mesh",
             _ => "no refusal of this library",
         }
     }

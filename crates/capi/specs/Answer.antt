@@ -7,8 +7,8 @@
 --   Read answer x y z x' y' z'   the three lent doubles x', y', z' afterwards, which held x, y, z: each exactly the sample over 256 (rule S5),
 --                         or as they were after a refusal (rule R5)
 --   firstCorner corners f d   the lent place of a face's first corner afterwards, which held d: 4f, or d where the face has no corners
---   CornersTold, CountsStored, CheckStored, PatchesStored, SampleStored, ReadingStored   for each call, what it returns, and every lent
---                         number and list afterwards
+--   CornersTold, CountsStored, CheckStored, PatchesStored, SampleStored, ReadingStored, MirrorStored   for each call, what it returns, and every
+--                         lent number and list afterwards
 use mathlib.Core.Path.{_≡_}
 use mathlib.Core.List.{List, [], _∷_}
 use Prim.Native.Nat.{ℕ, _*_}
@@ -23,6 +23,7 @@ use Rattle.mesh.specs.Answer.{checkAnswer, checkTwins}
 use Rattle.patch.specs.Answer.{patchAnswer, patchTwins, patchList}
 use Rattle.sample.specs.Answer.{Over256}
 use Rattle.sample.specs.declared.model.Point.{Point}
+use Rattle.edit.specs.Mirror.{mirrorAnswer, MirrorLeft}
 
 abbrev pub code : {A : Type 0} → Answer A → ℕ
 code (result a) = 0
@@ -69,3 +70,7 @@ pub record SampleStored (answer : Answer Point) (d : List ℤ) (r : ℕ) (d' : L
 pub record ReadingStored (answer : Answer Point) (x y z : Float) (r : ℕ) (x' y' z' : Float) : Type 0 where
   pub code-is : r ≡ code answer
   pub reading-is : Read answer x y z x' y' z'
+
+pub record MirrorStored (M : IndexedMesh) (x : List ℤ) (t i : List ℕ) (r : ℕ) (x' : List ℤ) (t' i' : List ℕ) : Type 0 where
+  pub code-is : r ≡ code (mirrorAnswer M x t i)
+  pub left : MirrorLeft M x t i x' t' i'

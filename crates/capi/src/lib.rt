@@ -1,12 +1,15 @@
 //! The calls of the library for C: each returns a number, and the results go into numbers that the caller lends.
+use finite::model::Outcome;
 use limits::model::Checked;
 use sample::model::Reading;
 use sample::model::Sampled;
+ghost use mathlib.Core.Path.{_≡_};
 ghost use mathlib.Core.List.{_∷_, []};
+ghost use Rattle.finite.specs.Table.{outcome};
 ghost use Rattle.mesh.specs.IndexedMesh.{indexed};
 ghost use Rattle.mesh.specs.Answer.{checked};
 ghost use Rattle.sample.specs.Answer.{sampleAnswer};
-ghost use Rattle.capi.specs.Answer.{CornersTold, CountsStored, CheckStored, PatchesStored, SampleStored, ReadingStored};
+ghost use Rattle.capi.specs.Answer.{code, CornersTold, CountsStored, CheckStored, PatchesStored, SampleStored, ReadingStored, MirrorStored};
 
 // The corners of face f: `corner::face_corners`, whose part of the face list C is told by its first place and its length.
 // Returns: the number of corners, 4, or 0 where 4f + 4 is above the length of indices.
@@ -163,4 +166,45 @@ pub extern "C" fn rusketja_reading(
         }
         Reading::Refused(k) => k,
     }
+}
+
+// The number that a call without a result returns: 0 where it is done, or the number of the refusal.
+fn outcome_code(answer: Outcome) -> u8
+    ensures { λ r. ⌜ r ≡ code (outcome answer) ⌝ }
+{
+    match answer {
+        Outcome::Done => 0,
+        Outcome::Refused(k) => k,
+    }
+}
+
+// The mirror image of a mesh of v vertices and f faces, which is checked first: `edit::mirror`.
+// Returns: 0 where it is done, or the number of the refusal.
+// Writes, leaves alone, refuses, and units: as `edit::mirror`.
+#[no_mangle]
+pub extern "C" fn rusketja_mirror(
+    v: usize,
+    f: usize,
+    positions: &[i32],
+    tags: &[u8],
+    indices: &[u16],
+    out_positions: &mut [i32],
+    out_tags: &mut [u8],
+    out_indices: &mut [u16],
+) -> u8
+    ensures { λ r. ⌜ MirrorStored (indexed v f (now (positions .entry)) (now (tags .entry)) (now (indices .entry)))
+        (now («out_positions» .entry)) (now («out_tags» .entry)) (now («out_indices» .entry)) r
+        (now («out_positions» .exit)) (now («out_tags» .exit)) (now («out_indices» .exit)) ⌝ }
+{
+    let answer = edit::mirror(
+        v,
+        f,
+        positions,
+        tags,
+        indices,
+        out_positions,
+        out_tags,
+        out_indices,
+    );
+    outcome_code(answer)
 }

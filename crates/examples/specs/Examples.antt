@@ -1,7 +1,7 @@
 -- The worked examples under a single theorem: what the definitions compute is what is stated.
-use mathlib.Core.List.{List, [], _∷_}
+use mathlib.Core.List.{List, [], _∷_, _++_}
 use mathlib.Core.Path.{_≡_, refl}
-use Prim.Native.Nat.{ℕ, _+_, _*_}
+use Prim.Native.Nat.{ℕ, _+_, _-_, _*_}
 use lib.IntN.{ℤ, pos, negsuc}
 use lib.ListN.{replicate}
 use Rattle.integer.specs.Nearest.{halfEven, nearestℕ, nearest}
@@ -22,6 +22,7 @@ use Rattle.sample.specs.Answer.{sampleAnswer}
 use Rattle.mask.specs.Mask.{innerMask, edgeMask, boundaryEdgeMask, smoothCornerMask, boundaryCornerMask, vertexMask}
 use Rattle.patch.specs.Point.{weight, sharp, sharpSum, ringSum, fixed, cornerPoint, innerPoint, edgePoint, alongPoint, beforePoint, point}
 use Rattle.patch.specs.Patch.{owner, kind, patchPoint, patchNumber, patchesAfter}
+use Rattle.edit.specs.Mirror.{mirrored}
 use Rattle.examples.specs.Meshes.{square, cube, pillow, doubledFace, bowTie, strip, tagged, openFanOfEight, openFanOfNine}
 
 -- an example: what is computed, and what is stated
@@ -61,15 +62,22 @@ sampleNumbers (refusal k) = pos k ∷ []
 abbrev sampled : IndexedMesh → ℕ → ℕ → ℕ → ℕ → List ℤ
 sampled M n f a b = sampleNumbers (sampleAnswer (patchesAfter M []) f n a b)
 
--- three coordinates that are not negative
+-- three coordinates that are not negative, and the same with x negated, which is above 0
 abbrev xyz : ℕ → ℕ → ℕ → List ℤ
 xyz x y z = pos x ∷ pos y ∷ pos z ∷ []
+
+abbrev minusX : ℕ → ℕ → ℕ → List ℤ
+minusX x y z = negsuc (x - 1) ∷ pos y ∷ pos z ∷ []
+
+abbrev naturals : List ℕ → List ℤ
+naturals [] = []
+naturals (n ∷ ns) = pos n ∷ naturals ns
 
 -- The square's control points and samples (rules X1 and X2); the cube's counts, corner point, inner point and edge point at (24,24,24) (rule X3);
 -- the roundings of 1/2, 3/2, 5/2, -1/2, -3/2 (rule X4); a face and its own back, so that every n is 2, one face named twice, and two faces
 -- that share a vertex but no half-edge (rule X5); two faces side by side with boundary vertices of two faces (rule X6); the square as an accepted
 -- mesh (rule X1); the strip with a boundary vertex tagged 1 and 2, and the cube with a tagged vertex (rule X7); open fans of eight and nine faces
--- (rule X8).
+-- (rule X8); the mirror image of the strip: its lists, counts, control points and a sample, beside that of the strip (rule X12).
 pub examples : List Example
 examples =
     example (controlPoint square 0 1 0) (xyz 1792 0 0)
@@ -101,6 +109,16 @@ examples =
     ∷ example (checked (tagged cube (0 ∷ 0 ∷ 0 ∷ 0 ∷ 0 ∷ 0 ∷ 0 ∷ 1 ∷ []))) (pos 11 ∷ [])
     ∷ example (checked openFanOfEight) (pos 18 ∷ pos 8 ∷ pos 25 ∷ pos 18 ∷ [])
     ∷ example (checked openFanOfNine) (pos 10 ∷ [])
+    ∷ example (mirrored strip .positions) (xyz 0 0 0 ++ minusX 9 0 0 ++ minusX 18 0 9 ++ minusX 18 9 0 ++ minusX 9 9 0 ++ xyz 0 9 0)
+    ∷ example (naturals (mirrored (tagged strip (0 ∷ 1 ∷ 0 ∷ 0 ∷ 0 ∷ 0 ∷ [])) .tags)) (naturals (0 ∷ 1 ∷ 0 ∷ 0 ∷ 0 ∷ 0 ∷ []))
+    ∷ example (naturals (mirrored strip .indices)) (naturals (0 ∷ 5 ∷ 4 ∷ 1 ∷ 1 ∷ 4 ∷ 3 ∷ 2 ∷ []))
+    ∷ example (checked (mirrored strip)) (pos 6 ∷ pos 2 ∷ pos 7 ∷ pos 6 ∷ [])
+    ∷ example (controlPoint (mirrored strip) 0 1 2) (minusX 1536 768 0)
+    ∷ example (controlPoint (mirrored strip) 0 1 3) (minusX 2304 768 256)
+    ∷ example (controlPoint (mirrored strip) 0 0 3) (minusX 2304 0 384)
+    ∷ example (controlPoint (mirrored strip) 1 1 1) (minusX 3072 768 512)
+    ∷ example (sampled strip 3 0 2 0) (xyz 1536 0 114)
+    ∷ example (sampled (mirrored strip) 3 0 0 2) (minusX 1536 0 114)
     ∷ []
 
 pub examples-hold : computedAll examples ≡ statedAll examples

@@ -71,6 +71,11 @@ module _ {A : Type 0} where
   pub filled-all : (f : ℕ → A) (n i : ℕ) (d m : List A) → i ≤ n → n ≤ i → m ≡ filled f i d → m ≡ filled f n d
   filled-all f n i d m a b e = e ∙ ap (λ (k : ℕ). filled f k d) (le-antisymm a b)
 
+  -- filled up to its end
+  pub filled-whole : (f : ℕ → A) (n : ℕ) (d : List A) → length d ≡ n → filled f n d ≡ listBelow f n
+  unfolding filled listBelow
+  filled-whole f n d e = rw (drop-of-length-le d (le-of-eq e), append-nil)
+
   -- filled once more: only the last filling shows
   pub filled-again : (f g : ℕ → A) (n : ℕ) (d m : List A) → m ≡ filled g n d → filled f n m ≡ filled f n d
   unfolding filled listBelow

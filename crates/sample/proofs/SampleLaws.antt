@@ -1,5 +1,5 @@
 -- The laws of a sample, over any control values g: other forms of its sum, how it is rounded, what it depends on, a quarter turn of the patch,
--- its edge b = 0, the size of its sum, and its distance from the exact surface.
+-- its two directions exchanged, its edge b = 0, the size of its sum, and its distance from the exact surface.
 use mathlib.Core.Path.{_≡_, refl, sym, ap, ap₂, _∙_}
 use Prim.Native.Nat.{ℕ, zero, suc, _+_, _-_, _*_, _/_, _%_, _^_, _<_, _≤_}
 use native.Mathlib.Nat.{add-zero, mul-comm, mul-assoc, mul-le-mul-left, mul-le-mul-right, one-le-pow}
@@ -86,6 +86,17 @@ numerator-turn n a b g h =
 
 pub rounded-turn : (n a b : ℕ) (g : ℕ → ℤ) → a ≤ n → rounded n b (n - a) (quarterTurn g) ≡ rounded n a b g
 rounded-turn n a b g h = rounded-by-sum n b (n - a) a b (quarterTurn g) g (numerator-turn n a b g h)
+
+-- ---- a and b exchanged
+-- the control values of the patch with u and v exchanged: b'(i,j) = b(j,i)
+pub rounded-swap : (n a b : ℕ) (g : ℕ → ℤ) → rounded n b a (λ m. g (m / 4 + 4 * (m % 4))) ≡ rounded n a b g
+unfolding numerator
+rounded-swap n a b g =
+    rounded-by-sum n b a a b _ g
+    (fold-ext (pos 0) _+ℤ_ 4 (λ j l. fold-ext (pos 0) _+ℤ_ 4 (λ i k.
+    ap₂ (λ (w m : ℕ). pos w *ℤ g m)
+    (mul-comm (bernstein n b i) (bernstein n a j)) (let e : (i + 4 * j) / 4 + 4 * ((i + 4 * j) % 4) ≡ j + 4 * i = omega arith in e)))
+    ∙ fold-swap sumℤ-monoid (λ j i. pos (bernstein n a j * bernstein n b i) *ℤ g (j + 4 * i)) 4 4)
 
 -- ---- the edge b = 0
 -- only the points with j = 0 count

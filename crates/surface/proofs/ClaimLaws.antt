@@ -37,20 +37,18 @@ use Rattle.surface.proofs.AnsweredLaws.{coordinate-written, place-none,
 abbrev pub sampleOn : IndexedMesh → List ℤ → ℕ → ℕ → Place → Answer Point
 sampleOn M d n f p = sampleAnswer (patchesAfter M d) f n (p .a) (p .b)
 
-answerFrom : IndexedMesh → ℕ → ℕ → Place → Answer Point
+abbrev pub answerFrom : IndexedMesh → ℕ → ℕ → Place → Answer Point
 answerFrom M n f p = result (pointOf (λ k. sampleFrom (view M k) n (4 * f) p))
 
 -- answers whose coordinates are equal
 same-answer : (M M′ : IndexedMesh) (n f f′ : ℕ) (p p′ : Place)
     → ((k : ℕ) → k < 3 → sampleFrom (view M k) n (4 * f) p ≡ sampleFrom (view M′ k) n (4 * f′) p′) → answerFrom M n f p ≡ answerFrom M′ n f′ p′
-unfolding answerFrom
 same-answer M M′ n f f′ p p′ h = rw (h 0 (omega arith), h 1 (omega arith), h 2 (omega arith))
 
 -- what the sample call gives, by the control points
-sampled : {M : IndexedMesh} → WellFormed M → (d : List ℤ) → 48 * M .faces ≤ length d → (n f : ℕ) (p : Place)
+pub sampled-from : {M : IndexedMesh} → WellFormed M → (d : List ℤ) → 48 * M .faces ≤ length d → (n f : ℕ) (p : Place)
     → f < M .faces → placeOff n (p .a) (p .b) ≡ false → sampleOn M d n f p ≡ answerFrom M n f p
-unfolding answerFrom
-sampled {M} a d long n f p l on =
+sampled-from {M} a d long n f p l on =
     answered a d f n (p .a) (p .b) long l on
     ∙ rw (
       coordinate-written M d f n (p .a) (p .b) 0 l (omega arith),
@@ -87,7 +85,7 @@ module _ {M : IndexedMesh} (a : WellFormed M) (d : List ℤ) (long : 48 * M .fac
   on-side : (c t : ℕ) → c < corners M → placeOff n t 0 ≡ false → sampleOn M d n (c / 4) (onSide n (c % 4) t) ≡ answerFrom M n (c / 4) (onSide n (c % 4) t)
   on-side c t l on =
       let w = side-within n (c % 4) t (place-on n t 0 on .2) in
-      sampled a d long n (c / 4) (onSide n (c % 4) t) (omega arith) (place-none n t 0 _ _ on (w .0) (w .1))
+      sampled-from a d long n (c / 4) (onSide n (c % 4) t) (omega arith) (place-none n t 0 _ _ on (w .0) (w .1))
 
   pub seam-on : (c t : ℕ) → c < corners M → boundary (at M) (corners M) c ≡ false → placeOff n t 0 ≡ false
       → sampleOn M d n (c / 4) (onSide n (c % 4) t) ≡ sampleOn M d n (twin (at M) (corners M) c / 4) (onSide n (twin (at M) (corners M) c % 4) (n - t))
@@ -103,7 +101,7 @@ module _ {M : IndexedMesh} (a : WellFormed M) (d : List ℤ) (long : 48 * M .fac
   renumbered-on {M′} r d′ long′ f p l on =
       let s = place-on n (p .a) (p .b) on in
       let w = matching-within n (r .start f) p (s .2, s .3) in
-      sampled a d long n f p l on
+      sampled-from a d long n f p l on
       ∙ sym (same-answer M′ M n _ _ _ _ (λ k h. sample-renumbered r a k h f l n p (s .2, s .3)))
-      ∙ sym (sampled (alike-well-formed a (alike r)) d′ long′ n (r .faces .to f) (matching n (r .start f) p)
+      ∙ sym (sampled-from (alike-well-formed a (alike r)) d′ long′ n (r .faces .to f) (matching n (r .start f) p)
       (rw (r .same-faces) (r .faces .to-below f l)) (place-none n (p .a) (p .b) _ _ on (w .0) (w .1)))

@@ -31,7 +31,7 @@ use Rattle.surface.specs.declared.model.Evaluation.{Evaluation}
 use Rattle.surface.specs.declared.model.Witness.{Witness}
 use Rattle.surface.proofs.FromRenumbering.{alike}
 use Rattle.surface.proofs.AnsweredLaws.{answered}
-use Rattle.surface.proofs.ClaimLaws.{distance-on, seam-on, renumbered-on}
+use Rattle.surface.proofs.ClaimLaws.{answerFrom, sampled-from, distance-on, seam-on, renumbered-on}
 
 -- what the two calls gave, the sample call on the list that the patch call left
 pub evaluated : {M : IndexedMesh} {d b : List ℕ} {e p : List ℤ} {n : ℕ} {q : SamplePlace} {r : Evaluation}
@@ -54,7 +54,7 @@ module _ {M : IndexedMesh} (twins : List ℕ) (patches : List ℤ) (a : WellForm
       none-append (earlyRows M (patchRows M twins patches)) (lateRows M ++ []) (accepted-early a (patchRows M twins patches) (rw long))
       ∙ none-append (lateRows M) [] (accepted-late a)
 
-  accepted-answer : patchAnswer M twins patches ≡ result (countsOf M)
+  pub accepted-answer : patchAnswer M twins patches ≡ result (countsOf M)
   accepted-answer = rw unmet
 
   accepted-list : patchList M twins patches ≡ patchesAfter M patches
@@ -66,6 +66,10 @@ module _ {M : IndexedMesh} (twins : List ℕ) (patches : List ℤ) (a : WellForm
   -- a sample on that list
   sample-on : (n : ℕ) (q : SamplePlace) → sampleAt (patchList M twins patches) n q ≡ sampleAt (patchesAfter M patches) n q
   sample-on n q = ap (λ (t : List ℤ). sampleAt t n q) accepted-list
+
+  -- the same, by the control points
+  pub sample-from : (n : ℕ) (q : SamplePlace) → OnMesh M n q → sampleAt (patchList M twins patches) n q ≡ answerFrom M n (q .face) (place (q .a) (q .b))
+  sample-from n q on = sample-on n q ∙ sampled-from a patches patches-long n (q .face) (place (q .a) (q .b)) (on .0) (on .1)
 
 module _ {M M′ : IndexedMesh} {d d′ b b′ : List ℕ} {e e′ p p′ : List ℤ} {n : ℕ} {q q′ : SamplePlace} (o : SamplePlace) (w : Witness)
     (first : Evaluated M d e n q (w .first) b p) (second : Evaluated M′ d′ e′ n q′ (w .second) b′ p′)

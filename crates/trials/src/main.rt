@@ -1,8 +1,9 @@
 // Runs the calls on each trial that an argument names (a file, see reading.rt), and prints one line for it, which begins with the
-// name; a patch trial has more lines. mesh_trial.rt, patch_trial.rt and sample_trial.rt say what follows the name. `no file` says
-// that none has that name, `not whole` that the file is longer or shorter than its sizes and lists, and `too long` that a list has
-// more places than reading.rt has for it.
+// name; a patch trial and a mirror trial have more lines. mesh_trial.rt, patch_trial.rt, mirror_trial.rt and sample_trial.rt say what
+// follows the name. `no file` says that none has that name, `not whole` that the file is longer or shorter than its sizes and lists,
+// and `too long` that a list has more places than reading.rt has for it.
 mod mesh_trial;
+mod mirror_trial;
 mod patch_trial;
 mod printing;
 mod reading;

@@ -1,16 +1,18 @@
-// A trial of the mesh check, and the lists of a trial of the patch call. The line of the mesh check goes on
+// A trial of the mesh check, and the lists of a trial of the patch call or of the mirror call. The line of the mesh check goes on
 //
 //     V F E B twins P Q R S       of an accepted mesh
 //     refused N twins P Q R S     of a refused one
 //
 // P to S are the lent twins as they are afterwards, at the places 0, 4F - 1, 4F and the last; `-` is a place that the list does not
-// have. Every place of the list holds 7 before the call. The lists of both kinds of trial are read here; patch_trial.rt goes on with
-// those that have a head.
+// have. Every place of the list holds 7 before the call. The lists of all three kinds of trial are read here; patch_trial.rt and
+// mirror_trial.rt go on with those that have a head.
+use crate::mirror_trial;
 use crate::patch_trial;
 use crate::printing::print_checked;
 use crate::printing::print_twins;
 use crate::reading::PLACES;
 use crate::reading::can_run;
+use crate::reading::is_mirror;
 use crate::reading::read_i32s;
 use crate::reading::read_u16s;
 use crate::reading::room;
@@ -54,6 +56,14 @@ fn has_room(b: &[u8]) -> bool {
     (u16_at(b, 4) <= PLACES) & (u16_at(b, 8) <= PLACES) & (u16_at(b, 10) <= PLACES)
 }
 
+// Whether each list that a head gives a length has room.
+fn head_has_room(head: &[u8]) -> bool {
+    if is_mirror(head) {
+        return mirror_trial::has_room(head);
+    }
+    patch_trial::has_room(head)
+}
+
 // The check of the mesh with its lists, and the answer and the twins printed.
 fn show(b: &[u8], positions: &[i32], faces: &[u16], twins: &mut [u16]) {
     let f = u16_at(b, 2);
@@ -61,20 +71,16 @@ fn show(b: &[u8], positions: &[i32], faces: &[u16], twins: &mut [u16]) {
     print_twins(twins, 4 * f);
 }
 
-// The trial with its lists: of the check without a head, and of the patch call with one.
+// The trial with its lists: of the check without a head, and of the mirror call or the patch call with one.
 fn with_twins(head: &[u8], b: &[u8], positions: &[i32], faces: &[u16], twins: &mut [u16]) {
+    let v = u16_at(b, 0);
+    let f = u16_at(b, 2);
     if head.len() == 0 {
         show(b, positions, faces, twins);
+    } else if is_mirror(head) {
+        mirror_trial::run(head, v, f, positions, tags(b), faces, twins);
     } else {
-        patch_trial::run(
-            head,
-            u16_at(b, 0),
-            u16_at(b, 2),
-            positions,
-            tags(b),
-            faces,
-            twins,
-        );
+        patch_trial::run(head, v, f, positions, tags(b), faces, twins);
     }
 }
 
@@ -96,7 +102,7 @@ fn with_positions(head: &[u8], b: &[u8], positions: &mut [i32]) {
 
 // The trial in a file's head and the bytes after it.
 pub(crate) fn run(head: &[u8], b: &[u8]) {
-    if !can_run(b, length(b), has_room(b) & patch_trial::has_room(head)) {
+    if !can_run(b, length(b), has_room(b) & head_has_room(head)) {
         return;
     }
     let n = room(u16_at(b, 4));

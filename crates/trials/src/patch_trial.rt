@@ -9,12 +9,11 @@
 // of the numbers and that of the sums x0, x0 + x1 .. on the way, both modulo 2^32. Every place of both lists holds 7 before the call.
 use crate::printing::print_checked;
 use crate::printing::print_every;
-use crate::printing::print_patches;
 use crate::printing::print_text;
 use crate::reading::u16_at;
 use crate::sample_trial::print_answers;
 use crate::sums::Sums;
-use crate::sums::of_list;
+use crate::sums::print_list;
 use crate::sums::print_sums;
 use crate::sums::with_sample;
 use limits::model::Checked;
@@ -93,8 +92,7 @@ fn print_lists(answer: Checked, n: usize, twins: &[u16], patches: &[i32])
     print_text(b" twins");
     print_every(twins);
     print_text(b"\n patches");
-    print_sums(of_list(patches));
-    print_patches(patches);
+    print_list(patches);
     let Checked::Accepted(mesh) = answer else {
         return;
     };

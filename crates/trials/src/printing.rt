@@ -1,4 +1,5 @@
 // The parts of a trial's line, on standard output.
+use finite::model::Outcome;
 use libc::STDOUT_FILENO;
 use limits::model::Checked;
 use sample::model::Reading;
@@ -54,6 +55,14 @@ pub(crate) fn print_checked(answer: Checked) {
     }
 }
 
+// The answer of a call that has no result: that it is done, or the refusal.
+pub(crate) fn print_outcome(answer: Outcome) {
+    match answer {
+        Outcome::Done => print_text(b" done"),
+        Outcome::Refused(n) => print_refusal(n),
+    }
+}
+
 // The number at a place of a list, or `-` where there is none.
 fn print_at(list: &[u16], at: usize) {
     if at < list.len() {
@@ -79,24 +88,24 @@ pub(crate) fn print_every(list: &[u16]) {
     }
 }
 
-// The numbers of a patch, and how many of a patch list are printed: those of 17 patches.
-const PATCH: usize = 48;
+// The numbers to a line, those of a patch, and how many of a list are printed: 17 lines.
+const LINE: usize = 48;
 
 const CLEAR: usize = 816;
 
-// A number of the patch list, on a new line where it is the first of a patch.
-fn print_patch_number(at: usize, n: i32) {
-    if at % PATCH == 0 {
+// A number of a list, on a new line where it is the first of a line.
+fn print_in_lines(at: usize, n: i32) {
+    if at % LINE == 0 {
         print_text(b"\n");
     }
     print_signed(n);
 }
 
-// The first numbers of a patch list, those of a patch to a line.
-pub(crate) fn print_patches(patches: &[i32]) {
-    for i in 0..patches.len() {
+// The first numbers of a list of control values or positions, in lines.
+pub(crate) fn print_clear(list: &[i32]) {
+    for i in 0..list.len() {
         if i < CLEAR {
-            print_patch_number(i, patches[i]);
+            print_in_lines(i, list[i]);
         }
     }
 }

@@ -6,6 +6,10 @@
 // Of the patch call: 65533, the length of the list of patches, and N, as 16-bit numbers, which are the file's head; then a file of the
 // mesh check.
 //
+// Of the mirror call: 65531 and the lengths of the lent lists of positions, tags and faces, as 16-bit numbers; then a file of the patch
+// call, whose mesh is mirrored. The eight bytes and the head of that file are this file's head; the twins, the patches and N are those
+// of the image.
+//
 // Of the sample call: 65535 as a 16-bit number, which is V in no trial of the mesh check; then f, N, a and b as 64-bit numbers; then
 // the control values as 32-bit two's complement numbers, to the end of the file.
 use crate::printing::print_text;
@@ -16,17 +20,31 @@ ghost use lib.ListN.{length};
 // What the file of a patch trial has where that of a mesh trial has V.
 const PATCH: usize = 65533;
 
-// The places of each list that is read or lent, but for the tags, which stay in the file, and the patches.
+// What that of a mirror trial has there.
+const MIRROR: usize = 65531;
+
+// The places of each list that is read or lent, but for the tags of the mesh, which stay in the file, and the patches.
 pub(crate) const PLACES: usize = 2048;
 
-// The length of a file's head: 6 bytes of a patch trial, as far as there are any, and none of a mesh trial.
+// Whether the head of a file is that of a mirror trial.
+pub(crate) fn is_mirror(head: &[u8]) -> bool {
+    u16_at(head, 0) == MIRROR
+}
+
+// The length of the head of a file that is whole: 14 bytes of a mirror trial, 6 of a patch trial and none of a mesh trial.
+fn whole_head_length(b: &[u8]) -> usize {
+    if is_mirror(b) {
+        return 14;
+    }
+    if u16_at(b, 0) == PATCH { 6 } else { 0 }
+}
+
+// The length of a file's head, as far as there are bytes.
 pub(crate) fn head_length(b: &[u8]) -> usize
     ensures { λ r. ⌜ r ≤ length (now (b .entry)) ⌝ }
 {
-    if u16_at(b, 0) != PATCH {
-        return 0;
-    }
-    if b.len() < 6 { b.len() } else { 6 }
+    let n = whole_head_length(b);
+    if n < b.len() { n } else { b.len() }
 }
 
 // The places that a list of n numbers takes up, as far as there are any.
@@ -57,7 +75,7 @@ fn wide(x: u8) -> usize
 }
 
 // The byte at a place; 0 beyond the last.
-fn byte_at(b: &[u8], at: usize) -> usize
+pub(crate) fn byte_at(b: &[u8], at: usize) -> usize
     ensures { λ r. ⌜ r < 256 ⌝ }
 {
     if at < b.len() { wide(b[at]) } else { 0 }

@@ -1,6 +1,7 @@
 // Two sums over signed numbers: of the numbers, and of the first sums on the way, which the order of the numbers changes. They are kept
 // modulo 2^64 and printed modulo 2^32.
 use crate::printing::magnitude;
+use crate::printing::print_clear;
 use crate::printing::print_wide;
 use sample::model::Sampled;
 
@@ -37,7 +38,7 @@ pub(crate) fn with_sample(sums: Sums, answer: Sampled) -> Sums {
 }
 
 // The two sums of a list.
-pub(crate) fn of_list(list: &[i32]) -> Sums {
+fn of_list(list: &[i32]) -> Sums {
     let mut sums = Sums {
         first: 0,
         second: 0,
@@ -52,4 +53,10 @@ pub(crate) fn of_list(list: &[i32]) -> Sums {
 pub(crate) fn print_sums(sums: Sums) {
     print_wide(sums.first % 4294967296);
     print_wide(sums.second % 4294967296);
+}
+
+// The two sums of a list, and its first numbers in clear.
+pub(crate) fn print_list(list: &[i32]) {
+    print_sums(of_list(list));
+    print_clear(list);
 }

@@ -1,4 +1,4 @@
-//! The claim in its three parts, on the library's own numbers: distance, seam and renumbering.
+//! The claim in its three parts, on the library's own numbers: distance, seam and renumbering. And the claim of the mirror.
 
 use crate::document::{weights, Fraction, Surface};
 use crate::model::{Model, Renumbering};
@@ -108,4 +108,35 @@ pub fn renumbering(mesh: &Model, patches: &[i32], n: usize, random: &mut Random,
         tally.matches += 1;
     }
     tally.renumbered += 1;
+}
+
+/// The counts of the library for a mesh that must be accepted.
+fn library_counts(mesh: &Model) -> rusketja::Counts {
+    let refused = |refusal: rusketja::Refusal| panic!("an accepted mesh is refused with {}", refusal.0);
+    rusketja::check(&mesh.lend(), &mut vec![0; 4 * mesh.faces]).unwrap_or_else(refused)
+}
+
+/// The image that the library writes of a mesh that must be accepted.
+pub fn library_image(mesh: &Model) -> Model {
+    let mut image = mesh.filled(mesh.lengths(), &mut Random::case(0, 0, 0));
+    let refused = |refusal: rusketja::Refusal| panic!("the mirror refuses an accepted mesh with {}", refusal.0);
+    rusketja::mirror(&mesh.lend(), &mut image.positions, &mut image.tags, &mut image.indices).unwrap_or_else(refused);
+    image
+}
+
+/// The image is accepted with the same counts, has the mesh as its own image, and has at (b, a) what the mesh has at (a, b), but for
+/// the sign of x.
+pub fn mirror(mesh: &Model, patches: &[i32], n: usize, random: &mut Random, tally: &mut Tally) {
+    let image = library_image(mesh);
+    assert_eq!(library_counts(&image), library_counts(mesh), "mirror: the counts of the image, left, and of the mesh");
+    assert!(library_image(&image) == *mesh, "mirror: the image of the image is another mesh");
+    let new = library_patches(&image);
+    for _ in 0..(4 * mesh.faces).min(60) {
+        let (face, a, b) = (random.below(mesh.faces), place(n, random), place(n, random));
+        let [x, y, z] = library_sample(patches, face, n, a, b);
+        let there = library_sample(&new, face, n, b, a);
+        assert_eq!(there, [-x, y, z], "mirror: face {face}, N {n}, ({b}, {a}) of the image and ({a}, {b}) of the mesh");
+        tally.reflections += 1;
+    }
+    tally.images += 1;
 }

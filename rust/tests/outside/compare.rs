@@ -75,10 +75,53 @@ pub fn mesh_calls(mesh: &Model, lent: &Lent, tally: &mut Tally) -> Vec<i32> {
     same("mates after the patch call", &twins, &twins_after);
     same("patch list after the patch call", &patches, &patches_after);
     assert!(*mesh == before, "a list of the mesh was written");
-    tally.causes(&document::causes(mesh, twins.len(), Some(patches.len())));
+    tally.causes(&document::causes(mesh, Some(twins.len()), Some(patches.len())));
     tally.patches[answer.err().unwrap_or(0) as usize] += 1;
     tally.control_values += answer.map_or(0, |[_, faces, _, _]| 48 * faces as u64);
     patches
+}
+
+/// The mirror call with the lists of another mesh to write.
+pub fn mirror_call(mesh: &Model, lent: &Model, tally: &mut Tally) {
+    let before = mesh.clone();
+    let (causes, after) = document::mirror(mesh, lent);
+    let mut image = lent.clone();
+    let answer = rusketja::mirror(&mesh.lend(), &mut image.positions, &mut image.tags, &mut image.indices);
+    assert_eq!(
+        answer.err().map(|refusal| refusal.0),
+        causes.first().copied(),
+        "the refusal of the mirror on lists of {:?}, left: library",
+        lent.lengths()
+    );
+    same("positions after the mirror", &image.positions, &after.positions);
+    same("tags after the mirror", &image.tags, &after.tags);
+    same("faces after the mirror", &image.indices, &after.indices);
+    assert!(*mesh == before, "a list of the mesh was written");
+    tally.mirror(&causes, mesh.lengths(), lent.lengths());
+}
+
+/// Another length: one less, one more, or anything, once in a while the same.
+fn other_length(right: usize, random: &mut Random) -> usize {
+    match random.below(4) {
+        0 => right.saturating_sub(1),
+        1 => right + 1,
+        2 => random.below(right + 1),
+        _ => right + random.below(20),
+    }
+}
+
+/// Another length for one list, for two or for all three.
+fn other_lengths(right: [usize; 3], random: &mut Random) -> [usize; 3] {
+    let lists = 1 + random.below(7);
+    [0, 1, 2].map(|list| if lists >> list & 1 == 0 { right[list] } else { other_length(right[list], random) })
+}
+
+/// The mirror call on lists of the right lengths, and on lists of others.
+pub fn mirror_calls(mesh: &Model, random: &mut Random, tally: &mut Tally) {
+    let right = mesh.lengths();
+    for lengths in [right, other_lengths(right, random)] {
+        mirror_call(mesh, &mesh.filled(lengths, random), tally);
+    }
 }
 
 /// The sample call and the reading at one place.

@@ -1,5 +1,5 @@
-//! The rules of docs/SPECIFICATION.md, one by one, in exact fractions: slow and plain. Written from the user's document alone, before
-//! that page, and so in the user's words: a side is a half-edge, a mate a twin, the rim the boundary, a patch number a control value.
+//! The rules of docs/SPECIFICATION.md, one by one, in exact fractions: slow and plain. Written from the user's documents alone, not
+//! from that page, and so in the user's words: a side is a half-edge, a mate a twin, the rim the boundary, a patch number a control value.
 
 use crate::model::Model;
 use std::collections::BTreeSet;
@@ -229,17 +229,18 @@ fn off_range(ring: Ring) -> bool {
     }
 }
 
-/// The first cause met in the order of the numbers; patches has the length of the patch list where one is lent.
-pub fn refusal(mesh: &Model, twins: usize, patches: Option<usize>) -> Option<u8> {
+/// The first cause met in the order of the numbers; twins and patches have the lengths of those lists where one is lent.
+pub fn refusal(mesh: &Model, twins: Option<usize>, patches: Option<usize>) -> Option<u8> {
     causes(mesh, twins, patches).first().copied()
 }
 
 /// The causes met, in the order of the numbers, as far as they can be told: nothing after 1, no 7 to 11 after 5, nothing after 7.
-pub fn causes(mesh: &Model, twins: usize, patches: Option<usize>) -> Vec<u8> {
+pub fn causes(mesh: &Model, twins: Option<usize>, patches: Option<usize>) -> Vec<u8> {
     if sizes_wrong(mesh) {
         return vec![1];
     }
-    let short = twins < 4 * mesh.faces || patches.is_some_and(|length| length < 48 * mesh.faces);
+    let below = |length: Option<usize>, places: usize| length.is_some_and(|length| length < places * mesh.faces);
+    let short = below(twins, 4) || below(patches, 48);
     let coordinate_off = mesh.positions.iter().any(|x| !(-1_048_576..=1_048_576).contains(x));
     let tag_off = mesh.tags.iter().any(|&tag| tag > 1);
     let vertex_off = mesh.indices.iter().any(|&p| p as usize >= mesh.vertices);
@@ -273,7 +274,7 @@ fn causes_of_surface(surface: &Surface) -> Vec<u8> {
 /// What a call answers and what it leaves in the list of mates, given what was there before.
 fn answer(mesh: &Model, twins: &[u16], patches: Option<usize>) -> (Result<Four, u8>, Vec<u16>) {
     let mut after = twins.to_vec();
-    if let Some(number) = refusal(mesh, twins.len(), patches) {
+    if let Some(number) = refusal(mesh, Some(twins.len()), patches) {
         if number >= 8 {
             after[..4 * mesh.faces].fill(RIM);
         }
@@ -305,6 +306,23 @@ pub fn patches(mesh: &Model, twins: &[u16], patches: &[i32]) -> (Result<Four, u8
         }
     }
     (answer, twins, after)
+}
+
+/// The other foot: every vertex with x negated, every face from its first corner backwards.
+fn mirrored(mesh: &Model) -> Model {
+    let positions = mesh.positions.chunks(3).flat_map(|vertex| [-vertex[0], vertex[1], vertex[2]]).collect();
+    let indices = mesh.indices.chunks(4).flat_map(|face| [face[0], face[3], face[2], face[1]]).collect();
+    Model { positions, indices, ..mesh.clone() }
+}
+
+/// The causes that the mirror meets, those of the mesh and then 16, and its lent lists afterwards.
+pub fn mirror(mesh: &Model, lent: &Model) -> (Vec<u8>, Model) {
+    let mut met = causes(mesh, None, None);
+    if lent.lengths() != mesh.lengths() {
+        met.push(16);
+    }
+    let after = if met.is_empty() { mirrored(mesh) } else { lent.clone() };
+    (met, after)
 }
 
 /// W0 to W3 of a.

@@ -66,8 +66,11 @@ fn accepted_meshes() {
         claim::seam(&mesh, &patches, n, random, &mut tally);
         claim::renumbering(&mesh, &patches, n, random, &mut tally);
         compare::face_parts(&mesh.indices, random, &mut tally);
+        compare::mirror_call(&mesh, &mesh.filled(mesh.lengths(), random), &mut tally);
+        claim::mirror(&mesh, &patches, n, random, &mut tally);
     });
     tally.print_answers("accepted meshes");
+    tally.print_mirror();
     tally.print_shapes();
     tally.print_samples("accepted meshes");
     tally.print_claim();
@@ -103,11 +106,15 @@ fn damaged_meshes() {
         let lent = if random.one_in(8) { Lent::any(&mesh, random) } else { Lent::enough(&mesh, random) };
         compare::mesh_calls(&mesh, &lent, &mut tally);
         compare::face_parts(&mesh.indices, random, &mut tally);
+        compare::mirror_calls(&mesh, random, &mut tally);
     });
     tally.print_answers("damaged meshes");
     tally.print_causes();
+    tally.print_mirror();
+    tally.print_lengths();
     if whole_run() {
         tally.assert_refusals();
+        tally.assert_mirror();
     }
 }
 
@@ -172,12 +179,13 @@ fn arbitrary_patch_lists() {
     }
 }
 
-/// Both calls on a mesh of these faces.
-fn hold(case: &str, quads: &Quads, lent: &Lent, tally: &mut Tally) {
+/// The three calls on a mesh of these faces.
+fn hold(case: &str, quads: &Quads, lent: &Lent, random: &mut Random, tally: &mut Tally) {
     let mut mesh = quads.model();
     mesh.positions.iter_mut().enumerate().for_each(|(at, x)| *x = (at * at) as i32);
     let _shown = Shown { case, mesh: &mesh };
     compare::mesh_calls(&mesh, lent, tally);
+    compare::mirror_calls(&mesh, random, tally);
 }
 
 /// The face with these digits in the base as its corners.
@@ -188,13 +196,15 @@ fn face_of(number: usize, base: usize) -> [usize; 4] {
 #[test]
 fn every_small_mesh() {
     let mut tally = Tally::default();
-    let lent = Lent::filled(13, 150, &mut Random::case(seed(), 4, 0));
+    let mut random = Random::case(seed(), 4, 0);
+    let lent = Lent::filled(13, 150, &mut random);
     for number in 0..5usize.pow(8) {
         let faces = vec![face_of(number % 625, 5), face_of(number / 625, 5)];
         hold(
             "every pair of faces over four vertices and one more number",
             &Quads { vertices: 4, faces },
             &lent,
+            &mut random,
             &mut tally,
         );
     }
@@ -206,8 +216,10 @@ fn every_small_mesh() {
             .collect();
         for (one, other) in all.iter().flat_map(|one| all.iter().map(move |other| (one, other))) {
             let quads = Quads { vertices, faces: vec![[0, 1, 2, 3], *one, *other] };
-            hold("every three faces, the first 0 1 2 3", &quads, &lent, &mut tally);
+            hold("every three faces, the first 0 1 2 3", &quads, &lent, &mut random, &mut tally);
         }
     }
     tally.print_answers("every small mesh");
+    tally.print_mirror();
+    tally.print_lengths();
 }

@@ -22,6 +22,21 @@ impl Model {
             indices: &self.indices,
         }
     }
+
+    /// The lengths of positions, tags and faces.
+    pub fn lengths(&self) -> [usize; 3] {
+        [self.positions.len(), self.tags.len(), self.indices.len()]
+    }
+
+    /// A mesh of the same sizes with lists of these lengths, filled with anything.
+    pub fn filled(&self, [positions, tags, indices]: [usize; 3], random: &mut Random) -> Model {
+        Model {
+            positions: (0..positions).map(|_| random.next() as i32).collect(),
+            tags: (0..tags).map(|_| random.next() as u8).collect(),
+            indices: (0..indices).map(|_| random.next() as u16).collect(),
+            ..*self
+        }
+    }
 }
 
 impl fmt::Display for Model {

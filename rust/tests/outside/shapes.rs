@@ -27,8 +27,7 @@ impl Quads {
     }
 
     fn accepted(&self) -> bool {
-        let mesh = self.model();
-        document::refusal(&mesh, mesh.indices.len(), None).is_none()
+        document::refusal(&self.model(), None, None).is_none()
     }
 
     /// The other mesh set beside this one.

@@ -3,6 +3,9 @@
 use crate::document::{Ring, Surface};
 use crate::model::Model;
 
+/// The answers of the mirror: 0 when it is done, or the number of a refusal.
+const MIRROR: [usize; 12] = [0, 1, 3, 4, 5, 6, 7, 8, 9, 10, 11, 16];
+
 #[derive(Default)]
 pub struct Tally {
     pub closed: u64,
@@ -14,6 +17,10 @@ pub struct Tally {
     pub patches: [u64; 15],
     /// Patch calls by the first cause met and by each other one.
     pub together: [[u64; 12]; 12],
+    /// Answers of the mirror by number; those by an earlier cause where 16 was met too; 16 for one list alone, shorter or longer.
+    pub mirror: [u64; 17],
+    pub before_16: [u64; 12],
+    pub alone_off: [[u64; 2]; 3],
     pub samples: [u64; 15],
     pub readings: [u64; 15],
     /// Vertices by n, and by k and tag.
@@ -29,6 +36,8 @@ pub struct Tally {
     pub seams: u64,
     pub matches: u64,
     pub renumbered: u64,
+    pub images: u64,
+    pub reflections: u64,
     /// The largest distance seen, in millionths of one unit.
     pub farthest: u64,
 }
@@ -66,6 +75,17 @@ impl Tally {
         }
     }
 
+    /// Counts a call of the mirror by the causes met; the lengths are those of the mesh's lists and of the lent ones.
+    pub fn mirror(&mut self, causes: &[u8], right: [usize; 3], lent: [usize; 3]) {
+        self.mirror[causes.first().copied().unwrap_or(0) as usize] += 1;
+        let off: Vec<usize> = (0..3).filter(|&list| right[list] != lent[list]).collect();
+        match (causes, &off[..]) {
+            ([16], &[list]) => self.alone_off[list][(lent[list] > right[list]) as usize] += 1,
+            ([first, .., 16], _) => self.before_16[*first as usize] += 1,
+            _ => {}
+        }
+    }
+
     pub fn print_answers(&self, title: &str) {
         println!("{title}: answers of the check, 0 to 11: {:?}", &self.check[..12]);
         println!("  answers of the patch call, 0 to 11: {:?}", &self.patches[..12]);
@@ -80,6 +100,15 @@ impl Tally {
                 &self.together[first][first + 1..]
             );
         }
+    }
+
+    pub fn print_mirror(&self) {
+        println!("  answers of the mirror, 0, 1, 3 to 11, 16: {:?}", MIRROR.map(|number| self.mirror[number]));
+    }
+
+    pub fn print_lengths(&self) {
+        println!("  of the mirror, refused before 16, which was met too, 1 to 11: {:?}", &self.before_16[1..]);
+        println!("  refused with 16 for positions, tags, faces alone, shorter and longer: {:?}", self.alone_off);
     }
 
     pub fn print_shapes(&self) {
@@ -107,6 +136,7 @@ impl Tally {
             "  seam places {}, renumbered meshes {}, matching places {}",
             self.seams, self.renumbered, self.matches
         );
+        println!("  mirrored meshes {}, places of images {}", self.images, self.reflections);
     }
 
     /// Every n and k, both tags, closed and open meshes, the largest sizes.
@@ -129,6 +159,13 @@ impl Tally {
         }
     }
 
+    /// Every answer of the mirror, 16 behind every other refusal, and 16 for each list alone.
+    pub fn assert_mirror(&self) {
+        assert!(MIRROR.iter().all(|&number| self.mirror[number] > 0), "an answer of the mirror was not seen");
+        assert!(MIRROR[1..11].iter().all(|&first| self.before_16[first] > 0), "16 was not seen behind each refusal");
+        assert!(self.alone_off.iter().flatten().all(|&seen| seen > 0), "16 was not seen for each list alone");
+    }
+
     /// Every N, every refusal of a sample and of a reading, every kind of half.
     pub fn assert_samples(&self) {
         assert!(self.steps.iter().all(|&seen| seen > 0), "an N was not seen");
@@ -137,9 +174,10 @@ impl Tally {
         assert!(self.halves.iter().flatten().all(|&seen| seen > 0), "a kind of half was not seen");
     }
 
-    /// Each of the three parts of the claim.
+    /// Each of the three parts of the claim, and that of the mirror.
     pub fn assert_claim(&self) {
         assert!(self.distances > 0 && self.seams > 0 && self.matches > 0 && self.renumbered > 0);
+        assert!(self.images > 0 && self.reflections > 0);
     }
 }
 

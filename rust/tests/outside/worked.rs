@@ -1,4 +1,4 @@
-//! The worked meshes of rules X1 to X5 and the limits of rule X9, with the numbers that stand there.
+//! The worked meshes of rules X1 to X6 and the limits of rule X9, with the numbers that stand there, and mirror images by hand.
 
 use crate::compare::{self, Lent};
 use crate::model::Model;
@@ -13,19 +13,26 @@ fn model(positions: &[[i32; 3]], faces: &[[usize; 4]]) -> Model {
     mesh
 }
 
-/// The answers of both calls, which must be the same: 0 or the number of the refusal.
+/// The answers of the check, the patch call and the mirror, which must be the same: 0 or the number of the refusal.
 fn answer(mesh: &Model) -> u8 {
-    let mut tally = Tally::default();
+    let (mut tally, mut random) = (Tally::default(), Random::case(0, 0, 0));
     let faces = mesh.faces.min(300);
-    compare::mesh_calls(mesh, &Lent::filled(4 * faces, 48 * faces, &mut Random::case(0, 0, 0)), &mut tally);
+    compare::mesh_calls(mesh, &Lent::filled(4 * faces, 48 * faces, &mut random), &mut tally);
+    compare::mirror_call(mesh, &mesh.filled(mesh.lengths(), &mut random), &mut tally);
     let check = tally.check.iter().position(|&seen| seen > 0);
     assert_eq!(check, tally.patches.iter().position(|&seen| seen > 0));
+    assert_eq!(check, tally.mirror.iter().position(|&seen| seen > 0));
     check.expect("an answer") as u8
 }
 
 /// Control point b(i,j) of the first patch.
 fn at(patches: &[i32], i: usize, j: usize) -> [i32; 3] {
     [0, 1, 2].map(|x| patches[3 * (i + 4 * j) + x])
+}
+
+/// The sample at a place that is not refused.
+fn sample(patches: &[i32], face: usize, n: usize, a: usize, b: usize) -> [i32; 3] {
+    rusketja::sample(patches, face, n, a, b).expect("a sample")
 }
 
 fn square() -> Model {
@@ -58,6 +65,77 @@ fn cube() {
     assert_eq!(at(&patches, 0, 0), [3072, 3072, 3072]);
     assert_eq!(at(&patches, 1, 1), [1536, 1536, 6144]);
     assert_eq!(at(&patches, 1, 0), [1536, 3840, 3840]);
+}
+
+fn strip() -> Model {
+    let positions = [[0, 0, 0], [9, 0, 0], [18, 0, 9], [18, 9, 0], [9, 9, 0], [0, 9, 0]];
+    model(&positions, &[[0, 1, 4, 5], [1, 2, 3, 4]])
+}
+
+#[test]
+fn mirrored_square() {
+    let image = claim::library_image(&square());
+    assert!(image == model(&[[0, 0, 0], [-21, 0, 0], [-21, 21, 0], [0, 21, 0]], &[[0, 3, 2, 1]]));
+    let patches = claim::library_patches(&image);
+    assert_eq!(at(&patches, 0, 1), [-1792, 0, 0]);
+    assert_eq!(at(&patches, 1, 1), [-2304, 2304, 0]);
+    assert_eq!(at(&patches, 1, 2), [-3072, 2304, 0]);
+    assert_eq!(sample(&patches, 0, 2, 0, 1), [-2688, 0, 0]);
+    assert_eq!(sample(&patches, 0, 2, 1, 1), [-2688, 2688, 0]);
+    for (a, b) in [(0, 0), (1, 0), (0, 1), (1, 1)] {
+        assert_eq!(sample(&patches, 0, 1, a, b), [-5376 * b as i32, 5376 * a as i32, 0]);
+    }
+}
+
+#[test]
+fn mirrored_strip() {
+    let mut mesh = strip();
+    // Tags where k is 1, which leave every point as it is.
+    mesh.tags = vec![0, 0, 1, 0, 0, 1];
+    let image = claim::library_image(&mesh);
+    assert_eq!(image.positions, [0, 0, 0, -9, 0, 0, -18, 0, 9, -18, 9, 0, -9, 9, 0, 0, 9, 0]);
+    assert_eq!(image.tags, [0, 0, 1, 0, 0, 1]);
+    assert_eq!(image.indices, [0, 5, 4, 1, 1, 4, 3, 2]);
+    let counts = rusketja::check(&image.lend(), &mut [0; 8]).expect("the image is accepted");
+    assert_eq!([counts.vertices, counts.faces, counts.edges, counts.boundary], [6, 2, 7, 6]);
+    let patches = claim::library_patches(&image);
+    assert_eq!(at(&patches, 1, 2), [-1536, 768, 0]);
+    assert_eq!(at(&patches, 1, 3), [-2304, 768, 256]);
+    assert_eq!(at(&patches, 0, 3), [-2304, 0, 384]);
+    assert_eq!(at(&patches[48..], 1, 1), [-3072, 768, 512]);
+    // The middle of the edge between the faces: (384 + 3 * 256 + 3 * 128 + 0) / 8 in z.
+    let old = claim::library_patches(&mesh);
+    assert_eq!([sample(&old, 0, 2, 2, 1), sample(&old, 1, 2, 0, 1)], [[2304, 1152, 192]; 2]);
+    assert_eq!([sample(&patches, 0, 2, 1, 2), sample(&patches, 1, 2, 1, 0)], [[-2304, 1152, 192]; 2]);
+}
+
+#[test]
+fn mirror_at_the_largest_coordinates() {
+    for x in [shapes::LIMIT as i32, -shapes::LIMIT as i32] {
+        let mut mesh = square();
+        (mesh.positions[3], mesh.positions[6]) = (x, -x);
+        let image = claim::library_image(&mesh);
+        assert_eq!(image.positions, [0, 0, 0, -x, 0, 0, x, 21, 0, 0, 21, 0]);
+        let patches = claim::library_patches(&image);
+        assert_eq!(sample(&patches, 0, 1, 0, 1), [-256 * x, 0, 0]);
+        assert_eq!(sample(&patches, 0, 1, 1, 1), [256 * x, 5376, 0]);
+        mesh.positions[6] = x + x.signum();
+        assert_eq!(answer(&mesh), 3);
+    }
+}
+
+/// Lists of the lengths of others, and lengths that differ in their high bits alone.
+#[test]
+fn mirror_lists_of_other_lengths() {
+    let (mut tally, mut random) = (Tally::default(), Random::case(0, 0, 1));
+    let mut lengths = vec![[0, 0, 0], [6, 18, 8], [18, 8, 6], [8, 6, 18]];
+    for more in [1 << 8, 1 << 16] {
+        lengths.extend([[18 + more, 6, 8], [18, 6 + more, 8], [18, 6, 8 + more]]);
+    }
+    for &other in &lengths {
+        compare::mirror_call(&strip(), &strip().filled(other, &mut random), &mut tally);
+    }
+    assert_eq!(tally.mirror[16], lengths.len() as u64);
 }
 
 /// The answer to faces over vertices that all lie at one place.

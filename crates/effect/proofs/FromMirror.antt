@@ -1,0 +1,147 @@
+-- The mirror image of a mesh is of one shape with it, its faces turned the other way: it is accepted with the same counts, and has the samples
+-- of the mesh with a and b exchanged and x negated.
+--
+--   alike a          the two meshes are of one shape, their faces turned the other way
+--   Reflects k       the relation of coordinate k of the mesh to that of its image
+use mathlib.Core.Path.{_≡_, refl, sym, ap, ap₂, _∙_, subst}
+use Prim.Native.Nat.{ℕ, zero, suc, _+_, _-_, _*_, _/_, _%_, _≤_, _<_}
+use native.Mathlib.Omega.{arith}
+use lib.IntN.{ℤ, pos, negℤ, natAbs, _+ℤ_, _*ℤ_}
+use Rattle.integer.specs.Nearest.{nearest}
+use Rattle.integer.proofs.Difference.{int, _⊕_, ~, prove-eq}
+use Rattle.integer.proofs.Laws.{abs-neg, *ℤ-negℤ}
+use Rattle.integer.proofs.NearestLaws.{nearest-odd}
+use Rattle.finite.specs.Permutation.{Permutation}
+use Rattle.finite.proofs.FilledLaws.{length-listBelow, listBelow-at}
+use Rattle.corner.specs.Corner.{turn, next, prev}
+use Rattle.mesh.specs.IndexedMesh.{IndexedMesh, corners, at, tag, coordinate}
+use Rattle.mesh.specs.WellFormed.{WellFormed}
+use Rattle.sample.specs.Bernstein.{rounded}
+use Rattle.sample.proofs.SampleLaws.{rounded-ext, rounded-swap}
+use Rattle.mask.proofs.LinearLaws.{Linear}
+use Rattle.patch.specs.Patch.{patchPoint, units, controlValue, view}
+use Rattle.patch.proofs.Related.{valued}
+use Rattle.symmetry.proofs.Sense.{reversed}
+use Rattle.symmetry.proofs.Iso.{Iso}
+use Rattle.symmetry.proofs.WellFormedMoves.{Alike}
+use Rattle.correspondence.proofs.PointSense.{pointIn}
+use Rattle.correspondence.proofs.PointMoves.{patch-moves}
+use Rattle.edit.specs.Mirror.{reflectedCorner, reflected, mirrored}
+use Rattle.effect.proofs.SampleRelated.{Rounds, sample-related, control-related}
+
+-- ---- corners
+reflected-below : (f c : ℕ) → c < 4 * f → reflectedCorner c < 4 * f
+reflected-below f c l = omega arith
+
+reflected-twice : (c : ℕ) → reflectedCorner (reflectedCorner c) ≡ c
+reflected-twice c = omega arith
+
+reflected-first : (f : ℕ) → reflectedCorner (4 * f) ≡ 4 * f
+reflected-first f = omega arith
+
+-- corner r of face g
+reflected-at : (g r : ℕ) → r < 4 → reflectedCorner (g * 4 + r) ≡ g * 4 + (4 - r) % 4
+reflected-at g r l = omega arith
+
+turn-at : (k g r : ℕ) → r < 4 → turn k (g * 4 + r) ≡ g * 4 + (r + k) % 4
+turn-at k g r l = omega arith
+
+next-back : (r : ℕ) → r < 4 → ((4 - r) % 4 + 1) % 4 ≡ (4 - (r + 3) % 4) % 4
+next-back r l = omega arith
+
+-- the corner after the image of c is the image of the one before c
+reflected-next : (c : ℕ) → next (reflectedCorner c) ≡ reflectedCorner (prev c)
+reflected-next c =
+    let g : ℕ = c / 4 in
+    let r : ℕ = c % 4 in
+    let l : r < 4 = omega arith in
+    subst (λ (d : ℕ). next (reflectedCorner d) ≡ reflectedCorner (prev d)) (let e : g * 4 + r ≡ c = omega arith in e)
+    (ap next (reflected-at g r l)
+    ∙ turn-at 1 g ((4 - r) % 4) (omega arith)
+    ∙ ap (λ (t : ℕ). g * 4 + t) (next-back r l)
+    ∙ sym (ap reflectedCorner (turn-at 3 g r l) ∙ reflected-at g ((r + 3) % 4) (omega arith)))
+
+-- ---- coordinate k reflected: sums and rounding keep it
+abbrev pub Reflects : ℕ → ℕ → ℤ → ℤ → Type 0
+Reflects k j y z = z ≡ reflected k y
+
+abs-reflected : (k : ℕ) (z : ℤ) → natAbs (reflected k z) ≡ natAbs z
+abs-reflected zero z = abs-neg z
+abs-reflected (suc k) z = refl
+
+reflects-linear : (k : ℕ) → Linear (Reflects k)
+reflects-linear zero = record {
+  nil = refl;
+  plus = λ {y = y} {z = z} e f. ap₂ _+ℤ_ e f ∙ prove-eq (~ (int y) ⊕ ~ (int z)) (~ (int y ⊕ int z)) (omega arith);
+  scale = λ j {z = z} e. ap (λ (t : ℤ). pos j *ℤ t) e ∙ *ℤ-negℤ (pos j) z;
+}
+reflects-linear (suc k) = record { nil = refl; plus = λ e f. ap₂ _+ℤ_ e f; scale = λ j e. ap (λ (t : ℤ). pos j *ℤ t) e }
+
+nearest-reflected : (k : ℕ) (z : ℤ) (d : ℕ) → 0 < d → nearest (reflected k z) d ≡ reflected k (nearest z d)
+nearest-reflected zero z d h = nearest-odd z d h
+nearest-reflected (suc k) z d h = refl
+
+reflects : (k : ℕ) → Rounds (Reflects k)
+reflects k = record { linear = reflects-linear k; rounds = λ d {y} h e. ap (λ (t : ℤ). nearest t d) e ∙ nearest-reflected k y d h }
+
+-- ---- the image of a mesh
+same-numbers : (n : ℕ) → Permutation n
+same-numbers n = record { to = λ k. k; from = λ k. k; to-below = λ k l. l; from-below = λ k l. l; from-to = λ k l. refl; to-from = λ k l. refl }
+
+module _ {M : IndexedMesh} (a : WellFormed M) where
+  reflectedCorners : Permutation (corners M)
+  reflectedCorners = record {
+    to = reflectedCorner;
+    from = reflectedCorner;
+    to-below = reflected-below (M .faces);
+    from-below = reflected-below (M .faces);
+    from-to = λ c l. reflected-twice c;
+    to-from = λ c l. reflected-twice c;
+  }
+
+  at-reflected : (c : ℕ) → c < corners M → at (mirrored M) (reflectedCorner c) ≡ at M c
+  at-reflected c l = listBelow-at _ (corners M) (reflectedCorner c) 0 (reflected-below (M .faces) c l) ∙ ap (at M) (reflected-twice c)
+
+  coordinate-reflected : (p k : ℕ) → p < M .vertices → k < 3 → coordinate (mirrored M) (3 * p + k) ≡ reflected k (coordinate M (3 * p + k))
+  coordinate-reflected p k l h =
+      listBelow-at _ (3 * M .vertices) (3 * p + k) (pos 0) (omega arith)
+      ∙ ap (λ (j : ℕ). reflected j (coordinate M (3 * p + k))) (let e : (3 * p + k) % 3 ≡ k = omega arith in e)
+
+  pub alike : Alike reversed M (mirrored M)
+  unfolding reflectedCorners same-numbers
+  alike = record {
+    same-vertices = refl;
+    same-faces = refl;
+    same-positions = length-listBelow _ (3 * M .vertices) ∙ sym (a .sized .positions-are);
+    same-tags = length-listBelow _ (M .vertices) ∙ sym (a .sized .tags-are);
+    same-indices = length-listBelow _ (corners M) ∙ sym (a .sized .indices-are);
+    shape = record {
+      corners = reflectedCorners;
+      vertices = same-numbers (M .vertices);
+      next-moves = λ c l. reflected-next c;
+      at-moves = at-reflected;
+    };
+    sizes-move = λ p k l h. ap natAbs (coordinate-reflected p k l h) ∙ abs-reflected k _;
+    tags-move = λ p l. listBelow-at _ (M .vertices) p 0 l;
+  }
+
+  -- coordinate k of the vertices, reflected in place: the image has it with the faces turned the other way
+  abbrev X : ℕ → ℕ → ℤ
+  X k p = reflected k (coordinate M (3 * p + k))
+
+  patch-mirrored : (k f m : ℕ) → k < 3 → f < M .faces → m < 16
+      → patchPoint (view (mirrored M) k) (4 * f) m ≡ patchPoint (valued M (X k)) (4 * f) (pointIn reversed m)
+  unfolding alike reflectedCorners same-numbers
+  patch-mirrored k f m h l b =
+      ap (λ (c : ℕ). patchPoint (view (mirrored M) k) c m) (sym (reflected-first f))
+      ∙ patch-moves a alike (X k) (view (mirrored M) k .value) (λ p r. coordinate-reflected p k r h) (4 * f) (omega arith) m b
+
+  -- sample (a, b) of a face turns up at (b, a), with its coordinate k reflected
+  pub sample-mirrored : (n : ℕ) → 0 < n → (f x y k : ℕ) → f < M .faces → x ≤ n → y ≤ n → k < 3
+      → rounded n y x (controlValue (view (mirrored M) k) (4 * f)) ≡ reflected k (rounded n x y (controlValue (view M k) (4 * f)))
+  sample-mirrored n some f x y k l hx hy h =
+      rounded-ext n y x (λ m r. ap units (patch-mirrored k f m h l r))
+      ∙ rounded-swap n x y (controlValue (valued M (X k)) (4 * f))
+      ∙ sample-related (reflects k) n x y some hx hy (controlValue (view M k) (4 * f)) (controlValue (valued M (X k)) (4 * f))
+      (λ m _.
+      control-related (reflects k) (reflects-linear k) (λ j y z e. reflects-linear k .scale 256 {k = j} e) a (view M k .value) (X k) (λ p _. refl) (4 * f) m (omega arith))

@@ -1,0 +1,4 @@
+-- The proof of the claims about edited meshes: from the mirror image of a mesh to the samples of both.
+pub mod SampleRelated
+pub mod FromMirror
+pub mod MirrorLaws

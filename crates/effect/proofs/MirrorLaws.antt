@@ -1,0 +1,113 @@
+-- The claim about the answers that the calls gave for a mesh and for its mirror image, from the laws of the image.
+use mathlib.Core.Path.{_≡_, refl, sym, ap, _∙_, subst}
+use mathlib.Core.Bool.{false}
+use mathlib.Core.List.{List, [], _++_}
+use mathlib.Core.Option.{none}
+use Prim.Native.Nat.{ℕ, _*_, _≤_, _<_}
+use native.Mathlib.Omega.{arith}
+use lib.IntN.{ℤ}
+use Rattle.finite.specs.Table.{result, outcome}
+use Rattle.finite.specs.declared.model.Outcome.{Outcome}
+use Rattle.finite.proofs.TableLaws.{none-append}
+use Rattle.mesh.specs.IndexedMesh.{IndexedMesh, indexed}
+use Rattle.mesh.specs.Refusal.{earlyRows, lateRows}
+use Rattle.mesh.specs.WellFormed.{WellFormed}
+use Rattle.mesh.specs.Answer.{countsOf, meshRefusal}
+use Rattle.mesh.proofs.AcceptedLaws.{accepted-early, accepted-late, accepted-well-formed, well-formed-accepted}
+use Rattle.sample.specs.Answer.{sampled}
+use Rattle.sample.specs.declared.model.Point.{Point}
+use Rattle.sample.proofs.RefusalLaws.{place-on}
+use Rattle.patch.specs.Patch.{view}
+use Rattle.patch.specs.Answer.{listsShort, patchList}
+use Rattle.symmetry.proofs.WellFormedMoves.{alike-well-formed, alike-counts}
+use Rattle.edit.specs.Mirror.{reflected, mirrored, outputsOff, mirrorRows, mirrorRefusal, MeshMirrored}
+use Rattle.surface.specs.Claim.{OnMesh}
+use Rattle.surface.specs.Renumbering.{place}
+use Rattle.surface.specs.Witness.{sampleAt, Evaluated}
+use Rattle.surface.specs.declared.model.SamplePlace.{SamplePlace}
+use Rattle.surface.specs.declared.model.Evaluation.{Evaluation}
+use Rattle.surface.proofs.FaceSamples.{sampleFrom}
+use Rattle.surface.proofs.AnsweredLaws.{place-none}
+use Rattle.surface.proofs.ClaimLaws.{answerFrom}
+use Rattle.surface.proofs.WitnessLaws.{accepted-answer, sample-from}
+use Rattle.effect.specs.Mirroring.{exchanged, reflectedAnswer, MirrorClaim, MirrorWitnessed}
+use Rattle.effect.specs.declared.model.Mirroring.{Mirroring}
+use Rattle.effect.proofs.FromMirror.{alike, sample-mirrored}
+
+-- ---- the image of an accepted mesh
+module _ {M : IndexedMesh} (a : WellFormed M) where
+  image-formed : WellFormed (mirrored M)
+  image-formed = alike-well-formed a (alike a)
+
+  image-counts : countsOf (mirrored M) ≡ countsOf M
+  image-counts = let k = alike-counts a (alike a) in rw (k .0, k .1)
+
+  -- a place of the mesh, with a and b exchanged, is one of the image
+  image-place : (n : ℕ) (q : SamplePlace) → OnMesh M n q → OnMesh (mirrored M) n (exchanged q)
+  image-place n q on =
+      let s = place-on n (q .a) (q .b) (on .1) in
+      (on .0, place-none n (q .a) (q .b) _ _ (on .1) (omega (arith, s .2, s .3)) (omega (arith, s .2, s .3)))
+
+  image-sample : (n : ℕ) (q : SamplePlace) → OnMesh M n q
+      → answerFrom (mirrored M) n (q .face) (place (q .b) (q .a)) ≡ reflectedAnswer (answerFrom M n (q .face) (place (q .a) (q .b)))
+  image-sample n q on =
+      let s = place-on n (q .a) (q .b) (on .1) in
+      let same : (k : ℕ) → k < 3
+      → sampleFrom (view (mirrored M) k) n (4 * q .face) (place (q .b) (q .a)) ≡ reflected k (sampleFrom (view M k) n (4 * q .face) (place (q .a) (q .b))) =
+      λ k h. sample-mirrored a n (s .0) (q .face) (q .a) (q .b) k (on .0) (s .2) (s .3) h in
+      rw (same 0 (omega arith), same 1 (omega arith), same 2 (omega arith))
+
+  -- the mirror call is done where the lent lists have the lengths of the mesh's
+  mirror-unmet : (x : List ℤ) (t i : List ℕ) → outputsOff M x t i ≡ false → mirrorRefusal M x t i ≡ none
+  unfolding meshRefusal
+  mirror-unmet x t i on =
+      none-append (earlyRows M []) (lateRows M ++ mirrorRows M x t i) (accepted-early a [] refl)
+      ∙ none-append (lateRows M) (mirrorRows M x t i) (accepted-late a) ∙ rw on
+
+  -- ---- what the mirror call gave and left
+  module _ {x x′ : List ℤ} {t i t′ i′ : List ℕ} {r : Outcome} (mirror : MeshMirrored M x t i r x′ t′ i′) (on : outputsOff M x t i ≡ false) where
+    mirror-done : outcome r ≡ result tt
+    mirror-done = mirror .answer-is ∙ rw (mirror-unmet x t i on)
+
+    image-left : mirrored M ≡ indexed (M .vertices) (M .faces) x′ t′ i′
+    image-left = let left = mirror .left in rw (left .positions-are, left .tags-are, left .indices-are, mirror-unmet x t i on)
+
+-- ---- what the patch call and the sample call gave
+evaluated-sample : {M : IndexedMesh} → WellFormed M → {d b : List ℕ} {e p : List ℤ} {n : ℕ} {q : SamplePlace} {r : Evaluation}
+    → Evaluated M d e n q r b p → listsShort M d e ≡ false → OnMesh M n q → sampled (r .sample) ≡ answerFrom M n (q .face) (place (q .a) (q .b))
+evaluated-sample a {d} {e = e} {n = n} {q = q} gave long on = gave .sample-is ∙ sample-from d e a long n q on
+
+module _ {M : IndexedMesh} (a : WellFormed M) {d d′ b b′ : List ℕ} {e e′ p p′ : List ℤ} {n : ℕ} {q q′ : SamplePlace} (w : Mirroring)
+    (first : Evaluated M d e n q (w .first) b p) (second : Evaluated (mirrored M) d′ e′ n q′ (w .second) b′ p′) where
+  -- the image's sample at the place with a and b exchanged
+  turned-up : listsShort (mirrored M) d′ e′ ≡ false → OnMesh M n q → q′ ≡ exchanged q
+      → sampled (w .second .sample) ≡ answerFrom (mirrored M) n (q .face) (place (q .b) (q .a))
+  turned-up long on at =
+      second .sample-is
+      ∙ ap (sampleAt (patchList (mirrored M) d′ e′) n) at
+      ∙ sample-from d′ e′ (image-formed a) long n (exchanged q) (image-place a n q on)
+
+  claim : outcome (w .mirror) ≡ result tt → MirrorClaim M d e (mirrored M) d′ e′ n q q′ w
+  claim done = record {
+    done = done;
+    accepted = well-formed-accepted (image-formed a);
+    counted = λ long. first .patched .answer-is ∙ accepted-answer d e a long;
+    image-counted = λ long. second .patched .answer-is ∙ accepted-answer d′ e′ (image-formed a) long ∙ ap result (image-counts a);
+    answered = λ long on. rw (evaluated-sample a first long on);
+    reflected = λ long long′ on at. turned-up long′ on at ∙ image-sample a n q on ∙ sym (ap reflectedAnswer (evaluated-sample a first long on));
+  }
+
+-- what `witness_mirror` gave: the calls for the mesh, and for the lists that the mirror call left
+pub witnessed : {M : IndexedMesh} {d d′ t i b b′ t′ i′ : List ℕ} {e e′ x p p′ x′ : List ℤ} {n : ℕ} {q q′ : SamplePlace} {w : Mirroring}
+    → MeshMirrored M x t i (w .mirror) x′ t′ i′ → Evaluated M d e n q (w .first) b p
+    → Evaluated (indexed (M .vertices) (M .faces) x′ t′ i′) d′ e′ n q′ (w .second) b′ p′
+    → MirrorWitnessed M d e x t i d′ e′ n q q′ w b p x′ t′ i′ b′ p′
+witnessed {M} {d} {d′} {b′ = b′} {e = e} {e′ = e′} {p′ = p′} {n = n} {q = q} {q′ = q′} {w = w} mirror first second = record {
+  mirrored-is = mirror;
+  first = first;
+  second = second;
+  claim = λ accepted on.
+      let a = accepted-well-formed accepted in
+      subst (λ (N : IndexedMesh). Evaluated N d′ e′ n q′ (w .second) b′ p′ → MirrorClaim M d e N d′ e′ n q q′ w) (image-left a mirror on)
+      (λ there. claim a w first there (mirror-done a mirror on)) second;
+}
