@@ -1,12 +1,12 @@
 -- What the mirror call answers and leaves, by what the check answered and by the lengths of the lent lists.
-use mathlib.Core.Path.{_≡_, sym, ap, _∙_}
+use mathlib.Core.Path.{_≡_, ap, _∙_}
 use mathlib.Core.Bool.{true, false, _||_}
 use mathlib.Core.List.{List, []}
 use mathlib.Core.Option.{none, some}
-use Prim.Native.Nat.{ℕ, _*_, _%_}
+use Prim.Native.Nat.{ℕ, _%_}
 use lib.Dec.{eqb}
-use lib.IntN.{ℤ, pos}
-use lib.ListN.{length, getD}
+use lib.IntN.{ℤ}
+use lib.ListN.{length}
 use borrow.Author.Tests.{eqb-true, not-false}
 use Rattle.finite.specs.Filled.{filled, listBelow}
 use Rattle.finite.specs.Table.{result, refusal, firstMet, outcome}
@@ -15,13 +15,13 @@ use Rattle.finite.proofs.AnyAll.{or-false}
 use Rattle.finite.proofs.FilledLaws.{filled-whole}
 use Rattle.finite.proofs.TableLaws.{result-none, refusal-met}
 use Rattle.limits.specs.declared.model.Mesh.{Mesh}
-use Rattle.mesh.specs.IndexedMesh.{IndexedMesh, corners, at, tag, coordinate}
+use Rattle.mesh.specs.IndexedMesh.{IndexedMesh, at, tag, coordinate}
 use Rattle.mesh.specs.Refusal.{Accepted}
 use Rattle.mesh.specs.WellFormed.{WellFormed}
 use Rattle.mesh.specs.Answer.{countsOf, meshRefusal, meshAnswer}
 use Rattle.mesh.proofs.AcceptedLaws.{accepted-well-formed}
 use Rattle.mesh.proofs.PhaseLaws.{refusal-split}
-use Rattle.edit.specs.Mirror.{reflectedCorner, reflected, mirrored, differ, outputsOff, mirrorRows, mirrorRefusal, MeshMirrored}
+use Rattle.edit.specs.Mirror.{reflectedCorner, reflected, differ, outputsOff, mirrorRows, mirrorRefusal, MeshMirrored}
 
 module _ (M : IndexedMesh) (x : List ℤ) (t i : List ℕ) where
   -- ---- the lengths of the lent lists are those of the mesh's

@@ -6,7 +6,7 @@
 use mathlib.Core.Path.{_≡_, refl, sym, ap, ap₂, _∙_, subst}
 use Prim.Native.Nat.{ℕ, zero, suc, _+_, _-_, _*_, _/_, _%_, _≤_, _<_}
 use native.Mathlib.Omega.{arith}
-use lib.IntN.{ℤ, pos, negℤ, natAbs, _+ℤ_, _*ℤ_}
+use lib.IntN.{ℤ, pos, natAbs, _+ℤ_, _*ℤ_}
 use Rattle.integer.specs.Nearest.{nearest}
 use Rattle.integer.proofs.Difference.{int, _⊕_, ~, prove-eq}
 use Rattle.integer.proofs.Laws.{abs-neg, *ℤ-negℤ}
@@ -14,7 +14,7 @@ use Rattle.integer.proofs.NearestLaws.{nearest-odd}
 use Rattle.finite.specs.Permutation.{Permutation}
 use Rattle.finite.proofs.FilledLaws.{length-listBelow, listBelow-at}
 use Rattle.corner.specs.Corner.{turn, next, prev}
-use Rattle.mesh.specs.IndexedMesh.{IndexedMesh, corners, at, tag, coordinate}
+use Rattle.mesh.specs.IndexedMesh.{IndexedMesh, corners, at, coordinate}
 use Rattle.mesh.specs.WellFormed.{WellFormed}
 use Rattle.sample.specs.Bernstein.{rounded}
 use Rattle.sample.proofs.SampleLaws.{rounded-ext, rounded-swap}
@@ -22,7 +22,6 @@ use Rattle.mask.proofs.LinearLaws.{Linear}
 use Rattle.patch.specs.Patch.{patchPoint, units, controlValue, view}
 use Rattle.patch.proofs.Related.{valued}
 use Rattle.symmetry.proofs.Sense.{reversed}
-use Rattle.symmetry.proofs.Iso.{Iso}
 use Rattle.symmetry.proofs.WellFormedMoves.{Alike}
 use Rattle.correspondence.proofs.PointSense.{pointIn}
 use Rattle.correspondence.proofs.PointMoves.{patch-moves}
@@ -136,6 +135,12 @@ module _ {M : IndexedMesh} (a : WellFormed M) where
       ap (λ (c : ℕ). patchPoint (view (mirrored M) k) c m) (sym (reflected-first f))
       ∙ patch-moves a alike (X k) (view (mirrored M) k .value) (λ p r. coordinate-reflected p k r h) (4 * f) (omega arith) m b
 
+  -- the control values of coordinates that are reflected in place
+  control-reflected : (k f m : ℕ) → f < M .faces → controlValue (valued M (X k)) (4 * f) m ≡ reflected k (controlValue (view M k) (4 * f) m)
+  control-reflected k f m l =
+      control-related (reflects k) (reflects-linear k) (λ j y z e. reflects-linear k .scale 256 {k = j} e) a
+      (view M k .value) (X k) (λ p _. refl) (4 * f) m (omega arith)
+
   -- sample (a, b) of a face turns up at (b, a), with its coordinate k reflected
   pub sample-mirrored : (n : ℕ) → 0 < n → (f x y k : ℕ) → f < M .faces → x ≤ n → y ≤ n → k < 3
       → rounded n y x (controlValue (view (mirrored M) k) (4 * f)) ≡ reflected k (rounded n x y (controlValue (view M k) (4 * f)))
@@ -143,5 +148,4 @@ module _ {M : IndexedMesh} (a : WellFormed M) where
       rounded-ext n y x (λ m r. ap units (patch-mirrored k f m h l r))
       ∙ rounded-swap n x y (controlValue (valued M (X k)) (4 * f))
       ∙ sample-related (reflects k) n x y some hx hy (controlValue (view M k) (4 * f)) (controlValue (valued M (X k)) (4 * f))
-      (λ m _.
-      control-related (reflects k) (reflects-linear k) (λ j y z e. reflects-linear k .scale 256 {k = j} e) a (view M k .value) (X k) (λ p _. refl) (4 * f) m (omega arith))
+      (λ m _. control-reflected k f m l)

@@ -3,7 +3,7 @@ use mathlib.Core.Path.{_≡_, refl, sym, ap, _∙_, subst}
 use mathlib.Core.Bool.{false}
 use mathlib.Core.List.{List, [], _++_}
 use mathlib.Core.Option.{none}
-use Prim.Native.Nat.{ℕ, _*_, _≤_, _<_}
+use Prim.Native.Nat.{ℕ, _*_, _<_}
 use native.Mathlib.Omega.{arith}
 use lib.IntN.{ℤ}
 use Rattle.finite.specs.Table.{result, outcome}
@@ -15,7 +15,6 @@ use Rattle.mesh.specs.WellFormed.{WellFormed}
 use Rattle.mesh.specs.Answer.{countsOf, meshRefusal}
 use Rattle.mesh.proofs.AcceptedLaws.{accepted-early, accepted-late, accepted-well-formed, well-formed-accepted}
 use Rattle.sample.specs.Answer.{sampled}
-use Rattle.sample.specs.declared.model.Point.{Point}
 use Rattle.sample.proofs.RefusalLaws.{place-on}
 use Rattle.patch.specs.Patch.{view}
 use Rattle.patch.specs.Answer.{listsShort, patchList}

@@ -3,7 +3,7 @@
 --
 --   Rounds Q     Q is kept by sums with non-negative weights (`Linear`), and by rounding two fractions of one divisor
 use mathlib.Core.Path.{_≡_, sym, ap₂, subst}
-use Prim.Native.Nat.{ℕ, zero, suc, _+_, _*_, _^_, _≤_, _<_}
+use Prim.Native.Nat.{ℕ, zero, suc, _*_, _^_, _≤_, _<_}
 use native.Mathlib.Nat.{one-le-pow}
 use native.Mathlib.Omega.{arith}
 use lib.IntN.{ℤ, pos, _*ℤ_}
@@ -12,7 +12,7 @@ use Rattle.integer.specs.Nearest.{nearest}
 use Rattle.finite.specs.Fold.{foldBelow, sumBelow, sumBelowℤ}
 use Rattle.mesh.specs.IndexedMesh.{IndexedMesh, corners}
 use Rattle.mesh.specs.WellFormed.{WellFormed}
-use Rattle.sample.specs.Bernstein.{bernstein, numerator, rounded}
+use Rattle.sample.specs.Bernstein.{rounded}
 use Rattle.sample.proofs.BernsteinLaws.{bernstein-sum}
 use Rattle.sample.proofs.SampleLaws.{pointWeight, numerator-sixteen}
 use Rattle.mask.proofs.LinearLaws.{Linear, cast}
