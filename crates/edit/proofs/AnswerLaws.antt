@@ -17,11 +17,15 @@ use Rattle.finite.proofs.TableLaws.{result-none, refusal-met}
 use Rattle.limits.specs.declared.model.Mesh.{Mesh}
 use Rattle.mesh.specs.IndexedMesh.{IndexedMesh, at, tag, coordinate}
 use Rattle.mesh.specs.Refusal.{Accepted}
-use Rattle.mesh.specs.WellFormed.{WellFormed}
 use Rattle.mesh.specs.Answer.{countsOf, meshRefusal, meshAnswer}
 use Rattle.mesh.proofs.AcceptedLaws.{accepted-well-formed}
 use Rattle.mesh.proofs.PhaseLaws.{refusal-split}
 use Rattle.edit.specs.Mirror.{reflectedCorner, reflected, differ, outputsOff, mirrorRows, mirrorRefusal, MeshMirrored}
+
+-- the check gave counts
+pub check-accepted : (M : IndexedMesh) {m : Mesh} → result m ≡ meshAnswer M [] [] → Accepted M
+unfolding meshRefusal Accepted
+check-accepted M e = result-none (meshRefusal M [] []) e .0
 
 module _ (M : IndexedMesh) (x : List ℤ) (t i : List ℕ) where
   -- ---- the lengths of the lent lists are those of the mesh's
@@ -50,16 +54,19 @@ module _ (M : IndexedMesh) (x : List ℤ) (t i : List ℕ) where
   check-refused e = refusal-split M [] (mirrorRows M x t i) ∙ rw (refusal-met (countsOf M) (meshRefusal M [] []) e)
 
   -- ---- the check accepted
-  module _ {m : Mesh} (counted : result m ≡ meshAnswer M [] []) where
-    passed : mirrorRefusal M x t i ≡ firstMet (mirrorRows M x t i)
-    passed = refusal-split M [] (mirrorRows M x t i) ∙ rw (result-none (meshRefusal M [] []) counted .0)
-
-    pub well-formed : WellFormed M
+  module _ (accepted : Accepted M) where
+    unmet : meshRefusal M [] [] ≡ none
     unfolding meshRefusal Accepted
-    well-formed = accepted-well-formed (result-none (meshRefusal M [] []) counted .0)
+    unmet = accepted
+
+    passed : mirrorRefusal M x t i ≡ firstMet (mirrorRows M x t i)
+    passed = refusal-split M [] (mirrorRows M x t i) ∙ rw unmet
 
     pub lengths-refused : outputsOff M x t i ≡ true → mirrorRefusal M x t i ≡ some 16
     lengths-refused off = passed ∙ rw off
+
+    pub nothing-met : outputsOff M x t i ≡ false → mirrorRefusal M x t i ≡ none
+    nothing-met on = passed ∙ rw on
 
     -- and the lists were filled
     pub done : outputsOff M x t i ≡ false → (r : Outcome) → outcome r ≡ result tt → {x' : List ℤ} {t' i' : List ℕ}
@@ -68,8 +75,8 @@ module _ (M : IndexedMesh) (x : List ℤ) (t i : List ℕ) where
         → i' ≡ filled (λ c. at M (reflectedCorner c)) (length (M .indices)) i
         → MeshMirrored M x t i r x' t' i'
     done on r e p q s =
-        let met : mirrorRefusal M x t i ≡ none = passed ∙ rw on in
-        let sized = well-formed .sized in
+        let met = nothing-met on in
+        let sized = accepted-well-formed accepted .sized in
         record {
           answer-is = rw (met, e);
           left = record {

@@ -1,25 +1,24 @@
 -- The claim about the answers that the calls gave for a mesh and for its mirror image, from the laws of the image.
-use mathlib.Core.Path.{_≡_, refl, sym, ap, _∙_, subst}
+use mathlib.Core.Path.{_≡_, sym, ap, _∙_, subst}
 use mathlib.Core.Bool.{false}
-use mathlib.Core.List.{List, [], _++_}
+use mathlib.Core.List.{List}
 use mathlib.Core.Option.{none}
 use Prim.Native.Nat.{ℕ, _*_, _<_}
 use native.Mathlib.Omega.{arith}
 use lib.IntN.{ℤ}
 use Rattle.finite.specs.Table.{result, outcome}
 use Rattle.finite.specs.declared.model.Outcome.{Outcome}
-use Rattle.finite.proofs.TableLaws.{none-append}
 use Rattle.mesh.specs.IndexedMesh.{IndexedMesh, indexed}
-use Rattle.mesh.specs.Refusal.{earlyRows, lateRows}
 use Rattle.mesh.specs.WellFormed.{WellFormed}
-use Rattle.mesh.specs.Answer.{countsOf, meshRefusal}
-use Rattle.mesh.proofs.AcceptedLaws.{accepted-early, accepted-late, accepted-well-formed, well-formed-accepted}
+use Rattle.mesh.specs.Answer.{countsOf}
+use Rattle.mesh.proofs.AcceptedLaws.{accepted-well-formed, well-formed-accepted}
 use Rattle.sample.specs.Answer.{sampled}
 use Rattle.sample.proofs.RefusalLaws.{place-on}
 use Rattle.patch.specs.Patch.{view}
 use Rattle.patch.specs.Answer.{listsShort, patchList}
 use Rattle.symmetry.proofs.WellFormedMoves.{alike-well-formed, alike-counts}
-use Rattle.edit.specs.Mirror.{reflected, mirrored, outputsOff, mirrorRows, mirrorRefusal, MeshMirrored}
+use Rattle.edit.specs.Mirror.{reflected, mirrored, outputsOff, mirrorRefusal, MeshMirrored}
+use Rattle.edit.proofs.AnswerLaws.{nothing-met}
 use Rattle.surface.specs.Claim.{OnMesh}
 use Rattle.surface.specs.Renumbering.{place}
 use Rattle.surface.specs.Witness.{sampleAt, Evaluated}
@@ -56,20 +55,16 @@ module _ {M : IndexedMesh} (a : WellFormed M) where
       λ k h. sample-mirrored a n (s .0) (q .face) (q .a) (q .b) k (on .0) (s .2) (s .3) h in
       rw (same 0 (omega arith), same 1 (omega arith), same 2 (omega arith))
 
-  -- the mirror call is done where the lent lists have the lengths of the mesh's
-  mirror-unmet : (x : List ℤ) (t i : List ℕ) → outputsOff M x t i ≡ false → mirrorRefusal M x t i ≡ none
-  unfolding meshRefusal
-  mirror-unmet x t i on =
-      none-append (earlyRows M []) (lateRows M ++ mirrorRows M x t i) (accepted-early a [] refl)
-      ∙ none-append (lateRows M) (mirrorRows M x t i) (accepted-late a) ∙ rw on
-
   -- ---- what the mirror call gave and left
   module _ {x x′ : List ℤ} {t i t′ i′ : List ℕ} {r : Outcome} (mirror : MeshMirrored M x t i r x′ t′ i′) (on : outputsOff M x t i ≡ false) where
+    unmet : mirrorRefusal M x t i ≡ none
+    unmet = nothing-met M x t i (well-formed-accepted a) on
+
     mirror-done : outcome r ≡ result tt
-    mirror-done = mirror .answer-is ∙ rw (mirror-unmet x t i on)
+    mirror-done = mirror .answer-is ∙ rw unmet
 
     image-left : mirrored M ≡ indexed (M .vertices) (M .faces) x′ t′ i′
-    image-left = let left = mirror .left in rw (left .positions-are, left .tags-are, left .indices-are, mirror-unmet x t i on)
+    image-left = let left = mirror .left in rw (left .positions-are, left .tags-are, left .indices-are, unmet)
 
 -- ---- what the patch call and the sample call gave
 evaluated-sample : {M : IndexedMesh} → WellFormed M → {d b : List ℕ} {e p : List ℤ} {n : ℕ} {q : SamplePlace} {r : Evaluation}

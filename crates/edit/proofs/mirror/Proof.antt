@@ -2,19 +2,19 @@
 -- limit, the faces are whole, and the three lists are filled to their ends.
 use mathlib.Core.Path.{_≡_, refl, sym, ap, _∙_}
 use mathlib.Core.Bool.{false}
-use mathlib.Core.List.{List, []}
+use mathlib.Core.List.{List}
 use Prim.Native.Nat.{ℕ}
 use native.Mathlib.Omega.{arith}
 use native.Mathlib.Nat.{le-of-eq}
 use lib.IntN.{ℤ}
 use borrow.Author.Needs.{needs}
-use Rattle.finite.specs.Table.{result}
-use Rattle.limits.specs.declared.model.Mesh.{Mesh}
 use Rattle.mesh.specs.IndexedMesh.{IndexedMesh, indexed}
+use Rattle.mesh.specs.Refusal.{Accepted}
 use Rattle.mesh.specs.WellFormed.{WellFormed}
-use Rattle.mesh.specs.Answer.{checked, meshAnswer}
+use Rattle.mesh.specs.Answer.{checked}
+use Rattle.mesh.proofs.AcceptedLaws.{accepted-well-formed}
 use Rattle.edit.specs.Mirror.{outputsOff}
-use Rattle.edit.proofs.AnswerLaws.{refused, check-refused, well-formed, lengths-refused, same-positions, same-tags, same-indices, done}
+use Rattle.edit.proofs.AnswerLaws.{check-accepted, same-positions, same-tags, same-indices, refused, check-refused, lengths-refused, done}
 use Rattle.edit.proofs.mirror.Statement.{statement}
 use Rattle.edit.proofs.mirror.Tie as tie
 
@@ -48,11 +48,8 @@ module _ (c : tie.After-outputs-off) where
   abbrev entry : tie.Start
   entry = start checked-at
 
-  abbrev counts : Mesh
-  counts = c .before .enum-told .given .0 .0
-
-  counted : result counts ≡ meshAnswer (mesh entry) [] []
-  counted = sym (ap checked (c .before .enum-told .given .1)) ∙ checked-at .check-alone .ensures
+  accepted : Accepted (mesh entry)
+  accepted = check-accepted (mesh entry) (sym (ap checked (c .before .enum-told .given .1)) ∙ checked-at .check-alone .ensures)
 
 -- ---- the answers, in the order of the code
 check-alone-requires : tie.Need-check-alone-requires
@@ -79,7 +76,7 @@ returns-2 c =
     let k = c .before in
     let s = entry k in
     refused (mesh s) (lent-positions s) (lent-tags s) (lent-indices s) _ refl
-    (lengths-refused (mesh s) (lent-positions s) (lent-tags s) (lent-indices s) (counted k) (sym (k .outputs-off .ensures) ∙ c .if1 .taken))
+    (lengths-refused (mesh s) (lent-positions s) (lent-tags s) (lent-indices s) (accepted k) (sym (k .outputs-off .ensures) ∙ c .if1 .taken))
 
 -- ---- the lengths are those of the mesh's lists
 module _ (c : tie.Else1) where
@@ -93,7 +90,7 @@ module _ (c : tie.Else1) where
   on = sym (compared .outputs-off .ensures) ∙ c .if1 .left
 
   formed : WellFormed (mesh passed-in)
-  formed = well-formed (mesh passed-in) (lent-positions passed-in) (lent-tags passed-in) (lent-indices passed-in) (counted compared)
+  formed = accepted-well-formed (accepted compared)
 
 -- ---- the way back, from list to list
 abbrev before-tags : tie.After-copy-bytes-arg → tie.Else1
@@ -140,7 +137,7 @@ returns-3 c =
     let positions : tie.After-reflect-positions = tags .before .before .before in
     let k : tie.Else1 = positions .before .before in
     let s = passed-in k in
-    done (mesh s) (lent-positions s) (lent-tags s) (lent-indices s) (counted (compared k)) (on k) _ refl
+    done (mesh s) (lent-positions s) (lent-tags s) (lent-indices s) (accepted (compared k)) (on k) _ refl
     (positions .reflect-positions .ensures) (tags .copy-bytes .ensures) (faces .reflect-faces .ensures)
 
 pub mirror-spec : {M : Type 1} → statement M
