@@ -22,7 +22,7 @@ use Rattle.sample.specs.Answer.{sampleAnswer}
 use Rattle.mask.specs.Mask.{innerMask, edgeMask, boundaryEdgeMask, smoothCornerMask, boundaryCornerMask, vertexMask}
 use Rattle.patch.specs.Point.{weight, sharp, sharpSum, ringSum, fixed, cornerPoint, innerPoint, edgePoint, alongPoint, beforePoint, point}
 use Rattle.patch.specs.Patch.{owner, kind, patchPoint, patchNumber, patchesAfter}
-use Rattle.edit.specs.Mirror.{mirrored}
+use Rattle.edit.specs.Mirror.{mirrored, mirrorAnswer}
 use Rattle.examples.specs.Meshes.{square, cube, pillow, doubledFace, bowTie, strip, tagged, openFanOfEight, openFanOfNine}
 
 -- an example: what is computed, and what is stated
@@ -62,6 +62,14 @@ sampleNumbers (refusal k) = pos k ∷ []
 abbrev sampled : IndexedMesh → ℕ → ℕ → ℕ → ℕ → List ℤ
 sampled M n f a b = sampleNumbers (sampleAnswer (patchesAfter M []) f n a b)
 
+-- the mirror call's answer, with so many places lent for positions, tags and faces: nothing where it is done, or the number of the refusal alone
+abbrev refusalNumber : Answer Unit → List ℤ
+refusalNumber (result done) = []
+refusalNumber (refusal k) = pos k ∷ []
+
+abbrev mirroring : IndexedMesh → ℕ → ℕ → ℕ → List ℤ
+mirroring M positions tags indices = refusalNumber (mirrorAnswer M (replicate positions (pos 0)) (replicate tags 0) (replicate indices 0))
+
 -- three coordinates that are not negative, and the same with x negated, which is above 0
 abbrev xyz : ℕ → ℕ → ℕ → List ℤ
 xyz x y z = pos x ∷ pos y ∷ pos z ∷ []
@@ -77,7 +85,8 @@ naturals (n ∷ ns) = pos n ∷ naturals ns
 -- the roundings of 1/2, 3/2, 5/2, -1/2, -3/2 (rule X4); a face and its own back, so that every n is 2, one face named twice, and two faces
 -- that share a vertex but no half-edge (rule X5); two faces side by side with boundary vertices of two faces (rule X6); the square as an accepted
 -- mesh (rule X1); the strip with a boundary vertex tagged 1 and 2, and the cube with a tagged vertex (rule X7); open fans of eight and nine faces
--- (rule X8); the mirror image of the strip: its lists, counts, control points and a sample, beside that of the strip (rule X12).
+-- (rule X8); the mirror image of the strip: its lists, counts, control points and a sample, beside that of the strip, and the mirror call on lists that
+-- fit, that are too long and too short, and on a refused mesh with a list that is too long (rule X12).
 pub examples : List Example
 examples =
     example (controlPoint square 0 1 0) (xyz 1792 0 0)
@@ -119,6 +128,10 @@ examples =
     ∷ example (controlPoint (mirrored strip) 1 1 1) (minusX 3072 768 512)
     ∷ example (sampled strip 3 0 2 0) (xyz 1536 0 114)
     ∷ example (sampled (mirrored strip) 3 0 0 2) (minusX 1536 0 114)
+    ∷ example (mirroring strip 18 6 8) []
+    ∷ example (mirroring strip 18 7 8) (pos 16 ∷ [])
+    ∷ example (mirroring strip 18 6 7) (pos 16 ∷ [])
+    ∷ example (mirroring (tagged cube (0 ∷ 0 ∷ 0 ∷ 0 ∷ 0 ∷ 0 ∷ 0 ∷ 1 ∷ [])) 25 8 24) (pos 11 ∷ [])
     ∷ []
 
 pub examples-hold : computedAll examples ≡ statedAll examples
