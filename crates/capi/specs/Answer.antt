@@ -7,8 +7,8 @@
 --   Read answer x y z x' y' z'   the three lent doubles x', y', z' afterwards, which held x, y, z: each exactly the sample over 256 (rule S5),
 --                         or as they were after a refusal (rule R5)
 --   firstCorner corners f d   the lent place of a face's first corner afterwards, which held d: 4f, or d where the face has no corners
---   CornersTold, CountsStored, CheckStored, PatchesStored, SampleStored, ReadingStored, MirrorStored   for each call, what it returns, and every
---                         lent number and list afterwards
+--   CornersTold, CountsStored, CheckStored, PatchesStored, SampleStored, ReadingStored, LineStored, MirrorStored   for each call, what it returns,
+--                         and every lent number and list afterwards
 use mathlib.Core.Path.{_≡_}
 use mathlib.Core.List.{List, [], _∷_}
 use Prim.Native.Nat.{ℕ, _*_}
@@ -23,6 +23,7 @@ use Rattle.mesh.specs.Answer.{checkAnswer, checkTwins}
 use Rattle.patch.specs.Answer.{patchAnswer, patchTwins, patchList}
 use Rattle.sample.specs.Answer.{Over256}
 use Rattle.sample.specs.declared.model.Point.{Point}
+use Rattle.sample.specs.Line.{lineAnswer, LineLeft}
 use Rattle.edit.specs.Mirror.{mirrorAnswer, MirrorLeft}
 
 abbrev pub code : {A : Type 0} → Answer A → ℕ
@@ -70,6 +71,10 @@ pub record SampleStored (answer : Answer Point) (d : List ℤ) (r : ℕ) (d' : L
 pub record ReadingStored (answer : Answer Point) (x y z : Float) (r : ℕ) (x' y' z' : Float) : Type 0 where
   pub code-is : r ≡ code answer
   pub reading-is : Read answer x y z x' y' z'
+
+pub record LineStored (patches : List ℤ) (f n b : ℕ) (line : List ℤ) (r : ℕ) (line' : List ℤ) : Type 0 where
+  pub code-is : r ≡ code (lineAnswer patches f n b line)
+  pub left : LineLeft patches f n b line line'
 
 pub record MirrorStored (M : IndexedMesh) (x : List ℤ) (t i : List ℕ) (r : ℕ) (x' : List ℤ) (t' i' : List ℕ) : Type 0 where
   pub code-is : r ≡ code (mirrorAnswer M x t i)

@@ -9,7 +9,7 @@ ghost use Rattle.finite.specs.Table.{outcome};
 ghost use Rattle.mesh.specs.IndexedMesh.{indexed};
 ghost use Rattle.mesh.specs.Answer.{checked};
 ghost use Rattle.sample.specs.Answer.{sampleAnswer};
-ghost use Rattle.capi.specs.Answer.{code, CornersTold, CountsStored, CheckStored, PatchesStored, SampleStored, ReadingStored, MirrorStored};
+ghost use Rattle.capi.specs.Answer.{code, CornersTold, CountsStored, CheckStored, PatchesStored, SampleStored, ReadingStored, LineStored, MirrorStored};
 
 // The corners of face f: `corner::face_corners`, whose part of the face list C is told by its first place and its length.
 // Returns: the number of corners, 4, or 0 where 4f + 4 is above the length of indices.
@@ -176,6 +176,23 @@ fn outcome_code(answer: Outcome) -> u8
         Outcome::Done => 0,
         Outcome::Refused(k) => k,
     }
+}
+
+// All samples of face f with one b, for N = n, a from 0 to n (rule S6): `sample::sample_line`.
+// Returns: 0 where it is done, or the number of the refusal.
+// Writes, leaves alone, refuses, and units: as `sample::sample_line`.
+#[no_mangle]
+pub extern "C" fn rusketja_sample_line(
+    patches: &[i32],
+    f: usize,
+    n: usize,
+    b: usize,
+    line: &mut [i32],
+) -> u8
+    ensures { λ r. ⌜ LineStored (now (patches .entry)) f n b (now (line .entry)) r (now (line .exit)) ⌝ }
+{
+    let answer = sample::sample_line(patches, f, n, b, line);
+    outcome_code(answer)
 }
 
 // The mirror image of a mesh of v vertices and f faces, which is checked first: `edit::mirror`.

@@ -1,3 +1,4 @@
 -- The laws of the crate.
 pub mod ListingLaws
 pub mod StretchLaws
+pub mod RowLaws

@@ -1,4 +1,4 @@
--- Stretches of lines in a buffer: what is stored, the loop over the samples, and that the stretches, one behind the other, are the listing.
+-- Stretches of lines in a buffer: what is stored, and that the stretches, one behind the other, are the listing.
 use mathlib.Core.Path.{_≡_, refl, sym, ap, ap₂, _∙_, subst}
 use mathlib.Core.Bool.{Bool, true, false, cond}
 use mathlib.Core.Logic.{⊎-elim}
@@ -37,32 +37,33 @@ module _ (m : List ℕ) (p : ℕ) where
   behind-is : drop (length m - p) (drop p m) ≡ []
   behind-is = drop-of-length-le (drop p m) {i = length m - p} (omega (arith, length-drop p m))
 
--- one line more, in the part behind what is stored
-pub stored-more : {t l m : List ℕ} {p r : ℕ} (u k : List ℕ) → Stored t l m p → linePlaces ≤ length m - p
-    → length k ≡ length (take (length m - p) (drop p m)) → Printed u (take (length m - p) (drop p m)) k r
-    → Stored (t ++ u) l (take p m ++ (k ++ drop (length m - p) (drop p m))) (p + r)
-stored-more {t} {l} {m} {p} {r} u k s room same q = record {
-  length-is = omega (arith, s .length-is, long, length-append t u);
-  fits = omega (arith, length-append t u, long, s .length-is, printed-within same q, ap length (part-is m p), length-drop p m, stored-length s);
-  list = ap₂ _++_ front (ap₂ _++_ line (behind-is m p)) ∙ whole;
-}
+-- a line that had room is stored
+pub printed-stored : {u l k : List ℕ} {r : ℕ} → linePlaces ≤ length l → length k ≡ length l → Printed u l k r → Stored u l k r
+printed-stored {u} {l} {k} {r} room same q = record { length-is = long; fits = omega (arith, long, printed-within same q); list = q .list ∙ rw enough }
   where
-    enough : linePlaces ≤ length (take (length m - p) (drop p m))
-    enough = omega (arith, ap length (part-is m p), length-drop p m)
+    enough : ltb (length l) linePlaces ≡ false
+    enough = le-ltb (length l) linePlaces room
 
     long : r ≡ length u
-    long = q .places ∙ rw (le-ltb (length (take (length m - p) (drop p m))) linePlaces enough)
+    long = q .places ∙ rw enough
 
+-- more text, in the part behind what is stored
+pub stored-behind : {t l m u k : List ℕ} {p r : ℕ} → Stored t l m p → Stored u (take (length m - p) (drop p m)) k r
+    → Stored (t ++ u) l (take p m ++ (k ++ drop (length m - p) (drop p m))) (p + r)
+stored-behind {t} {l} {m} {u} {k} {p} {r} s q = record {
+  length-is = omega (arith, s .length-is, q .length-is, length-append t u);
+  fits = omega (arith, length-append t u, s .length-is, q .fits, ap length (part-is m p), length-drop p m, stored-length s);
+  list = ap₂ _++_ front (ap₂ _++_ text (behind-is m p)) ∙ whole;
+}
+  where
     front : take p m ≡ t
     front = rw (s .length-is, s .list) (take-append-seam t (drop (length t) l))
 
     rest-is : drop p m ≡ drop (length t) l
     rest-is = rw (s .length-is, s .list) (drop-append-seam t (drop (length t) l))
 
-    line : k ≡ u ++ drop (length u) (drop (length t) l)
-    line =
-        q .list ∙ rw (le-ltb (length (take (length m - p) (drop p m))) linePlaces enough)
-        (ap (λ (x : List ℕ). u ++ drop (length u) x) (part-is m p ∙ rest-is))
+    text : k ≡ u ++ drop (length u) (drop (length t) l)
+    text = q .list ∙ ap (λ (x : List ℕ). u ++ drop (length u) x) (part-is m p ∙ rest-is)
 
     whole : t ++ ((u ++ drop (length u) (drop (length t) l)) ++ []) ≡ (t ++ u) ++ drop (length (t ++ u)) l
     whole =
@@ -126,97 +127,8 @@ pub stretched-as : {a b : Answer Tessellation} {patches : List ℤ} {line : ℕ}
 stretched-as {patches = patches} {line = line} {before = before} {after = after} {r = r} e s =
     subst (λ (x : Answer Tessellation). Stretched x patches line before r after) e s
 
--- ---- a loop over the samples
---   Going ..    the lines from `line` up to `to` are stored, and p is the place of the next sample
-pub record Going (patches : List ℤ) (n faces line : ℕ) (before after : List ℕ) (p : Place) (to at : ℕ) : Type 0 where
-  pub placed : Placed n p
-  pub here : suc (index n p) ≡ to
-  pub on : line ≤ to
-  pub within : to ≤ max line (1 + faces * (n + 1) * (n + 1))
-  pub stored : Stored (joined (λ j. sampleTextAt patches n (line - 1 + j)) (to - line)) before after at
-
-pub going-start : (patches : List ℤ) (n faces line : ℕ) (out : List ℕ) (p : Place) → 0 < line → Placed n p → index n p ≡ line - 1
-    → Going patches n faces line out out p line 0
-unfolding joined
-going-start patches n faces line out p some placed e = record {
-  placed = placed;
-  here = omega arith;
-  on = omega arith;
-  within = le-max-left line (1 + faces * (n + 1) * (n + 1));
-  stored =
-      subst (λ (k : ℕ). Stored (joined (λ j. sampleTextAt patches n (line - 1 + j)) k) out out 0)
-      (let z : 0 ≡ line - line = omega arith in z) (stored-none out);
-}
-
-module _ {patches : List ℤ} {n faces line : ℕ} {before after : List ℕ} {p : Place} {to at : ℕ} (g : Going patches n faces line before after p to at) where
-  pub going-fits : p .face < faces → to ≤ faces * (n + 1) * (n + 1)
-  going-fits l = omega (arith, g .here, place-below n faces (p .face) (p .b) (p .a) (g .placed .a-within) (g .placed .b-within) l)
-
-  pub going-more : (k : List ℕ) (r : ℕ) (p' : Place) → 0 < line → p .face < faces → linePlaces ≤ length after - at
-      → length k ≡ length (take (length after - at) (drop at after))
-      → Printed (sampleText patches n (p .face) (p .b) (p .a)) (take (length after - at) (drop at after)) k r
-      → Placed n p' → index n p' ≡ suc (index n p)
-      → Going patches n faces line before (take at after ++ (k ++ drop (length after - at) (drop at after))) p' (to + 1) (at + r)
-  unfolding joined
-  going-more k r p' some l room same q placed e = record {
-    placed = placed;
-    here = omega (arith, g .here);
-    on = omega (arith, g .on);
-    within = le-trans (let b : to + 1 ≤ 1 + faces * (n + 1) * (n + 1) = omega (arith, going-fits l) in b) (le-max-right line (1 + faces * (n + 1) * (n + 1)));
-    stored =
-        subst
-        (λ (i : ℕ). Stored (joined (λ j. sampleTextAt patches n (line - 1 + j)) i) before
-        (take at after ++ (k ++ drop (length after - at) (drop at after))) (at + r))
-        (let z : suc (to - line) ≡ to + 1 - line = omega (arith, g .on) in z)
-        (stored-more (sampleTextAt patches n (line - 1 + (to - line))) k (g .stored) room same
-        (subst (λ (t : List ℕ). Printed t (take (length after - at) (drop at after)) k r) (sym this) q));
-  }
-    where
-      this : sampleTextAt patches n (line - 1 + (to - line)) ≡ sampleText patches n (p .face) (p .b) (p .a)
-      this =
-          ap (sampleTextAt patches n) (let z : line - 1 + (to - line) ≡ index n p = omega (arith, g .here, g .on) in z)
-          ∙ text-at patches n (p .face) (p .b) (p .a) (g .placed .b-within) (g .placed .a-within)
-
-  -- where not even one line was stored, the buffer has no room for one, or there is none
-  pub going-no-room : length after - at < linePlaces → line ≡ to → linePlaces ≤ length before → ⊥
-  unfolding joined
-  going-no-room tight e room =
-      let none : at ≡ 0 =
-      g .stored .length-is ∙ ap (λ (k : ℕ). length (joined (λ j. sampleTextAt patches n (line - 1 + j)) k)) (let z : to - line ≡ 0 = omega (arith, e) in z) in
-      omega (arith, none, tight, room, stored-length (g .stored))
-
-  pub going-no-face : faces ≤ p .face → line ≡ to → line < 1 + faces * (n + 1) * (n + 1) → ⊥
-  going-no-face l e more =
-      let beyond : faces * (n + 1) * (n + 1) ≤ (p .face * (n + 1) + p .b) * (n + 1) =
-      mul-le-mul-right (n + 1) (let row : faces * (n + 1) ≤ p .face * (n + 1) + p .b = omega (arith, mul-le-mul-right (n + 1) l) in row) in
-      omega (arith, beyond, g .here, e, more)
-
--- the lines by their numbers in the file
-line-later : (t : Tessellation) (patches : List ℤ) (line j : ℕ) → 0 < line
-    → lineAt (result t) patches (line + j) ≡ sampleTextAt patches (t .steps) (line - 1 + j)
-line-later t patches zero j some = absurd (omega arith)
-line-later t patches (suc i) j some =
-    ap (lineAt (result t) patches) (let e : suc i + j ≡ suc (i + j) = omega arith in e)
-    ∙ ap (sampleTextAt patches (t .steps)) (let e : i + j ≡ suc i - 1 + j = omega arith in e)
-
-lt-unless : {a b : ℕ} → a ≤ b → (a ≡ b → ⊥) → a < b
+pub lt-unless : {a b : ℕ} → a ≤ b → (a ≡ b → ⊥) → a < b
 lt-unless {a} {b} l h = ⊎-elim (λ e. absurd (h e)) (λ q. q) (eq-or-lt-of-le l)
-
--- where a further line would have no room, or there is none, the stretch is whole
-pub going-end : (t : Tessellation) {patches : List ℤ} {line : ℕ} {before after : List ℕ} {p : Place} {to at : ℕ} → 0 < line
-    → Going patches (t .steps) (t .mesh .faces) line before after p to at
-    → (line ≡ to → line < 1 + t .mesh .faces * (t .steps + 1) * (t .steps + 1) → linePlaces ≤ length before → ⊥)
-    → Stretched (result t) patches line before (record { line = to; length = at }) after
-going-end t {patches} {line} {before} {after} {p} {to} {at} some g stuck = record {
-  on = g .on;
-  within = g .within;
-  stored =
-      subst (λ (x : List ℕ). Stored x before after at)
-      (joined-ext (λ j. sampleTextAt patches (t .steps) (line - 1 + j)) (λ j. lineAt (result t) patches (line + j)) (to - line)
-      (λ j _. sym (line-later t patches line j some)))
-      (g .stored);
-  some = λ _ more room. lt-unless (g .on) (λ e. stuck e more room);
-}
 
 -- ---- a loop over the stretches: where one has bytes, it leads on, and no further than to the end
 module _ {answer : Answer Tessellation} {patches : List ℤ} {line : ℕ} {before after : List ℕ} {r : Stretch}

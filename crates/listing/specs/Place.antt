@@ -1,9 +1,13 @@
--- The places of the samples in the order of their lines, for the contracts of private functions.
+-- The samples in the order of their lines, for the contracts of private functions.
 --
 --   index n p         how many samples come before place p, where each side has n + 1
 --   Placed n p        a and b are places along a side
-use Prim.Native.Nat.{ℕ, _+_, _*_, _≤_}
+--   Run text most before r after   what was put into a buffer: the lines text 0, text 1, .. one behind the other, at least one, at most so many
+use Prim.Native.Nat.{ℕ, _+_, _*_, _≤_, _<_}
+use mathlib.Core.List.{List}
+use Rattle.listing.specs.Listing.{joined, Stored}
 use Rattle.listing.specs.declared.model.Place.{Place}
+use Rattle.listing.specs.declared.model.Lines.{Lines}
 
 abbrev pub index : ℕ → Place → ℕ
 index n p = (p .face * (n + 1) + p .b) * (n + 1) + p .a
@@ -11,3 +15,8 @@ index n p = (p .face * (n + 1) + p .b) * (n + 1) + p .a
 pub record Placed (n : ℕ) (p : Place) : Type 0 where
   pub a-within : p .a ≤ n
   pub b-within : p .b ≤ n
+
+pub record Run (text : ℕ → List ℕ) (most : ℕ) (before : List ℕ) (r : Lines) (after : List ℕ) : Type 0 where
+  pub some : 0 < r .count
+  pub within : r .count ≤ most
+  pub stored : Stored (joined text (r .count)) before after (r .length)

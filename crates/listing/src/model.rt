@@ -14,3 +14,11 @@ pub(crate) struct Place {
     pub(crate) b: usize,
     pub(crate) a: usize,
 }
+
+// Lines at the front of a buffer.
+pub(crate) struct Lines {
+    // How many.
+    pub(crate) count: usize,
+    // How many bytes of the buffer they fill.
+    pub(crate) length: usize,
+}

@@ -1,17 +1,21 @@
-// The lines of the samples of a mesh, in their order.
+// The lines of the samples of a mesh, in their order: row by row, a row being the samples of one face and one b.
+use crate::model::Lines;
 use crate::model::Place;
 use crate::model::Stretch;
+use finite::model::Outcome;
 use meshfile::model::Tessellation;
-use sample::model::Sampled;
+use sample::model::MAX_LINE;
 use text::LINE_PLACES;
 ghost use mathlib.Core.Path.{_≡_};
-ghost use Prim.Native.Nat.{suc, _≤_, _<_};
+ghost use Prim.Native.Nat.{_+_, _-_, _≤_, _<_};
+ghost use lib.ListN.{length};
 ghost use Rattle.finite.specs.Table.{result};
 ghost use Rattle.limits.specs.Limits.{maxFaces};
 ghost use Rattle.sample.specs.Refusal.{maxSteps};
-ghost use Rattle.text.specs.Text.{Printed};
-ghost use Rattle.listing.specs.Listing.{sampleText, Stretched};
-ghost use Rattle.listing.specs.Place.{index, Placed};
+ghost use Rattle.sample.specs.Line.{lineLength, pointIn};
+ghost use Rattle.text.specs.Text.{linePlaces};
+ghost use Rattle.listing.specs.Listing.{lineOf, sampleText, Stretched};
+ghost use Rattle.listing.specs.Place.{index, Placed, Run};
 
 // The place of sample i.
 fn place_of(n: usize, i: usize) -> Place
@@ -27,39 +31,40 @@ fn place_of(n: usize, i: usize) -> Place
     }
 }
 
-// The place of the sample after p: a first, then b, then the face.
-fn next_place(n: usize, p: Place) -> Place
-    requires { ⌜ Placed n p × (p .face < maxFaces) × (n ≤ maxSteps) ⌝ }
-    ensures { λ r. ⌜ Placed n r × (index n r ≡ suc (index n p)) ⌝ }
+// The lines of the points of a row from p on, as many as have room.
+fn point_lines(points: &[i32], n: usize, p: Place, out: &mut [u8]) -> Lines
+    requires { ⌜ Placed n p × (n ≤ maxSteps) × (lineLength n ≤ length (now points)) × (linePlaces ≤ length (now out)) ⌝ }
+    ensures { λ r. ⌜ Run (λ j. lineOf (result (pointIn (now (points .entry)) (p .a + j))) (p .face) (p .a + j) (p .b)) (n + 1 - p .a)
+        (now (out .entry)) r (now (out .exit)) ⌝ }
 {
-    if p.a < n {
-        return Place {
-            face: p.face,
-            b: p.b,
-            a: p.a + 1,
-        };
+    let mut a = p.a;
+    let mut at: usize = 0;
+    while a <= n && LINE_PLACES <= out.len() - at {
+        let x = points[3 * a];
+        let y = points[3 * a + 1];
+        let z = points[3 * a + 2];
+        at += text::sample_line(p.face, a, p.b, x, y, z, &mut out[at..]);
+        a += 1;
     }
-    if p.b < n {
-        return Place {
-            face: p.face,
-            b: p.b + 1,
-            a: 0,
-        };
-    }
-    Place {
-        face: p.face + 1,
-        b: 0,
-        a: 0,
+    Lines {
+        count: a - p.a,
+        length: at,
     }
 }
 
-// The line of the sample at p.
-fn sample_line(patches: &[i32], n: usize, p: Place, out: &mut [u8]) -> usize
-    ensures { λ r. ⌜ Printed (sampleText (now (patches .entry)) n (p .face) (p .b) (p .a)) (now (out .entry)) (now (out .exit)) r ⌝ }
+// The lines of the samples of a row from p on, as many as have room; of a refused row the line of one sample.
+fn row_lines(patches: &[i32], n: usize, p: Place, out: &mut [u8]) -> Lines
+    requires { ⌜ Placed n p × (n ≤ maxSteps) × (linePlaces ≤ length (now out)) ⌝ }
+    ensures { λ r. ⌜ Run (λ j. sampleText (now (patches .entry)) n (p .face) (p .b) (p .a + j)) (n + 1 - p .a)
+        (now (out .entry)) r (now (out .exit)) ⌝ }
 {
-    match sample::sample(patches, p.face, n, p.a, p.b) {
-        Sampled::At(q) => text::sample_line(p.face, p.a, p.b, q.x, q.y, q.z, out),
-        Sampled::Refused(k) => text::refusal_line(k, out),
+    let mut points = [0i32; MAX_LINE];
+    match sample::sample_line(patches, p.face, n, p.b, &mut points) {
+        Outcome::Done => point_lines(&points, n, p, out),
+        Outcome::Refused(k) => Lines {
+            count: 1,
+            length: text::refusal_line(k, out),
+        },
     }
 }
 
@@ -74,9 +79,10 @@ pub(crate) fn sample_lines(t: Tessellation, patches: &[i32], line: usize, out: &
     let mut to = line;
     let mut at: usize = 0;
     while p.face < faces && LINE_PLACES <= out.len() - at {
-        at += sample_line(patches, n, p, &mut out[at..]);
-        p = next_place(n, p);
-        to += 1;
+        let row = row_lines(patches, n, p, &mut out[at..]);
+        at += row.length;
+        to += row.count;
+        p = place_of(n, to - 1);
     }
     Stretch {
         line: to,

@@ -2,4 +2,5 @@
 pub mod Bernstein
 pub mod Refusal
 pub mod Answer
+pub mod Line
 pub mod Blend

@@ -13,7 +13,7 @@ ghost use Rattle.sample.specs.Refusal.{maxSteps};
 ghost use Rattle.sample.specs.Blend.{controlOf, Small, Steps, Light, Fine, Mean, blended, blendedTwice};
 
 // The weights of place a.
-fn weights(n: usize, a: usize) -> [u32; 4]
+pub(crate) fn weights(n: usize, a: usize) -> [u32; 4]
     requires { ⌜ Steps n a ⌝ }
     ensures { λ r. ⌜ r ≡ listBelow (bernstein n a) 4 ⌝ }
 {
@@ -23,7 +23,7 @@ fn weights(n: usize, a: usize) -> [u32; 4]
 }
 
 // N^6.
-fn divisor(n: usize) -> u32
+pub(crate) fn divisor(n: usize) -> u32
     requires { ⌜ n ≤ maxSteps ⌝ }
     ensures { λ r. ⌜ r ≡ n ^ 6 ⌝ }
 {
@@ -74,7 +74,7 @@ fn column(patch: &[i32], k: usize, i: usize) -> [i64; 4]
 }
 
 // The control values of coordinate k, blended along v: a curve along u that all samples with one b share.
-fn curve(patch: &[i32], k: usize, v: [u32; 4]) -> [i64; 4]
+pub(crate) fn curve(patch: &[i32], k: usize, v: [u32; 4]) -> [i64; 4]
     requires { ⌜ Small (now patch) × (k < 3) × Light v ⌝ }
     ensures { λ r. ⌜ r ≡ listBelow (λ i. blended v (λ j. controlOf (now (patch .entry)) k (i + 4 * j))) 4 ⌝ }
 {
@@ -94,13 +94,21 @@ fn rounded_quotient(sum: i64, divisor: u32) -> i32
     integer::round(sum, divisor) as i32
 }
 
-// Coordinate k of the sample: blended along u too, and rounded once.
+// The coordinate of the sample that four blended values stand for: blended along u too, and rounded once.
+pub(crate) fn on_curve(u: [u32; 4], curve: [i64; 4], divisor: u32) -> i32
+    requires { ⌜ Light u × Fine curve × Mean (blended u (λ i. getD curve i (pos 0))) divisor ⌝ }
+    ensures { λ r. ⌜ r ≡ nearest (blended u (λ i. getD curve i (pos 0))) divisor ⌝ }
+{
+    rounded_quotient(blend(u, curve), divisor)
+}
+
+// Coordinate k of the sample.
 fn coordinate(patch: &[i32], k: usize, u: [u32; 4], v: [u32; 4], divisor: u32) -> i32
     requires { ⌜ Small (now patch) × (k < 3) × Light u × Light v ⌝ }
     requires { ⌜ Mean (blendedTwice u v (controlOf (now patch) k)) divisor ⌝ }
     ensures { λ r. ⌜ r ≡ nearest (blendedTwice u v (controlOf (now (patch .entry)) k)) divisor ⌝ }
 {
-    rounded_quotient(blend(u, curve(patch, k, v)), divisor)
+    on_curve(u, curve(patch, k, v), divisor)
 }
 
 // The point of the patch at (a, b).

@@ -1,17 +1,21 @@
 //! Samples of bicubic patches, as whole numbers of 1/256 micrometre and as doubles in micrometres (rules S1 to S5).
 mod bernstein;
+mod line;
 mod micrometres;
 pub mod model;
 mod refusal;
 
 use crate::bernstein::point;
+use crate::line::write_points;
 use crate::micrometres::in_micrometres;
 use crate::model::Reading;
 use crate::model::Sampled;
 use crate::refusal::any_control_off;
 use crate::refusal::place_off;
+use finite::model::Outcome;
 ghost use mathlib.Core.Path.{_≡_};
 ghost use Rattle.sample.specs.Answer.{sampled, sampleAnswer, Reads};
+ghost use Rattle.sample.specs.Line.{LineSampled};
 
 // The sample of face f at (a, b), for N = n (rules S1 to S4).
 // Returns: x, y and z of the sample, each rounded once, or the number of the refusal.
@@ -49,4 +53,32 @@ pub fn reading(patches: &[i32], f: usize, n: usize, a: usize, b: usize) -> Readi
         Sampled::At(p) => Reading::At(in_micrometres(p)),
         Sampled::Refused(k) => Reading::Refused(k),
     }
+}
+
+// All samples of face f with one b, for N = n, a from 0 to n (rules S1 to S4 and S6).
+// Returns: that it is done, or the number of the refusal.
+// Writes: x, y and z of the sample at (a, b), each rounded once, into places 3a, 3a + 1 and 3a + 2 of the line.
+// Leaves alone: the places of the line from 3(n + 1) on, and all of them after a refusal; the patch list, as `sample`.
+// Refuses, in this order: 12 and 13 as `sample`, 14 n off the range from 1 to 32, or b above n, 17 the line shorter than 3(n + 1).
+// Units: control values and samples in 1/256 micrometre.
+pub fn sample_line(patches: &[i32], f: usize, n: usize, b: usize, line: &mut [i32]) -> Outcome
+    ensures { λ r. ⌜ LineSampled (now (patches .entry)) f n b (now (line .entry)) r (now (line .exit)) ⌝ }
+{
+    if patches.len() / 48 <= f {
+        return Outcome::Refused(12);
+    }
+    let at = 48 * f;
+    let end = at + 48;
+    let patch = &patches[at..end];
+    if any_control_off(patch) {
+        return Outcome::Refused(13);
+    }
+    if place_off(n, 0, b) {
+        return Outcome::Refused(14);
+    }
+    if line.len() < 3 * (n + 1) {
+        return Outcome::Refused(17);
+    }
+    write_points(patch, n, b, line);
+    Outcome::Done
 }

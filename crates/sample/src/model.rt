@@ -8,6 +8,9 @@ pub const MIN_STEPS: usize = 1;
 
 pub const MAX_STEPS: usize = 32;
 
+// The numbers of the longest line: a list of so many is never too short.
+pub const MAX_LINE: usize = 3 * (MAX_STEPS + 1);
+
 // A sample, in units of 1/256 micrometre.
 pub struct Point {
     pub x: i32,

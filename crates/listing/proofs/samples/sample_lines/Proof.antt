@@ -1,6 +1,6 @@
--- `sample_lines` meets its contract: the lines up to the next place are stored, and the loop stops where no face is left or the next line might have
--- no room.
-use Prim.Native.Nat.{_+_, _*_, _-_, _≤_}
+-- `sample_lines` meets its contract: the lines before the next place are stored, row by row, and the loop stops where no face is left or the next
+-- line might have no room.
+use Prim.Native.Nat.{_+_, _*_, _-_, _≤_, _<_}
 use native.Mathlib.Omega.{arith}
 use lib.ListN.{length, length-take, length-drop}
 use borrow.Author.Needs.{needs}
@@ -8,9 +8,9 @@ use borrow.Author.Tests.{leb-true, leb-false}
 use Rattle.limits.specs.Limits.{maxFaces}
 use Rattle.sample.specs.Refusal.{maxSteps}
 use Rattle.text.specs.Text.{linePlaces}
-use Rattle.text.proofs.TextLaws.{printed-within}
 use Rattle.listing.proofs.ListingLaws.{few-lines}
-use Rattle.listing.proofs.StretchLaws.{Going, going-start, going-fits, going-more, going-no-room, going-no-face, going-end, stored-length}
+use Rattle.listing.proofs.StretchLaws.{stored-length}
+use Rattle.listing.proofs.RowLaws.{Going, going-start, going-fits, going-more, going-no-room, going-no-face, going-end}
 use Rattle.listing.proofs.samples.sample_lines.Statement.{statement}
 use Rattle.listing.proofs.samples.sample_lines.Tie as tie
 
@@ -29,32 +29,43 @@ module _ (c : tie.At-loop Inv-loop μ-loop) where
   abbrev start : tie.Start Inv-loop μ-loop
   start = entry (c .before .before)
 
+  ends : c .loop .at ≤ length (c .loop .out)
+  ends = let g = c .loop .inv .stored in omega (arith, g .length-is, g .fits, stored-length g)
+
 -- ---- in the loop: the next place is that of a sample, and its line has room
 module _ (c : tie.Then2 Inv-loop μ-loop) where
   abbrev at-loop : tie.At-loop Inv-loop μ-loop
   at-loop = c .before .before .before
 
-  fits : at-loop .loop .to ≤ maxFaces * (maxSteps + 1) * (maxSteps + 1)
-  fits =
-      let s = start at-loop in
-      few-lines (s .args .t .mesh .faces) (s .args .t .steps) (at-loop .loop .to) (s .pre .1) (s .pre .2)
-      (going-fits (at-loop .loop .inv) (c .before .if1 .taken))
+  room : linePlaces ≤ length (at-loop .loop .out) - at-loop .loop .at
+  room = leb-true linePlaces _ (c .if2 .taken)
 
-  ends : at-loop .loop .at ≤ length (at-loop .loop .out)
-  ends = let g = at-loop .loop .inv in omega (arith, g .stored .length-is, g .stored .fits, stored-length (g .stored))
+-- ---- the lines of its row are stored: they lead on, no further than to the last line, and end within the part that was lent
+module _ (c : tie.After-row-lines Inv-loop μ-loop) where
+  abbrev in-loop : tie.Then2 Inv-loop μ-loop
+  in-loop = c .before .before
 
--- ---- the line is stored
-abbrev in-loop : tie.After-sample-line Inv-loop μ-loop → tie.Then2 Inv-loop μ-loop
-in-loop c = c .before .before
+  abbrev here : tie.At-loop Inv-loop μ-loop
+  here = at-loop in-loop
 
--- it ends within the part that was lent
-module _ (c : tie.After-sample-line Inv-loop μ-loop) where
-  stored-end : at-loop (in-loop c) .loop .at + c .sample-line .result ≤ length (at-loop (in-loop c) .loop .out)
+  leads : 0 < c .row-lines .result .count
+  leads = c .row-lines .ensures .some
+
+  fits : here .loop .to + c .row-lines .result .count ≤ 1 + start here .args .t .mesh .faces * (start here .args .t .steps + 1) * (start here .args .t .steps + 1)
+  fits = going-fits (here .loop .inv) (in-loop .before .if1 .taken) _ leads (c .row-lines .ensures .within)
+
+  few : here .loop .to + c .row-lines .result .count ≤ 1 + maxFaces * (maxSteps + 1) * (maxSteps + 1)
+  few =
+      let s = start here in
+      omega (arith, few-lines (s .args .t .mesh .faces) (s .args .t .steps) (here .loop .to + c .row-lines .result .count - 1) (s .pre .1) (s .pre .2) (omega (arith, fits)))
+
+  stored-end : here .loop .at + c .row-lines .result .length ≤ length (here .loop .out)
   stored-end =
-      omega (arith, ends (in-loop c), simp (length-take, length-drop) at (printed-within (c .sample-line .kept .1 .1 .1 .0) (c .sample-line .ensures)))
+      let g = c .row-lines .ensures .stored in
+      omega (arith, ends here, g .length-is, simp (length-take, length-drop) at (g .fits))
 
-abbrev called : tie.After-slice-known2 Inv-loop μ-loop → tie.After-sample-line Inv-loop μ-loop
-called c = c .before .before
+abbrev called : tie.After-struct-known3 Inv-loop μ-loop → tie.After-row-lines Inv-loop μ-loop
+called c = let k : tie.After-slice-known2 Inv-loop μ-loop = c .before .before in k .before .before
 
 -- ---- the answers, in the order of the code
 sub-place-of : tie.Need-sub-place-of Inv-loop μ-loop
@@ -67,44 +78,48 @@ loop-holds : tie.Need-loop-holds Inv-loop μ-loop
 loop-holds c = let s = entry (c .before) in going-start _ _ _ _ _ _ (s .pre .0) (c .place-of .ensures .0) (c .place-of .ensures .1)
 
 sub-if2 : tie.Need-sub-if2 Inv-loop μ-loop
-sub-if2 c = let g = c .before .before .loop .inv in omega (arith, g .stored .length-is, g .stored .fits, stored-length (g .stored))
+sub-if2 c = ends (c .before .before)
 
-sub-sample-line : tie.Need-sub-sample-line Inv-loop μ-loop
-sub-sample-line c = omega (arith, ends c)
+sub-row-lines : tie.Need-sub-row-lines Inv-loop μ-loop
+sub-row-lines c = ends (at-loop c)
 
-part-sample-line-start : tie.Need-part-sample-line-start Inv-loop μ-loop
-part-sample-line-start c = omega (arith, ends c)
+part-row-lines-start : tie.Need-part-row-lines-start Inv-loop μ-loop
+part-row-lines-start c = omega (arith, ends (at-loop c))
 
-part-sample-line-end : tie.Need-part-sample-line-end Inv-loop μ-loop
-part-sample-line-end c = search needs
+part-row-lines-end : tie.Need-part-row-lines-end Inv-loop μ-loop
+part-row-lines-end c = search needs
 
-sample-line-requires : tie.Need-sample-line-requires Inv-loop μ-loop
-sample-line-requires c κs = tt
+row-lines-requires : tie.Need-row-lines-requires Inv-loop μ-loop
+row-lines-requires c κs =
+    let i : tie.Then2 Inv-loop μ-loop = c .before in
+    let l = at-loop i in (
+      l .loop .inv .placed,
+      start l .pre .2,
+      rw (length-take, length-drop) (omega (arith, room i)),
+    )
 
 add-at : tie.Need-add-at Inv-loop μ-loop
-add-at c = let w = called c in omega (arith, stored-end w, stored-length (at-loop (in-loop w) .loop .inv .stored), start (at-loop (in-loop w)) .good)
-
-next-place-requires : tie.Need-next-place-requires Inv-loop μ-loop
-next-place-requires c κs =
-    let i = in-loop (called c) in
-    let l = at-loop i in
-    let s = start l in
-    (l .loop .inv .placed, omega (arith, i .before .if1 .taken, s .pre .1), s .pre .2)
+add-at c =
+    let w : tie.After-row-lines Inv-loop μ-loop = let k : tie.After-slice-known2 Inv-loop μ-loop = c .before in k .before .before in
+    omega (arith, stored-end w, stored-length (here w .loop .inv .stored), start (here w) .good)
 
 add-to : tie.Need-add-to Inv-loop μ-loop
-add-to c = omega (arith, fits (in-loop (called (c .before))))
+add-to c = omega (arith, few (called c))
+
+sub-place-of-2 : tie.Need-sub-place-of-2 Inv-loop μ-loop
+sub-place-of-2 c = omega (arith, leads (called c))
+
+place-of-requires-2 : tie.Need-place-of-requires-2 Inv-loop μ-loop
+place-of-requires-2 c κs = start (here (called c)) .pre .2
 
 loop-less : tie.Need-loop-less Inv-loop μ-loop
-loop-less c = let i = in-loop (called (c .before)) in omega (arith, going-fits (at-loop i .loop .inv) (i .before .if1 .taken))
+loop-less c = let w = called (c .before) in omega (arith, leads w, fits w)
 
 loop-again : tie.Need-loop-again Inv-loop μ-loop
 loop-again c =
     let w = called (c .before) in
-    let i = in-loop w in
-    let l = at-loop i in
-    going-more (l .loop .inv) _ _ _ (start l .pre .0) (i .before .if1 .taken) (leb-true linePlaces _ (i .if2 .taken))
-    (w .sample-line .kept .1 .1 .1 .0) (w .sample-line .ensures)
-    (c .next-place .ensures .0) (c .next-place .ensures .1)
+    let l = here w in
+    going-more (l .loop .inv) _ _ _ (start l .pre .0) (in-loop w .before .if1 .taken) (w .row-lines .ensures) (c .place-of2 .ensures .0) (c .place-of2 .ensures .1)
 
 same-length : tie.Need-same-length Inv-loop μ-loop
 same-length c = stored-length (c .before .before .before .loop .inv .stored)
@@ -134,13 +149,14 @@ sample-lines-spec =
     place-of-requires
     loop-holds
     sub-if2
-    sub-sample-line
-    part-sample-line-start
-    part-sample-line-end
-    sample-line-requires
+    sub-row-lines
+    part-row-lines-start
+    part-row-lines-end
+    row-lines-requires
     add-at
-    next-place-requires
     add-to
+    sub-place-of-2
+    place-of-requires-2
     loop-less
     loop-again
     same-length
