@@ -40,6 +40,28 @@ static const int32_t positions[12] = {0, 0, 0, 21, 0, 0, 21, 21, 0, 0, 21, 0};
 static const uint8_t tags[4] = {0, 0, 0, 0};
 static const uint16_t indices[4] = {0, 1, 2, 3};
 
+/* The samples with b = 1, N = 2: refused where there is a place too few, then written, and not beyond them. */
+static void line(const int32_t *patches)
+{
+    int32_t points[10] = {7, 7, 7, 7, 7, 7, 7, 7, 7, 7};
+
+    expect("line b = 3, N = 2", rusketja_sample_line(patches, 48, 0, 2, 3, points, 10), 14);
+    expect("line b = 1, 8 places", rusketja_sample_line(patches, 48, 0, 2, 1, points, 8), 17);
+    expect("x of (0,1) after it", points[0], 7);
+
+    expect("line b = 1, N = 2", rusketja_sample_line(patches, 48, 0, 2, 1, points, 10), 0);
+    expect("x of (0,1)", points[0], 0);
+    expect("y of (0,1)", points[1], 2688);
+    expect("z of (0,1)", points[2], 0);
+    expect("x of (1,1)", points[3], 2688);
+    expect("y of (1,1)", points[3 + 1], 2688);
+    expect("z of (1,1)", points[3 + 2], 0);
+    expect("x of (2,1)", points[3 * 2], 5376);
+    expect("y of (2,1)", points[3 * 2 + 1], 2688);
+    expect("z of (2,1)", points[3 * 2 + 2], 0);
+    expect("line beyond 3(N + 1)", points[3 * 3], 7);
+}
+
 /* The mirror image of the square into these lists, tags_len tags among them. */
 static uint8_t mirror_into(int32_t *out_positions, uint8_t *out_tags, size_t tags_len, uint16_t *out_indices)
 {
@@ -117,6 +139,8 @@ int main(void)
     expect_micrometres("x in micrometres", rx, 10.5);
     expect_micrometres("y in micrometres", ry, 0);
     expect_micrometres("z in micrometres", rz, 0);
+
+    line(patches);
 
     first = 9;
     expect_size("corners of face 1", rusketja_face_corners(indices, 4, 1, &first), 0);

@@ -20,13 +20,14 @@
  * rusketja_mirror fewer than 7,100, rusketja_check fewer than 5,000, the others fewer than 256, whatever the sizes; no call recurses.
  * The arrays in crates/mesh/src and crates/patch/src make up nearly all of it.
  *
- * Lengths, for V vertices and F faces:
+ * Lengths, for V vertices, F faces and n steps:
  *
  *     positions  3V      x, y, z of vertex p at 3p, 3p + 1, 3p + 2, in micrometres, from -1048576 to 1048576
  *     tags        V      0 smooth, 1 corner (boundary vertices only)
  *     indices    4F      the vertices of face f at 4f to 4f + 3, counterclockwise
  *     twins      4F      at least; place 4f + s is that of the half-edge from corner s of face f to the next corner
  *     patches   48F      at least; coordinate k of control point i + 4j of face f at 48f + 3(i + 4j) + k, in 1/256 micrometre
+ *     line     3(n + 1)  at least; x, y, z of the sample at (a, b), for one b, at 3a, 3a + 1, 3a + 2, in 1/256 micrometre
  *
  * out_positions, out_tags and out_indices, the lists of a mesh that is written, are exactly as long as positions, tags and indices.
  *
@@ -48,8 +49,9 @@
  *     11  an inner vertex is tagged 1
  *     12  patches is shorter than 48f + 48
  *     13  a control value of face f is beyond 268435456 either way
- *     14  n is not from 1 to 32, or a or b is above n
+ *     14  n is not from 1 to 32, or a or b is above n (a where the call is passed one)
  *     16  out_positions has another length than positions, out_tags than tags, or out_indices than indices
+ *     17  line is shorter than 3(n + 1)
  *
  * 15 belongs to files alone (docs/REFUSALS.md): no call here returns it.
  */
@@ -150,6 +152,22 @@ uint8_t rusketja_reading(
     double *x,
     double *y,
     double *z);
+
+/* All samples of face f with one b of n by n steps: a line of n + 1 points of the patch at v = b/n, a rising from 0 to n.
+ *
+ * Returns: 0 where the line is written, or the number of the refusal.
+ * Writes: for each a, the sample at (a, b) into places 3a, 3a + 1 and 3a + 2 of line: x, y and z, each the very number that
+ *     rusketja_sample gives there.
+ * Leaves alone: line from place 3(n + 1) on; all of line after a refusal.
+ * Refuses: 12, 13, 14, 17, in this order.
+ * Lengths: patches as rusketja_sample; line 3(n + 1) or more, for which 99 always do.
+ * Units: as rusketja_sample. */
+uint8_t rusketja_sample_line(
+    const int32_t *patches, size_t patches_len,
+    size_t f,
+    size_t n,
+    size_t b,
+    int32_t *line, size_t line_len);
 
 /* The mirror image of a mesh of v vertices and f faces, which is checked first: the last of the other foot. The image is accepted
  * too, with the same four counts, and its sample of a face at (b, a) is that of the mesh at (a, b) with the sign of x changed.

@@ -61,6 +61,16 @@ extern "C" {
         z: &mut f64,
     ) -> u8;
 
+    pub fn rusketja_sample_line(
+        patches: *const i32,
+        patches_len: usize,
+        f: usize,
+        n: usize,
+        b: usize,
+        line: *mut i32,
+        line_len: usize,
+    ) -> u8;
+
     pub fn rusketja_mirror(
         v: usize,
         f: usize,

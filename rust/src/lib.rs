@@ -8,7 +8,7 @@
 //! 4f + s runs from corner s of face f to the next corner. Rules are those of `docs/SPECIFICATION.md`.
 //!
 //! ```
-//! use rusketja::{patches, reading, sample, Counts, Mesh};
+//! use rusketja::{patches, reading, sample, sample_line, Counts, Mesh};
 //!
 //! // The square of rule X1: four vertices in micrometres, one face.
 //! let square = Mesh {
@@ -24,6 +24,13 @@
 //! assert_eq!(counts, Counts { vertices: 4, faces: 1, edges: 4, boundary: 4 });
 //! assert_eq!(sample(&controls, 0, 2, 1, 1)?, [2688, 2688, 0]);
 //! assert_eq!(reading(&controls, 0, 2, 1, 1)?, [10.5, 10.5, 0.0]);
+//!
+//! // All samples with b = 1, by one call.
+//! let mut line = [0; 9];
+//! for [x, y, z] in sample_line(&controls, 0, 2, 1, &mut line)? {
+//!     println!("{x} {y} {z}");
+//! }
+//! assert_eq!(line, [0, 2688, 0, 2688, 2688, 0, 5376, 2688, 0]);
 //! # Ok::<(), rusketja::Refusal>(())
 //! ```
 #![warn(missing_docs)]
@@ -236,6 +243,52 @@ pub fn reading(patches: &[i32], face: usize, n: usize, a: usize, b: usize) -> Re
     accepted(code, point)
 }
 
+/// Writes all samples of a face with one b of n by n steps: a line of n + 1 points of its patch at v = b/n, a rising from 0 to n.
+///
+/// - Returns the points, as that part of `line`: point a is the [`sample`] at (a, b), to the very number.
+/// - Writes x, y and z of point a into places 3a, 3a + 1 and 3a + 2 of `line`, in 1/256 micrometre.
+/// - Leaves alone `line` from 3(n + 1) on, and all of it after a refusal.
+/// - Reads no more of `patches` than the patch of face f, 48 control values, as [`patches()`] writes them.
+/// - Refuses 12, 13, 14, 17, in this order; 17 is a `line` shorter than 3(n + 1), for which 99 places always do.
+///
+/// ```
+/// use rusketja::{patches, sample, sample_line, Mesh, Refusal};
+///
+/// let square = Mesh {
+///     vertices: 4,
+///     faces: 1,
+///     positions: &[0, 0, 0, 21, 0, 0, 21, 21, 0, 0, 21, 0],
+///     tags: &[0; 4],
+///     indices: &[0, 1, 2, 3],
+/// };
+/// let mut controls = [0; 48];
+/// patches(&square, &mut [0; 4], &mut controls)?;
+///
+/// let mut line = [7; 10];
+/// assert_eq!(sample_line(&controls, 0, 2, 1, &mut line[..8]), Err(Refusal(17)));
+/// assert_eq!(line, [7; 10]);
+///
+/// for (a, point) in sample_line(&controls, 0, 2, 1, &mut line)?.iter().enumerate() {
+///     assert_eq!(*point, sample(&controls, 0, 2, a, 1)?);
+/// }
+/// assert_eq!(line, [0, 2688, 0, 2688, 2688, 0, 5376, 2688, 0, 7]);
+/// # Ok::<(), Refusal>(())
+/// ```
+pub fn sample_line<'a>(
+    patches: &[i32],
+    face: usize,
+    n: usize,
+    b: usize,
+    line: &'a mut [i32],
+) -> Result<&'a [[i32; 3]], Refusal> {
+    let (list, places) = (line.as_mut_ptr(), line.len());
+    // SAFETY: each pointer and length are those of one slice, and what is written overlaps nothing, as it is borrowed mutably.
+    let code = unsafe { ffi::rusketja_sample_line(patches.as_ptr(), patches.len(), face, n, b, list, places) };
+    accepted(code, ())?;
+    let (points, _) = line.as_chunks();
+    Ok(&points[..=n])
+}
+
 /// Writes the mirror image of a mesh, which is checked first: the last of the other foot.
 ///
 /// - Returns nothing more than that it is done. The image is accepted too, with the same counts, and its [`sample`] of a face at
@@ -339,7 +392,12 @@ mod tests {
         assert_eq!(reading(&[0; 48], usize::MAX, 1, 0, 0), Err(Refusal(12)));
         assert_eq!(sample(&[268_435_457; 48], 0, 1, 0, 0), Err(Refusal(13)));
         assert_eq!(reading(&[0; 48], 0, usize::MAX, 0, 0), Err(Refusal(14)));
+        assert_eq!(sample_line(&[], usize::MAX, usize::MAX, usize::MAX, &mut []), Err(Refusal(12)));
+        assert_eq!(sample_line(&[i32::MIN; 48], 0, usize::MAX, usize::MAX, &mut []), Err(Refusal(13)));
+        assert_eq!(sample_line(&[0; 48], 0, usize::MAX, usize::MAX, &mut []), Err(Refusal(14)));
+        assert_eq!(sample_line(&[0; 48], 0, 1, usize::MAX, &mut []), Err(Refusal(14)));
         assert_eq!(mirror(&SQUARE, &mut [], &mut [], &mut []), Err(Refusal(16)));
+        assert_eq!(sample_line(&[0; 48], 0, 1, 0, &mut []), Err(Refusal(17)));
         assert!(face_corners(&[], 0).is_empty());
         assert!(face_corners(&[1; 7], usize::MAX).is_empty());
     }
@@ -360,6 +418,49 @@ mod tests {
         twins = [7; 6];
         assert_eq!(patches(&unused, &mut twins, &mut controls), Err(Refusal(8)));
         assert_eq!((twins, controls), ([NO_TWIN, NO_TWIN, NO_TWIN, NO_TWIN, 7, 7], written));
+    }
+
+    /// The refusal of a line on a list of so many places, each 7 before and after.
+    fn refused_line(patches: &[i32], face: usize, n: usize, b: usize, places: usize) -> Refusal {
+        let mut line = vec![7; places];
+        let refusal = sample_line(patches, face, n, b, &mut line).expect_err("a refusal");
+        assert_eq!(line, vec![7; places]);
+        refusal
+    }
+
+    #[test]
+    fn a_refused_line_leaves_its_list_alone() {
+        let flat = [0; 96];
+        let mut off = flat;
+        off[95] = -268_435_457;
+        for places in [0, 8, 9, 99] {
+            // Each cause alone where the list is long enough, then with all that come behind it.
+            assert_eq!(refused_line(&flat, 2, 2, 1, places), Refusal(12));
+            assert_eq!(refused_line(&off[..95], 1, 2, 1, places), Refusal(12));
+            assert_eq!(refused_line(&[i32::MAX; 95], 1, 33, 34, places), Refusal(12));
+            assert_eq!(refused_line(&off, 1, 2, 1, places), Refusal(13));
+            assert_eq!(refused_line(&off, 1, 0, 1, places), Refusal(13));
+            for (n, b) in [(0, 0), (33, 0), (2, 3), (32, 33), (2, usize::MAX), (usize::MAX, 2)] {
+                assert_eq!(refused_line(&flat, 1, n, b, places), Refusal(14));
+            }
+        }
+        for (n, places) in [(1, 0), (1, 5), (2, 6), (2, 8), (32, 96), (32, 98)] {
+            assert_eq!(refused_line(&flat, 1, n, n, places), Refusal(17));
+        }
+    }
+
+    #[test]
+    fn a_line_has_the_samples_and_leaves_alone_what_is_behind() {
+        let controls: Vec<i32> = (0..96).map(|place| 50_003 * place * place - 200_000_000).collect();
+        for (n, b) in (1..=32).flat_map(|n| (0..=n).map(move |b| (n, b))) {
+            let samples: Vec<_> = (0..=n).map(|a| sample(&controls, 1, n, a, b).expect("a sample")).collect();
+            for places in [3 * (n + 1), 100] {
+                let mut line = [7; 101];
+                assert_eq!(sample_line(&controls, 1, n, b, &mut line[..places]), Ok(&samples[..]));
+                assert_eq!(line[..3 * (n + 1)], samples.concat());
+                assert!(line[3 * (n + 1)..].iter().all(|&place| place == 7));
+            }
+        }
     }
 
     /// Three faces around vertex 0, which is inner and tagged.
@@ -419,7 +520,7 @@ mod tests {
     fn a_refusal_says_its_number_and_its_cause() {
         assert_eq!(Refusal(7).to_string(), "refused 7: a half-edge occurs twice the same way round");
         assert_eq!(Refusal(15).meaning(), Refusal(0).meaning());
-        let causes: Vec<_> = (1..=14).chain([16]).map(|number| Refusal(number).meaning()).collect();
+        let causes: Vec<_> = (1..=14).chain([16, 17]).map(|number| Refusal(number).meaning()).collect();
         for (place, cause) in causes.iter().enumerate() {
             assert!(!causes[..place].contains(cause) && *cause != Refusal(0).meaning());
         }

@@ -20,8 +20,9 @@ use std::fmt;
 /// | 11 | an inner vertex is tagged 1 |
 /// | 12 | the patch list ends before the patch of the face: it is shorter than 48f + 48 |
 /// | 13 | a control value of the face is beyond 268,435,456 either way |
-/// | 14 | n is not from 1 to 32, or a or b is above n |
+/// | 14 | n is not from 1 to 32, or a or b is above n (a where the function is passed one) |
 /// | 16 | a list to be written, `out_positions`, `out_tags` or `out_indices`, is not as long as that list of the mesh |
+/// | 17 | the list lent for a line of samples is shorter than 3(n + 1) |
 ///
 /// 15 belongs to files alone (`docs/REFUSALS.md`): no function here gives it.
 #[derive(Clone, Copy, Debug, PartialEq, Eq, Hash)]
@@ -46,6 +47,7 @@ impl Refusal {
             13 => "a control value is beyond its limit",
             14 => "the number of steps is off its range, or a place is beyond it",
             16 => "a list to be written is not as long as that list of the mesh",
+            17 => "the list for a line of samples is too short",
             _ => "no refusal of this library",
         }
     }

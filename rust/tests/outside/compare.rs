@@ -4,6 +4,7 @@ use crate::document::{self, Four};
 use crate::model::Model;
 use crate::random::Random;
 use crate::tally::Tally;
+use std::ops::Range;
 
 /// Lists to lend, filled with anything.
 #[derive(Clone)]
@@ -56,8 +57,8 @@ fn same<T: PartialEq + std::fmt::Debug>(what: &str, library: &[T], document: &[T
     }
 }
 
-/// The check and the patch call on these lists; the patch list afterwards.
-pub fn mesh_calls(mesh: &Model, lent: &Lent, tally: &mut Tally) -> Vec<i32> {
+/// The check and the patch call on these lists; the patch list of an accepted mesh.
+pub fn mesh_calls(mesh: &Model, lent: &Lent, tally: &mut Tally) -> Option<Vec<i32>> {
     let before = mesh.clone();
     let (answer, twins_after) = document::check(mesh, &lent.twins);
     let mut twins = lent.twins.clone();
@@ -78,7 +79,7 @@ pub fn mesh_calls(mesh: &Model, lent: &Lent, tally: &mut Tally) -> Vec<i32> {
     tally.causes(&document::causes(mesh, Some(twins.len()), Some(patches.len())));
     tally.patches[answer.err().unwrap_or(0) as usize] += 1;
     tally.control_values += answer.map_or(0, |[_, faces, _, _]| 48 * faces as u64);
-    patches
+    answer.is_ok().then_some(patches)
 }
 
 /// The mirror call with the lists of another mesh to write.
@@ -137,7 +138,7 @@ pub fn sample_calls(patches: &[i32], face: usize, n: usize, a: usize, b: usize, 
         return;
     }
     let fraction = document::sample_fraction(patches, face, n, a, b);
-    let expected = fraction.over.map(|over| document::nearest(over, fraction.divisor) as i32);
+    let expected = fraction.nearest();
     assert_eq!(sample, Ok(expected), "the sample at {place}, left: library");
     let doubles = reading.unwrap_or_else(|number| panic!("the reading at {place} refuses with {number}"));
     for x in 0..3 {
@@ -150,6 +151,57 @@ pub fn sample_calls(patches: &[i32], face: usize, n: usize, a: usize, b: usize, 
     tally.samples[0] += 1;
     tally.readings[0] += 1;
     tally.steps[n - 1] += 1;
+}
+
+/// The line call on a list of so many places, which stands in the midst of a longer one, filled with anything.
+pub fn line_call(
+    patches: &[i32],
+    face: usize,
+    n: usize,
+    b: usize,
+    places: usize,
+    random: &mut Random,
+    tally: &mut Tally,
+) {
+    const FIRST: usize = 5;
+    let lent = FIRST..FIRST + places;
+    let case = format!("the line of face {face}, N {n}, b {b}, {places} places lent from place {FIRST} on");
+    let mut list: Vec<i32> = (0..lent.end + FIRST).map(|_| random.next() as i32).collect();
+    let (causes, line) = document::line(patches, face, n, b, &list[lent.clone()]);
+    let mut after = list.clone();
+    after[lent.clone()].copy_from_slice(&line);
+    let expected = match causes.first() {
+        Some(&number) => Err(number),
+        None => Ok((list[FIRST..].as_ptr(), n + 1)),
+    };
+    let answer = rusketja::sample_line(patches, face, n, b, &mut list[lent]);
+    let answer = answer.map(|points| (points.as_ptr().cast(), points.len())).map_err(|refusal| refusal.0);
+    assert_eq!(answer, expected, "{case}: the refusal, or where the points are and how many, left: library");
+    same(&case, &list, &after);
+    line_samples(patches, face, n, b, expected.map(|_| &line[..]));
+    tally.line(&causes, n, places);
+}
+
+/// Each point of a line is the sample there; a line is refused as its first sample is, or with 17.
+fn line_samples(patches: &[i32], face: usize, n: usize, b: usize, line: Result<&[i32], u8>) {
+    let sample = |a: usize| rusketja::sample(patches, face, n, a, b).map_err(|refusal| refusal.0);
+    match line {
+        Err(number) => {
+            assert_eq!(number, sample(0).err().unwrap_or(17), "face {face}, N {n}, b {b}, right: the sample")
+        }
+        Ok(line) => (0..=n).for_each(|a| {
+            let point = [0, 1, 2].map(|x| line[3 * a + x]);
+            assert_eq!(Ok(point), sample(a), "face {face}, N {n}, a {a}, b {b}, right: the sample");
+        }),
+    }
+}
+
+/// Every line of these faces, on lists that are long enough, or longer.
+pub fn lines(patches: &[i32], faces: Range<usize>, n: usize, random: &mut Random, tally: &mut Tally) {
+    for (face, b) in faces.flat_map(|face| (0..=n).map(move |b| (face, b))) {
+        let places = 3 * (n + 1) + random.pick(&[0, 0, 0, 1, 2, 3, 40]);
+        line_call(patches, face, n, b, places, random, tally);
+    }
 }
 
 /// The four corners of each face as a part of the face list itself, and the empty part beyond it.

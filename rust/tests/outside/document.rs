@@ -25,6 +25,13 @@ pub struct Fraction {
     pub divisor: i128,
 }
 
+impl Fraction {
+    /// Its three numbers, each rounded.
+    pub fn nearest(&self) -> [i32; 3] {
+        self.over.map(|over| nearest(over, self.divisor) as i32)
+    }
+}
+
 /// A mesh that passed 1 and 5, with the corners at each vertex and what they form.
 pub struct Surface<'a> {
     mesh: &'a Model,
@@ -331,16 +338,18 @@ pub fn weights(n: usize, a: usize) -> [i128; 4] {
     [rest * rest * rest, 3 * a * rest * rest, 3 * a * a * rest, a * a * a]
 }
 
+/// Those of 12, 13 and 14 that are met, as far as they can be told: no 13 after 12. The places are a and b, or b alone.
+fn sample_causes(patches: &[i32], face: usize, n: usize, places: &[usize]) -> Vec<u8> {
+    let missing = 48 * face as u128 + 48 > patches.len() as u128;
+    let beyond = |x: &i32| !(-268_435_456..=268_435_456).contains(x);
+    let number_off = !missing && patches[48 * face..48 * face + 48].iter().any(beyond);
+    let place_off = !(1..=32).contains(&n) || places.iter().any(|&place| place > n);
+    numbers(12, &[missing, number_off, place_off])
+}
+
 /// The first of 12, 13 and 14 that is met.
 pub fn sample_refusal(patches: &[i32], face: usize, n: usize, a: usize, b: usize) -> Option<u8> {
-    if 48 * face as u128 + 48 > patches.len() as u128 {
-        return Some(12);
-    }
-    let beyond = |x: &i32| !(-268_435_456..=268_435_456).contains(x);
-    if patches[48 * face..48 * face + 48].iter().any(beyond) {
-        return Some(13);
-    }
-    (!(1..=32).contains(&n) || a > n || b > n).then_some(14)
+    sample_causes(patches, face, n, &[a, b]).first().copied()
 }
 
 /// A sample as a fraction over N^6, not yet rounded: the control points, each times its two weights.
@@ -355,4 +364,19 @@ pub fn sample_fraction(patches: &[i32], face: usize, n: usize, a: usize, b: usiz
         }
     }
     Fraction { over, divisor: (n as i128).pow(6) }
+}
+
+/// The causes that a line meets, those of its samples and then 17, and its lent list afterwards: the samples of one b, a rising.
+pub fn line(patches: &[i32], face: usize, n: usize, b: usize, lent: &[i32]) -> (Vec<u8>, Vec<i32>) {
+    let mut met = sample_causes(patches, face, n, &[b]);
+    if (lent.len() as u128) < 3 * (n as u128 + 1) {
+        met.push(17);
+    }
+    let mut after = lent.to_vec();
+    if met.is_empty() {
+        for a in 0..=n {
+            after[3 * a..3 * a + 3].copy_from_slice(&sample_fraction(patches, face, n, a, b).nearest());
+        }
+    }
+    (met, after)
 }

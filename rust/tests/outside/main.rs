@@ -6,6 +6,7 @@ mod claim;
 mod compare;
 mod damage;
 mod document;
+mod lines;
 mod model;
 mod random;
 mod shapes;
@@ -56,7 +57,7 @@ fn accepted_meshes() {
         let _shown = Shown { case, mesh: &mesh };
         tally.mesh(&mesh);
         let lent = Lent::enough(&mesh, random);
-        let patches = compare::mesh_calls(&mesh, &lent, &mut tally);
+        let patches = compare::mesh_calls(&mesh, &lent, &mut tally).expect("an accepted mesh");
         let n = 1 + random.below(32);
         for _ in 0..20 {
             let (face, a, b) = (random.below(mesh.faces), claim::place(n, random), claim::place(n, random));
@@ -68,11 +69,16 @@ fn accepted_meshes() {
         compare::face_parts(&mesh.indices, random, &mut tally);
         compare::mirror_call(&mesh, &mesh.filled(mesh.lengths(), random), &mut tally);
         claim::mirror(&mesh, &patches, n, random, &mut tally);
+        // Every line of the mesh with few steps, and of one face with up to 32.
+        compare::lines(&patches, 0..mesh.faces, 1 + random.below(8), random, &mut tally);
+        let face = random.below(mesh.faces);
+        compare::lines(&patches, face..face + 1, n, random, &mut tally);
     });
     tally.print_answers("accepted meshes");
     tally.print_mirror();
     tally.print_shapes();
     tally.print_samples("accepted meshes");
+    tally.print_lines("accepted meshes");
     tally.print_claim();
     if whole_run() {
         tally.assert_shapes();
@@ -92,9 +98,11 @@ fn every_place_of_some_faces() {
             for (a, b) in (0..=n).flat_map(|a| (0..=n).map(move |b| (a, b))) {
                 compare::sample_calls(&patches, face, n, a, b, &mut tally);
             }
+            compare::lines(&patches, face..face + 1, n, random, &mut tally);
         }
     });
     tally.print_samples("every place of some faces");
+    tally.print_lines("every place of some faces");
 }
 
 #[test]
@@ -104,14 +112,18 @@ fn damaged_meshes() {
         let mesh = damage::damaged(random);
         let _shown = Shown { case, mesh: &mesh };
         let lent = if random.one_in(8) { Lent::any(&mesh, random) } else { Lent::enough(&mesh, random) };
-        compare::mesh_calls(&mesh, &lent, &mut tally);
+        let patches = compare::mesh_calls(&mesh, &lent, &mut tally);
         compare::face_parts(&mesh.indices, random, &mut tally);
         compare::mirror_calls(&mesh, random, &mut tally);
+        if let Some(patches) = patches {
+            compare::lines(&patches, 0..mesh.faces, 1 + random.below(8), random, &mut tally);
+        }
     });
     tally.print_answers("damaged meshes");
     tally.print_causes();
     tally.print_mirror();
     tally.print_lengths();
+    tally.print_lines("damaged meshes");
     if whole_run() {
         tally.assert_refusals();
         tally.assert_mirror();
@@ -164,7 +176,8 @@ fn arbitrary_patch_lists() {
             };
             let [n, a, b] = any_place(random);
             let shown = std::panic::catch_unwind(std::panic::AssertUnwindSafe(|| {
-                compare::sample_calls(&patches, face, n, a, b, &mut tally)
+                compare::sample_calls(&patches, face, n, a, b, &mut tally);
+                compare::line_call(&patches, face, n, b, lines::any_places(n, random), random, &mut tally);
             }));
             if let Err(failure) = shown {
                 println!("FAILED {case}, face {face}, N {n}, a {a}, b {b}, patch list ({}) {patches:?}", patches.len());
@@ -174,18 +187,24 @@ fn arbitrary_patch_lists() {
         assert!(patches == before, "{case}: the patch list was written");
     });
     tally.print_samples("arbitrary patch lists");
+    tally.print_lines("arbitrary patch lists");
+    tally.print_line_causes();
     if whole_run() {
         tally.assert_samples();
+        tally.assert_lines();
     }
 }
 
-/// The three calls on a mesh of these faces.
+/// The three calls on a mesh of these faces, and its lines where it is accepted.
 fn hold(case: &str, quads: &Quads, lent: &Lent, random: &mut Random, tally: &mut Tally) {
     let mut mesh = quads.model();
     mesh.positions.iter_mut().enumerate().for_each(|(at, x)| *x = (at * at) as i32);
     let _shown = Shown { case, mesh: &mesh };
-    compare::mesh_calls(&mesh, lent, tally);
+    let patches = compare::mesh_calls(&mesh, lent, tally);
     compare::mirror_calls(&mesh, random, tally);
+    if let Some(patches) = patches {
+        compare::lines(&patches, 0..mesh.faces, 1 + random.below(32), random, tally);
+    }
 }
 
 /// The face with these digits in the base as its corners.
@@ -222,4 +241,5 @@ fn every_small_mesh() {
     tally.print_answers("every small mesh");
     tally.print_mirror();
     tally.print_lengths();
+    tally.print_lines("every small mesh");
 }

@@ -6,6 +6,10 @@ use crate::model::Model;
 /// The answers of the mirror: 0 when it is done, or the number of a refusal.
 const MIRROR: [usize; 12] = [0, 1, 3, 4, 5, 6, 7, 8, 9, 10, 11, 16];
 
+/// The answers of the line, and the causes of refusal that can be told together.
+const LINE: [usize; 5] = [0, 12, 13, 14, 17];
+const LINE_CAUSES: [[usize; 2]; 5] = [[12, 14], [12, 17], [13, 14], [13, 17], [14, 17]];
+
 #[derive(Default)]
 pub struct Tally {
     pub closed: u64,
@@ -23,6 +27,11 @@ pub struct Tally {
     pub alone_off: [[u64; 2]; 3],
     pub samples: [u64; 15],
     pub readings: [u64; 15],
+    /// Answers of the line by number; refused lines by each two of the causes met; lines by N - 1, on a list that is one place
+    /// too short, on one that they fill, and on a longer one.
+    pub lines: [u64; 18],
+    pub line_causes: [[u64; 18]; 18],
+    pub line_places: [[u64; 3]; 32],
     /// Vertices by n, and by k and tag.
     pub inner: [u64; 17],
     pub rim: [[u64; 2]; 9],
@@ -86,6 +95,21 @@ impl Tally {
         }
     }
 
+    /// Counts a call of the line by the causes met and by the places of its list.
+    pub fn line(&mut self, causes: &[u8], n: usize, places: usize) {
+        self.lines[causes.first().copied().unwrap_or(0) as usize] += 1;
+        for (at, &first) in causes.iter().enumerate() {
+            for &other in &causes[at + 1..] {
+                self.line_causes[first as usize][other as usize] += 1;
+            }
+        }
+        match causes {
+            [] => self.line_places[n - 1][1 + (places > 3 * (n + 1)) as usize] += 1,
+            [17] if places + 1 == 3 * (n + 1) => self.line_places[n - 1][0] += 1,
+            _ => {}
+        }
+    }
+
     pub fn print_answers(&self, title: &str) {
         println!("{title}: answers of the check, 0 to 11: {:?}", &self.check[..12]);
         println!("  answers of the patch call, 0 to 11: {:?}", &self.patches[..12]);
@@ -130,6 +154,20 @@ impl Tally {
         println!("  halves, positive to above and below, negative to above and below: {:?}", self.halves);
     }
 
+    pub fn print_lines(&self, title: &str) {
+        println!("{title}: answers of the line, 0, 12, 13, 14, 17: {:?}", LINE.map(|number| self.lines[number]));
+        println!("  by N, 1 to 32, on a list one place short, as long, longer: {:?}", self.line_places);
+    }
+
+    pub fn print_line_causes(&self) {
+        println!("  refused lines with both causes met, {LINE_CAUSES:?}: {:?}", self.line_pairs());
+    }
+
+    /// The refused lines by each two causes that can be told together.
+    fn line_pairs(&self) -> [u64; 5] {
+        LINE_CAUSES.map(|[first, other]| self.line_causes[first][other])
+    }
+
     pub fn print_claim(&self) {
         println!("  distances {}, farthest {} millionths of a unit", self.distances, self.farthest);
         println!(
@@ -172,6 +210,17 @@ impl Tally {
         assert!(numbers(&self.samples).iter().all(|&seen| seen > 0), "an answer of the sample call was not seen");
         assert!(numbers(&self.readings).iter().all(|&seen| seen > 0), "an answer of the reading was not seen");
         assert!(self.halves.iter().flatten().all(|&seen| seen > 0), "a kind of half was not seen");
+    }
+
+    /// Every answer of the line, and every two causes of its refusals.
+    pub fn assert_lines(&self) {
+        assert!(LINE.iter().all(|&number| self.lines[number] > 0), "an answer of the line was not seen");
+        assert!(self.line_pairs().iter().all(|&seen| seen > 0), "two causes of a refused line were not seen together");
+    }
+
+    /// For every N, lists that are one place too short, as long as the line, and longer.
+    pub fn assert_line_places(&self) {
+        assert!(self.line_places.iter().flatten().all(|&seen| seen > 0), "a list for a line was not seen");
     }
 
     /// Each of the three parts of the claim, and that of the mirror.

@@ -109,6 +109,25 @@ fn mirrored_strip() {
     assert_eq!([sample(&patches, 0, 2, 1, 2), sample(&patches, 1, 2, 1, 0)], [[-2304, 1152, 192]; 2]);
 }
 
+/// The lines of the square, and those of the strip through the middle of the edge between its faces.
+#[test]
+fn lines_of_square_and_strip() {
+    let line = |patches: &[i32], face: usize, n: usize, b: usize| {
+        rusketja::sample_line(patches, face, n, b, &mut [7; 99]).expect("a line").to_vec()
+    };
+    let patches = claim::library_patches(&square());
+    for b in 0..2 {
+        assert_eq!(line(&patches, 0, 1, b), [[0, 5376 * b as i32, 0], [5376, 5376 * b as i32, 0]]);
+    }
+    for (b, y) in [(0, 0), (1, 2688), (2, 5376)] {
+        assert_eq!(line(&patches, 0, 2, b), [[0, y, 0], [2688, y, 0], [5376, y, 0]]);
+    }
+    let patches = claim::library_patches(&strip());
+    let [left, right] = [0, 1].map(|face| line(&patches, face, 2, 1));
+    assert_eq!([left[0], left[2]], [[0, 1152, 0], [2304, 1152, 192]]);
+    assert_eq!([right[0], right[2]], [[2304, 1152, 192], [4608, 1152, 1152]]);
+}
+
 #[test]
 fn mirror_at_the_largest_coordinates() {
     for x in [shapes::LIMIT as i32, -shapes::LIMIT as i32] {
