@@ -9,6 +9,7 @@
 mod access;
 mod check;
 mod limits;
+mod line;
 mod meshes;
 mod patch;
 mod report;
@@ -28,8 +29,9 @@ use std::path::{Path, PathBuf};
 use std::process::{Command, Stdio};
 use std::time::Duration;
 
-/// The largest N (rule S1).
+/// The largest N (rule S1), and a small one for samples and lines.
 const N: usize = 32;
+const FEW: usize = 4;
 
 /// Everything is measured in so many passes, since other load on the machine comes and goes; the whole program, which takes
 /// longest, in every third.
@@ -61,14 +63,32 @@ fn controls(mesh: &Mesh) -> Vec<i32> {
 fn samples(
     controls: &[i32],
     faces: Range<usize>,
+    n: usize,
     sample: impl Fn(&[i32], usize, usize, usize, usize) -> Result<[i32; 3], Refusal>,
     mut take: impl FnMut([i32; 3]),
 ) {
     for face in faces {
-        for b in 0..=N {
-            for a in 0..=N {
-                take(sample(black_box(controls), face, black_box(N), a, b).expect("a sample of an accepted mesh"));
+        for b in 0..=n {
+            for a in 0..=n {
+                take(sample(black_box(controls), face, black_box(n), a, b).expect("a sample of an accepted mesh"));
             }
+        }
+    }
+}
+
+/// All samples of some faces, by any of the line calls.
+fn lines(
+    controls: &[i32],
+    faces: Range<usize>,
+    n: usize,
+    sample_line: impl for<'a> Fn(&[i32], usize, usize, usize, &'a mut [i32]) -> Result<&'a [[i32; 3]], Refusal>,
+    mut take: impl FnMut(&[[i32; 3]]),
+) {
+    let mut line = [0; line::PLACES];
+    for face in faces {
+        for b in 0..=n {
+            let line = black_box(&mut line);
+            take(sample_line(black_box(controls), face, black_box(n), b, line).expect("a line of an accepted mesh"));
         }
     }
 }
@@ -86,10 +106,16 @@ fn assert_same<A: Access>(mesh: &Mesh) {
     assert_eq!(patch::patches::<A>(mesh, &mut their_twins, &mut theirs), counts);
     assert_eq!(their_twins, our_twins);
     assert_eq!(theirs, ours);
-    let (mut our_points, mut their_points) = (Vec::new(), Vec::new());
-    samples(&ours, 0..mesh.faces, rusketja::sample, |point| our_points.push(point));
-    samples(&ours, 0..mesh.faces, sample::sample::<A>, |point| their_points.push(point));
-    assert!(our_points == their_points);
+    for n in [N, FEW] {
+        let (mut our_points, mut their_points) = (Vec::new(), Vec::new());
+        samples(&ours, 0..mesh.faces, n, rusketja::sample, |point| our_points.push(point));
+        samples(&ours, 0..mesh.faces, n, sample::sample::<A>, |point| their_points.push(point));
+        assert!(our_points == their_points);
+        let (mut our_lines, mut their_lines) = (Vec::new(), Vec::new());
+        lines(&ours, 0..mesh.faces, n, rusketja::sample_line, |points| our_lines.extend_from_slice(points));
+        lines(&ours, 0..mesh.faces, n, line::sample_line::<A>, |points| their_lines.extend_from_slice(points));
+        assert!(our_lines == our_points && their_lines == our_points);
+    }
 }
 
 fn measure_check(mesh: &Mesh) -> [f64; 3] {
@@ -110,21 +136,29 @@ fn measure_patches(mesh: &Mesh) -> [f64; 3] {
     timing::minima(CALL_BUDGET, [&mut ours, &mut rust, &mut unchecked])
 }
 
-/// The sum over the faces, each of which is measured by itself.
-fn measure_samples(mesh: &Mesh) -> [f64; 3] {
+/// The sums over the faces, each of which is measured by itself: by sample calls and by lines, in turns.
+fn measure_samples(mesh: &Mesh, n: usize) -> [[f64; 3]; 2] {
     let mut controls = controls(mesh);
     rusketja::patches(mesh, &mut twins(mesh), &mut controls).expect("an accepted mesh");
     let budget = SAMPLES_BUDGET / mesh.faces as u32;
-    let mut sums = [0.0; 3];
+    let mut sums = [0.0; 6];
     for face in 0..mesh.faces {
-        let faces = face..face + 1;
-        let mut ours = || samples(&controls, faces.clone(), rusketja::sample, used);
-        let mut rust = || samples(&controls, faces.clone(), sample::sample::<Checked>, used);
-        let mut unchecked = || samples(&controls, faces.clone(), sample::sample::<Unchecked>, used);
-        let ns = timing::minima(budget, [&mut ours, &mut rust, &mut unchecked]);
-        sums = [0, 1, 2].map(|i| sums[i] + ns[i]);
+        let faces = || face..face + 1;
+        let take = |points: &[[i32; 3]]| used(points);
+        let mut ours = || samples(&controls, faces(), n, rusketja::sample, used);
+        let mut rust = || samples(&controls, faces(), n, sample::sample::<Checked>, used);
+        let mut unchecked = || samples(&controls, faces(), n, sample::sample::<Unchecked>, used);
+        let mut our_lines = || lines(&controls, faces(), n, rusketja::sample_line, take);
+        let mut rust_lines = || lines(&controls, faces(), n, line::sample_line::<Checked>, take);
+        let mut unchecked_lines = || lines(&controls, faces(), n, line::sample_line::<Unchecked>, take);
+        let ns = timing::minima(
+            budget,
+            [&mut ours, &mut rust, &mut unchecked, &mut our_lines, &mut rust_lines, &mut unchecked_lines],
+        );
+        sums.iter_mut().zip(ns).for_each(|(sum, ns)| *sum += ns);
     }
-    sums
+    let [a, b, c, d, e, f] = sums;
+    [[a, b, c], [d, e, f]]
 }
 
 /// Runs one of the three programs on a file, to its end.
@@ -177,7 +211,11 @@ fn main() -> io::Result<()> {
             let mesh = named.mesh();
             report.add(named.name, &mesh, 0, Phase::Check, measure_check(&mesh));
             report.add(named.name, &mesh, 0, Phase::Patches, measure_patches(&mesh));
-            report.add(named.name, &mesh, N, Phase::Samples, measure_samples(&mesh));
+            for n in [N, FEW] {
+                let [samples, lines] = measure_samples(&mesh, n);
+                report.add(named.name, &mesh, n, Phase::Samples, samples);
+                report.add(named.name, &mesh, n, Phase::Lines, lines);
+            }
             if tessellate.is_file() && pass % WHOLE_EVERY == 0 {
                 report.add(named.name, &mesh, N, Phase::Whole, measure_whole(named, &tessellate)?);
             }

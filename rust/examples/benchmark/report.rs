@@ -1,5 +1,6 @@
 //! What is printed: a row for each measurement, a table of ratios, and the goals.
 
+use crate::{FEW, N};
 use rusketja::Mesh;
 
 /// The implementations, as the phase column names them: the library, Rust, and Rust without bounds checks.
@@ -8,6 +9,8 @@ const IMPLEMENTATIONS: [&str; 3] = ["", ":rust", ":rust-unchecked"];
 /// A mean ratio up to this is no slower: the layout of the code and other load on the machine move it by some percent.
 const NO_SLOWER: f64 = 1.1;
 const SAMPLE_GOAL_NS: f64 = 80.0;
+/// A point of a line may take so much of the time of a sample call, by N.
+const POINT_GOALS: [(usize, f64); 2] = [(N, 0.4), (FEW, 0.6)];
 const WHOLE_GOAL_MS: f64 = 150.0;
 /// Twice the faces may take so many times as long, on average.
 const DOUBLED_GOAL: f64 = 2.2;
@@ -17,17 +20,28 @@ pub enum Phase {
     Check,
     Patches,
     Samples,
+    Lines,
     Whole,
 }
 
-impl Phase {
-    const ALL: [Phase; 4] = [Phase::Check, Phase::Patches, Phase::Samples, Phase::Whole];
+/// Each phase with each N that it is measured with, 0 for a phase that has none.
+const MEASURED: [(Phase, usize); 7] = [
+    (Phase::Check, 0),
+    (Phase::Patches, 0),
+    (Phase::Samples, N),
+    (Phase::Samples, FEW),
+    (Phase::Lines, N),
+    (Phase::Lines, FEW),
+    (Phase::Whole, N),
+];
 
+impl Phase {
     fn name(self) -> &'static str {
         match self {
             Phase::Check => "check",
             Phase::Patches => "patches",
             Phase::Samples => "samples",
+            Phase::Lines => "lines",
             Phase::Whole => "whole",
         }
     }
@@ -37,17 +51,17 @@ impl Phase {
         match self {
             Phase::Check | Phase::Patches => "face",
             Phase::Samples => "call",
+            Phase::Lines => "point",
             Phase::Whole => "line",
         }
     }
 }
 
-/// The least nanoseconds of the three implementations, in one phase on one mesh.
+/// The least nanoseconds of the three implementations, in one phase on one mesh with one N.
 struct Row {
     mesh: &'static str,
     vertices: usize,
     faces: usize,
-    /// 0 for a phase that has none.
     n: usize,
     phase: Phase,
     ns: [f64; 3],
@@ -57,8 +71,13 @@ impl Row {
     fn units(&self) -> usize {
         match self.phase {
             Phase::Check | Phase::Patches => self.faces,
-            Phase::Samples | Phase::Whole => self.faces * (self.n + 1) * (self.n + 1),
+            Phase::Samples | Phase::Lines | Phase::Whole => self.faces * (self.n + 1) * (self.n + 1),
         }
+    }
+
+    /// The library's nanoseconds for one of the units.
+    fn each(&self) -> f64 {
+        self.ns[0] / self.units() as f64
     }
 
     /// How many times as long as Rust (1) or Rust without bounds checks (2) the library takes.
@@ -73,16 +92,16 @@ pub struct Report {
 }
 
 impl Report {
-    /// Adds a measurement, or betters an earlier one of this phase on this mesh.
+    /// Adds a measurement, or betters an earlier one of this phase on this mesh with this N.
     pub fn add(&mut self, name: &'static str, mesh: &Mesh, n: usize, phase: Phase, ns: [f64; 3]) {
-        match self.rows.iter_mut().find(|row| row.mesh == name && row.phase == phase) {
+        match self.rows.iter_mut().find(|row| row.mesh == name && row.phase == phase && row.n == n) {
             Some(row) => row.ns = [0, 1, 2].map(|i| row.ns[i].min(ns[i])),
             None => self.rows.push(Row { mesh: name, vertices: mesh.vertices, faces: mesh.faces, n, phase, ns }),
         }
     }
 
-    fn of(&self, phase: Phase) -> impl Iterator<Item = &Row> {
-        self.rows.iter().filter(move |row| row.phase == phase)
+    fn of(&self, phase: Phase, n: usize) -> impl Iterator<Item = &Row> {
+        self.rows.iter().filter(move |row| row.phase == phase && row.n == n)
     }
 
     pub fn print(&self) {
@@ -104,16 +123,17 @@ impl Report {
 
     fn table(&self) {
         println!(
-            "{:<8} {:<10} {:>4} {:>12} {:>18} {:>10} {:>15}",
-            "phase", "mesh", "F", "ours, us", "ours, ns each", "ours/rust", "ours/unchecked"
+            "{:<8} {:<10} {:>4} {:>3} {:>12} {:>18} {:>10} {:>15}",
+            "phase", "mesh", "F", "N", "ours, us", "ours, ns each", "ours/rust", "ours/unchecked"
         );
-        for row in Phase::ALL.into_iter().flat_map(|phase| self.of(phase)) {
-            let each = format!("{:.1} a {}", row.ns[0] / row.units() as f64, row.phase.unit());
+        for row in MEASURED.into_iter().flat_map(|(phase, n)| self.of(phase, n)) {
+            let each = format!("{:.1} a {}", row.each(), row.phase.unit());
             println!(
-                "{:<8} {:<10} {:>4} {:>12.2} {:>18} {:>10.2} {:>15.2}",
+                "{:<8} {:<10} {:>4} {:>3} {:>12.2} {:>18} {:>10.2} {:>15.2}",
                 row.phase.name(),
                 row.mesh,
                 row.faces,
+                row.n,
                 row.ns[0] / 1000.0,
                 each,
                 row.ratio(1),
@@ -123,26 +143,40 @@ impl Report {
     }
 
     fn goals(&self) {
-        for phase in Phase::ALL {
-            let ratios: Vec<f64> = self.of(phase).map(|row| row.ratio(2)).collect();
+        for (phase, n) in MEASURED {
+            let ratios: Vec<f64> = self.of(phase, n).map(|row| row.ratio(2)).collect();
             if ratios.is_empty() {
                 continue;
             }
-            let mean = ratios.iter().product::<f64>().powf(1.0 / ratios.len() as f64);
-            let most = ratios.iter().copied().fold(0.0, f64::max);
+            let steps = if n == 0 { String::new() } else { format!(", N = {n}") };
+            let (mean, most) = mean_and_most(&ratios);
             goal(
-                &format!("{}: no slower than Rust without bounds checks (mean ratio up to {NO_SLOWER})", phase.name()),
+                &format!(
+                    "{}{steps}: no slower than Rust without bounds checks (mean ratio up to {NO_SLOWER})",
+                    phase.name()
+                ),
                 mean <= NO_SLOWER,
                 &format!("mean {mean:.2}, at most {most:.2}"),
             );
         }
-        let slowest = self.of(Phase::Samples).map(|row| row.ns[0] / row.units() as f64).fold(0.0, f64::max);
+        let samples = [N, FEW].into_iter().flat_map(|n| self.of(Phase::Samples, n));
+        let slowest = samples.map(Row::each).fold(0.0, f64::max);
         goal(
             &format!("a sample call below {SAMPLE_GOAL_NS} ns"),
             slowest < SAMPLE_GOAL_NS,
             &format!("{slowest:.1} ns"),
         );
-        match self.of(Phase::Whole).map(|row| row.ns[0] / 1e6).reduce(f64::max) {
+        for (n, share) in POINT_GOALS {
+            let pairs = self.of(Phase::Lines, n).zip(self.of(Phase::Samples, n));
+            let (mean, most) =
+                mean_and_most(&pairs.map(|(line, sample)| line.each() / sample.each()).collect::<Vec<_>>());
+            goal(
+                &format!("a point of a line, N = {n}: at most {share} of the time of a sample call"),
+                most <= share,
+                &format!("mean {mean:.2}, at most {most:.2}"),
+            );
+        }
+        match self.of(Phase::Whole, N).map(|row| row.ns[0] / 1e6).reduce(f64::max) {
             Some(ms) => goal(
                 &format!("the whole program for 256 faces and N = 32 below {WHOLE_GOAL_MS} ms"),
                 ms < WHOLE_GOAL_MS,
@@ -154,7 +188,7 @@ impl Report {
         }
         for phase in [Phase::Check, Phase::Patches] {
             // The growing meshes come first, each with twice the faces of the one before.
-            let rows: Vec<&Row> = self.of(phase).collect();
+            let rows: Vec<&Row> = self.of(phase, 0).collect();
             let doublings = rows.windows(2).take_while(|pair| pair[1].faces == 2 * pair[0].faces).count();
             let mean = (rows[doublings].ns[0] / rows[0].ns[0]).powf(1.0 / doublings as f64);
             goal(
@@ -164,6 +198,12 @@ impl Report {
             );
         }
     }
+}
+
+/// The geometric mean of the ratios, and the largest.
+fn mean_and_most(ratios: &[f64]) -> (f64, f64) {
+    let mean = ratios.iter().product::<f64>().powf(1.0 / ratios.len() as f64);
+    (mean, ratios.iter().copied().fold(0.0, f64::max))
 }
 
 fn goal(what: &str, met: bool, measured: &str) {

@@ -6,13 +6,20 @@ use rusketja::{Refusal, PATCH_VALUES};
 
 /// The weights of place a.
 #[inline(always)]
-fn weights(n: usize, a: usize) -> [u32; 4] {
+pub fn weights(n: usize, a: usize) -> [u32; 4] {
     let (s, t) = (a as u32, (n - a) as u32);
     [t * t * t, 3 * s * t * t, 3 * s * s * t, s * s * s]
 }
 
+/// N^6.
 #[inline(always)]
-fn blend(weights: [u32; 4], values: [i64; 4]) -> i64 {
+pub fn divisor(n: usize) -> u32 {
+    let cube = (n * n * n) as u32;
+    cube * cube
+}
+
+#[inline(always)]
+pub fn blend(weights: [u32; 4], values: [i64; 4]) -> i64 {
     weights.into_iter().zip(values).map(|(weight, value)| i64::from(weight) * value).sum()
 }
 
@@ -24,7 +31,7 @@ fn control<A: Access>(patch: &[i32; PATCH_VALUES], k: usize, m: usize) -> i64 {
 
 /// The control values of coordinate k at one i, blended along v.
 #[inline(always)]
-fn column<A: Access>(patch: &[i32; PATCH_VALUES], k: usize, v: [u32; 4], i: usize) -> i64 {
+pub fn column<A: Access>(patch: &[i32; PATCH_VALUES], k: usize, v: [u32; 4], i: usize) -> i64 {
     let control = |m| control::<A>(patch, k, m);
     blend(v, [control(i), control(i + 4), control(i + 8), control(i + 12)])
 }
@@ -35,9 +42,9 @@ fn coordinate<A: Access>(patch: &[i32; PATCH_VALUES], k: usize, u: [u32; 4], v: 
     round(blend(u, [column(0), column(1), column(2), column(3)]), divisor) as i32
 }
 
-/// Takes a sample, as [`rusketja::sample`] does. Not inlined, since the library's is called too.
-#[inline(never)]
-pub fn sample<A: Access>(patches: &[i32], face: usize, n: usize, a: usize, b: usize) -> Result<[i32; 3], Refusal> {
+/// The patch of a face, with no control value beyond its limit.
+#[inline(always)]
+pub fn patch_of<A: Access>(patches: &[i32], face: usize) -> Result<&[i32; PATCH_VALUES], Refusal> {
     if patches.len() / PATCH_VALUES <= face {
         return Err(Refusal(12));
     }
@@ -45,10 +52,17 @@ pub fn sample<A: Access>(patches: &[i32], face: usize, n: usize, a: usize, b: us
     if patch.iter().fold(false, |off, x| off | (MAX_CONTROL < x.unsigned_abs())) {
         return Err(Refusal(13));
     }
+    Ok(patch)
+}
+
+/// Takes a sample, as [`rusketja::sample`] does. Not inlined, since the library's is called too.
+#[inline(never)]
+pub fn sample<A: Access>(patches: &[i32], face: usize, n: usize, a: usize, b: usize) -> Result<[i32; 3], Refusal> {
+    let patch = patch_of::<A>(patches, face)?;
     if !STEPS.contains(&n) || n < a || n < b {
         return Err(Refusal(14));
     }
-    let (u, v, cube) = (weights(n, a), weights(n, b), (n * n * n) as u32);
-    let coordinate = |k| coordinate::<A>(patch, k, u, v, cube * cube);
+    let (u, v, divisor) = (weights(n, a), weights(n, b), divisor(n));
+    let coordinate = |k| coordinate::<A>(patch, k, u, v, divisor);
     Ok([coordinate(0), coordinate(1), coordinate(2)])
 }

@@ -2,8 +2,8 @@
 
 use crate::access::Access;
 use crate::limits::*;
+use crate::line::{sample_line, PLACES};
 use crate::patch::patches;
-use crate::sample::sample;
 use rusketja::{Mesh, Refusal, PATCH_VALUES};
 use std::io::{self, Read, Write};
 
@@ -98,10 +98,11 @@ fn print<A: Access, W: Write>(file: &[u8], printer: &mut Printer<W>) -> Result<(
         return Err(Refusal(14).into());
     }
     printer.line([counts.vertices, counts.faces, counts.edges, counts.boundary].map(|count| count as i64))?;
+    let mut line = [0; PLACES];
     for face in 0..faces {
         for b in 0..=n {
-            for a in 0..=n {
-                let [x, y, z] = sample::<A>(&controls, face, n, a, b)?;
+            let points = sample_line::<A>(&controls, face, n, b, &mut line)?;
+            for (a, &[x, y, z]) in points.iter().enumerate() {
                 printer.line([face as i64, a as i64, b as i64, x.into(), y.into(), z.into()])?;
             }
         }
