@@ -72,16 +72,6 @@ lines-listing (result t) patches =
 lines-listing (refusal k) patches = refl
 
 -- ---- the number of a place
-pub next-row : (n f b a : ℕ) → a ≡ n → (f * (n + 1) + (b + 1)) * (n + 1) + 0 ≡ suc ((f * (n + 1) + b) * (n + 1) + a)
-next-row n f b a e =
-    let x : (f * (n + 1) + (b + 1)) * (n + 1) ≡ (f * (n + 1) + b) * (n + 1) + 1 * (n + 1) =
-    ap (λ (r : ℕ). r * (n + 1)) (omega arith) ∙ add-mul (f * (n + 1) + b) 1 (n + 1) in
-    omega arith
-
-pub next-face : (n f b a : ℕ) → a ≡ n → b ≡ n → ((f + 1) * (n + 1) + 0) * (n + 1) + 0 ≡ suc ((f * (n + 1) + b) * (n + 1) + a)
-next-face n f b a e q =
-    ap (λ (r : ℕ). r * (n + 1) + 0) (let x : (f + 1) * (n + 1) + 0 ≡ f * (n + 1) + (b + 1) = omega (arith, add-mul f 1 (n + 1)) in x) ∙ next-row n f b a e
-
 -- a place of one of the faces comes before their end
 pub place-below : (n faces f b a : ℕ) → a ≤ n → b ≤ n → f < faces → suc ((f * (n + 1) + b) * (n + 1) + a) ≤ faces * (n + 1) * (n + 1)
 place-below n faces f b a la lb lf =

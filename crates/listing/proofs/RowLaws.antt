@@ -1,19 +1,18 @@
 -- The lines of the samples in a buffer: the loop over the points of a row, and the loop over the rows.
-use mathlib.Core.Path.{_≡_, refl, sym, ap, _∙_, subst}
+use mathlib.Core.Path.{_≡_, sym, ap, _∙_, subst}
 use mathlib.Core.List.{List, _++_}
 use Prim.Native.Nat.{ℕ, zero, suc, _+_, _-_, _*_, _≤_, _<_, max}
 use native.Mathlib.Nat.{mul-le-mul-right, le-trans, le-max-left, le-max-right}
 use native.Mathlib.Omega.{arith}
 use lib.IntN.{ℤ}
 use lib.ListN.{length, take, drop}
-use Rattle.finite.specs.Table.{Answer, result}
+use Rattle.finite.specs.Table.{result}
 use Rattle.meshfile.specs.declared.model.Tessellation.{Tessellation}
 use Rattle.text.specs.Text.{linePlaces, Printed}
 use Rattle.listing.specs.Listing.{joined, sampleText, sampleTextAt, lineAt, Stored, Stretched}
 use Rattle.listing.specs.Place.{index, Placed, Run}
 use Rattle.listing.specs.declared.model.Place.{Place}
 use Rattle.listing.specs.declared.model.Lines.{Lines}
-use Rattle.listing.specs.declared.model.Stretch.{Stretch}
 use Rattle.listing.proofs.ListingLaws.{joined-ext, joined-add, text-at, place-below}
 use Rattle.listing.proofs.StretchLaws.{stored-none, stored-length, stored-behind, printed-stored, lt-unless}
 

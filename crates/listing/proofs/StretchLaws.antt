@@ -3,24 +3,22 @@ use mathlib.Core.Path.{_≡_, refl, sym, ap, ap₂, _∙_, subst}
 use mathlib.Core.Bool.{Bool, true, false, cond}
 use mathlib.Core.Logic.{⊎-elim}
 use mathlib.Core.List.{List, [], _∷_, _++_, append-assoc, append-nil}
-use Prim.Native.Nat.{ℕ, zero, suc, _+_, _-_, _*_, _≤_, _<_, max}
-use native.Mathlib.Nat.{mul-le-mul-right, le-trans, eq-or-lt-of-le, le-max-left, le-max-right, max-le, le-refl}
+use Prim.Native.Nat.{ℕ, _+_, _-_, _≤_, _<_}
+use native.Mathlib.Nat.{le-trans, eq-or-lt-of-le, le-max-left, le-max-right, max-le, le-refl}
 use native.Mathlib.Omega.{arith}
 use lib.Dec.{eqb, ltb}
 use lib.IntN.{ℤ}
 use lib.ListN.{length, take, drop, length-append, length-drop, drop-of-length-le}
 use lib.Seq.{take-append-seam, drop-append-seam, drop-drop, take-all}
 use borrow.Author.Tests.{le-ltb, ltb-true, ne-eqb}
-use Rattle.finite.specs.Table.{Answer, result}
+use Rattle.finite.specs.Table.{Answer}
 use Rattle.finite.proofs.FoldLaws.{bool-cases}
 use Rattle.meshfile.specs.declared.model.Tessellation.{Tessellation}
 use Rattle.text.specs.Text.{decimal, countsLine, refusalLine, linePlaces, Printed}
 use Rattle.text.proofs.TextLaws.{printed-within}
-use Rattle.listing.specs.Listing.{joined, sampleText, listing, lineCount, sampleTextAt, lineAt, Stored, Printable, Stretched}
-use Rattle.listing.specs.Place.{index, Placed}
-use Rattle.listing.specs.declared.model.Place.{Place}
+use Rattle.listing.specs.Listing.{joined, listing, lineCount, lineAt, Stored, Printable, Stretched}
 use Rattle.listing.specs.declared.model.Stretch.{Stretch}
-use Rattle.listing.proofs.ListingLaws.{joined-ext, joined-add, text-at, place-below, lines-listing}
+use Rattle.listing.proofs.ListingLaws.{joined-add, lines-listing}
 
 -- ---- what stands at the front of a buffer
 pub stored-none : (l : List ℕ) → Stored [] l l 0

@@ -1,60 +1,67 @@
 -- The answer of the line call: the causes of a line are those of each of its samples and 17, and a line that is written holds their answers.
-use mathlib.Core.Path.{_≡_, refl, sym, ap, ap₂, _∙_}
-use mathlib.Core.Bool.{Bool, true, false, _||_}
+use mathlib.Core.Path.{_≡_, sym, ap, ap₂, _∙_}
 use mathlib.Core.List.{List, [], _∷_}
 use mathlib.Core.Option.{Option, none, some}
 use Prim.Native.Nat.{ℕ, _+_, _*_, _/_, _%_, _≤_, _<_}
 use native.Mathlib.Omega.{arith}
-use lib.Dec.{ltb}
 use lib.IntN.{ℤ, pos}
 use lib.ListN.{length, getD}
 use borrow.Author.Tests.{lt-ltb, le-ltb}
 use Rattle.finite.specs.Filled.{filled}
-use Rattle.finite.specs.Table.{Row, row, firstMet, Answer, result, refusal, answerBy, outcome}
-use Rattle.finite.specs.declared.model.Outcome.{Outcome}
+use Rattle.finite.specs.Table.{row, firstMet, result, refusal, answerBy}
 use Rattle.finite.specs.declared.model.Outcome.the-variants.{Done, Refused}
 use Rattle.finite.proofs.FilledLaws.{filled-at, filled-ext}
 use Rattle.finite.proofs.TableLaws.{orElse, orElse-none, first-append, append-none}
 use Rattle.sample.specs.Bernstein.{coordinateAt}
-use Rattle.sample.specs.Refusal.{placeOff, faceOff, controlOff, sampleRows}
+use Rattle.sample.specs.Refusal.{placeOff, sampleRows}
 use Rattle.sample.specs.Answer.{pointAt, sampleAnswer}
-use Rattle.sample.specs.Line.{lineLength, lineCoordinate, lineShort, lineRows, lineRefusal, pointIn, LineSampled}
+use Rattle.sample.specs.Line.{lineLength, lineCoordinate, lineShort, lineRefusal, pointIn, LineSampled}
 use Rattle.sample.proofs.BlendLaws.{same-point}
 use Rattle.sample.proofs.PatchLaws.{patchOf, patch-coordinate}
 use Rattle.sample.proofs.LineLaws.{lineOf}
 
--- ---- every sample of a line is refused by the same causes
-place-first : (n a b : ℕ) → a ≤ n → placeOff n a b ≡ placeOff n 0 b
-unfolding placeOff
-place-first n a b l = ap₂ (λ (p q : Bool). ltb n 1 || (ltb 32 n || (p || q))) (le-ltb n a l ∙ sym (le-ltb n 0 (omega arith))) refl
-
+-- ---- the causes of a line: those of its sample at a = 0, then 17
 module _ (patches : List ℤ) (f n b : ℕ) (line : List ℤ) where
-  rows-first : (a : ℕ) → a ≤ n → firstMet (sampleRows patches f n a b) ≡ firstMet (sampleRows patches f n 0 b)
-  rows-first a l = ap (λ (off : Bool). firstMet (row (faceOff patches f) 12 ∷ (row (controlOff patches f) 13 ∷ (row off 14 ∷ [])))) (place-first n a b l)
+  abbrev first : Option ℕ
+  first = firstMet (sampleRows patches f n 0 b)
 
-  abbrev short-rows : List Row
-  short-rows = row (lineShort n line) 17 ∷ []
+  line-rows : lineRefusal patches f n b line ≡ orElse first (firstMet (row (lineShort n line) 17 ∷ []))
+  line-rows = first-append (sampleRows patches f n 0 b) (row (lineShort n line) 17 ∷ [])
+
+  pub line-stopped : {k : ℕ} → first ≡ some k → lineRefusal patches f n b line ≡ some k
+  line-stopped e = line-rows ∙ rw e
+
+  pub line-short : first ≡ none → length line < lineLength n → lineRefusal patches f n b line ≡ some 17
+  unfolding lineShort
+  line-short e h = line-rows ∙ rw (e, lt-ltb (length line) (lineLength n) h)
 
   -- in a list that is long enough nothing else is met
-  pub line-causes : lineLength n ≤ length line → (a : ℕ) → a ≤ n → lineRefusal patches f n b line ≡ firstMet (sampleRows patches f n a b)
+  long-rows : lineLength n ≤ length line → lineRefusal patches f n b line ≡ first
   unfolding lineShort
-  line-causes long a l =
-      first-append (sampleRows patches f n 0 b) short-rows
-      ∙ ap (λ (off : Bool). orElse (firstMet (sampleRows patches f n 0 b)) (firstMet (row off 17 ∷ []))) (le-ltb (length line) (lineLength n) long)
-      ∙ orElse-none (firstMet (sampleRows patches f n 0 b))
-      ∙ sym (rows-first a l)
+  long-rows h = line-rows ∙ rw (le-ltb (length line) (lineLength n) h) (orElse-none first)
 
-  -- so a refused line is refused at each of its places
-  pub line-refused : {k : ℕ} → lineLength n ≤ length line → lineRefusal patches f n b line ≡ some k
-      → (a : ℕ) → a ≤ n → sampleAnswer patches f n a b ≡ refusal k
-  unfolding sampleAnswer
-  line-refused long e a l = ap (λ (met : Option ℕ). answerBy met (pointAt patches f n a b)) (sym (line-causes long a l) ∙ e)
+  pub line-clear : first ≡ none → lineLength n ≤ length line → lineRefusal patches f n b line ≡ none
+  line-clear e h = long-rows h ∙ e
 
-  line-answered : lineRefusal patches f n b line ≡ none → (a : ℕ) → a ≤ n → sampleAnswer patches f n a b ≡ result (pointAt patches f n a b)
+  first-clear : lineRefusal patches f n b line ≡ none → first ≡ none
+  first-clear e = append-none (sampleRows patches f n 0 b) (row (lineShort n line) 17 ∷ []) e .0
+
+-- ---- every sample of a line meets the causes of the first one
+place-first : (n a b : ℕ) → a ≤ n → placeOff n a b ≡ placeOff n 0 b
+unfolding placeOff
+place-first n a b l = rw (le-ltb n a l, le-ltb n 0 (omega arith))
+
+module _ (patches : List ℤ) (f n b : ℕ) (line : List ℤ) (a : ℕ) (l : a ≤ n) where
+  answered-first : sampleAnswer patches f n a b ≡ answerBy (firstMet (sampleRows patches f n 0 b)) (pointAt patches f n a b)
   unfolding sampleAnswer
-  line-answered e a l =
-      ap (λ (met : Option ℕ). answerBy met (pointAt patches f n a b))
-      (rows-first a l ∙ append-none (sampleRows patches f n 0 b) short-rows e .0)
+  answered-first = rw (place-first n a b l)
+
+  -- so a line that is refused in a list that is long enough is refused at each of its places
+  pub line-refused : {k : ℕ} → lineLength n ≤ length line → lineRefusal patches f n b line ≡ some k → sampleAnswer patches f n a b ≡ refusal k
+  line-refused h e = answered-first ∙ rw (sym (long-rows patches f n b line h) ∙ e)
+
+  line-answered : lineRefusal patches f n b line ≡ none → sampleAnswer patches f n a b ≡ result (pointAt patches f n a b)
+  line-answered e = answered-first ∙ rw (first-clear patches f n b line e)
 
 -- ---- a line that is written
 line-holds : (patches : List ℤ) (f n b a k : ℕ) (line : List ℤ) → a ≤ n → k < 3
@@ -70,7 +77,7 @@ module _ (patches : List ℤ) (f n b : ℕ) (line : List ℤ) where
       → after ≡ filled (lineOf (patchOf patches f) n b) (lineLength n) line → LineSampled patches f n b line Done after
   line-done e within {after} w = record {
     answer-is = rw e;
-    left = record { line-is = written ∙ rw e; samples-are = λ _ a l. line-answered patches f n b line e a l ∙ ap result (held a l) };
+    left = record { line-is = written ∙ rw e; samples-are = λ _ a l. line-answered patches f n b line a l e ∙ ap result (held a l) };
   }
     where
       written : after ≡ filled (lineCoordinate patches f n b) (lineLength n) line
@@ -92,12 +99,3 @@ module _ (patches : List ℤ) (f n b : ℕ) (line : List ℤ) where
     answer-is = rw e;
     left = record { line-is = rw e; samples-are = λ q. let z : _≡_ {A = ℕ} 0 1 = cc in absurd (omega arith) };
   }
-
--- ---- 17, as the code tests it
-pub line-short : (n : ℕ) (line : List ℤ) → length line < lineLength n → lineShort n line ≡ true
-unfolding lineShort
-line-short n line h = lt-ltb (length line) (lineLength n) h
-
-pub line-long : (n : ℕ) (line : List ℤ) → lineLength n ≤ length line → lineShort n line ≡ false
-unfolding lineShort
-line-long n line h = le-ltb (length line) (lineLength n) h

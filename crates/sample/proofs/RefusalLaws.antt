@@ -1,4 +1,4 @@
--- When the sample call says no: what a passed test of the place gives, and the answer by the first cause that is met.
+-- When the sample call says no: the causes as the code tests them, the answer by the first cause that is met, and what holds where none is.
 use mathlib.Core.Path.{_≡_}
 use mathlib.Core.Bool.{true, false}
 use mathlib.Core.List.{List}
@@ -11,21 +11,13 @@ use lib.ListN.{length}
 use borrow.Author.Tests.{lt-ltb, le-ltb, ltb-false}
 use Rattle.finite.specs.Table.{firstMet, result, refusal}
 use Rattle.finite.proofs.AnyAll.{or-false}
+use Rattle.finite.proofs.TableLaws.{none-met}
 use Rattle.sample.specs.declared.model.Point.{Point}
 use Rattle.sample.specs.Bernstein.{rounded}
-use Rattle.sample.specs.Refusal.{minSteps, maxSteps, faceOff, placeOff, sampleRows}
+use Rattle.sample.specs.Refusal.{minSteps, maxSteps, faceOff, controlOff, placeOff, sampleRows}
 use Rattle.sample.specs.Answer.{sampleAnswer}
-use Rattle.sample.specs.Blend.{controlOf}
-use Rattle.sample.proofs.PatchLaws.{patchOf, patch-coordinate}
-
--- ---- what a passed test of the place gives
-pub place-on : (n a b : ℕ) → placeOff n a b ≡ false → (minSteps ≤ n) × (n ≤ maxSteps) × (a ≤ n) × (b ≤ n)
-unfolding placeOff
-place-on n a b e =
-    let h₁ = or-false (ltb n minSteps) _ e in
-    let h₂ = or-false (ltb maxSteps n) _ (h₁ .1) in
-    let h₃ = or-false (ltb n a) (ltb n b) (h₂ .1) in
-    (ltb-false n minSteps (h₁ .0), ltb-false maxSteps n (h₂ .0), ltb-false n a (h₃ .0), ltb-false n b (h₃ .1))
+use Rattle.sample.specs.Blend.{controlOf, Small, Steps}
+use Rattle.sample.proofs.PatchLaws.{patchOf, patch-small, patch-coordinate}
 
 -- ---- the causes as the code tests them
 pub face-off : (patches : List ℤ) (f : ℕ) → length patches / 48 ≤ f → faceOff patches f ≡ true
@@ -35,6 +27,39 @@ face-off patches f h = lt-ltb (length patches) (48 * f + 48) (omega arith)
 pub face-on : (patches : List ℤ) (f : ℕ) → f < length patches / 48 → faceOff patches f ≡ false
 unfolding faceOff
 face-on patches f h = le-ltb (length patches) (48 * f + 48) (omega arith)
+
+-- ---- nothing is met
+--   Allowed patches f n a b   the face is listed, its control values are within their limit, and a and b are places
+pub record Allowed (patches : List ℤ) (f n a b : ℕ) : Type 0 where
+  pub listed : f < length patches / 48
+  pub small : Small (patchOf patches f)
+  pub at : Steps n a
+  pub across : Steps n b
+
+face-listed : (patches : List ℤ) (f : ℕ) → faceOff patches f ≡ false → f < length patches / 48
+unfolding faceOff
+face-listed patches f e = omega (arith, ltb-false (length patches) (48 * f + 48) e)
+
+place-on : (n a b : ℕ) → placeOff n a b ≡ false → Steps n a × Steps n b
+unfolding placeOff
+place-on n a b e =
+    let h₁ = or-false (ltb n minSteps) _ e in
+    let h₂ = or-false (ltb maxSteps n) _ (h₁ .1) in
+    let h₃ = or-false (ltb n a) (ltb n b) (h₂ .1) in
+    let least = ltb-false n minSteps (h₁ .0) in
+    let most = ltb-false maxSteps n (h₂ .0) in (
+      record { least = least; most = most; within = ltb-false n a (h₃ .0) },
+      record { least = least; most = most; within = ltb-false n b (h₃ .1) },
+    )
+
+pub allowed : (patches : List ℤ) (f n a b : ℕ) → firstMet (sampleRows patches f n a b) ≡ none → Allowed patches f n a b
+allowed patches f n a b e =
+    let past-12 = none-met (faceOff patches f) 12 _ e in
+    let past-13 = none-met (controlOff patches f) 13 _ (past-12 .1) in
+    let past-14 = none-met (placeOff n a b) 14 _ (past-13 .1) in
+    let listed = face-listed patches f (past-12 .0) in
+    let places = place-on n a b (past-14 .0) in
+    record { listed = listed; small = patch-small patches f listed (past-13 .0); at = places .0; across = places .1 }
 
 -- ---- the answer, by the first cause met
 module _ (patches : List ℤ) (f n a b : ℕ) where

@@ -10,8 +10,7 @@ use crate::line::write_points;
 use crate::micrometres::in_micrometres;
 use crate::model::Reading;
 use crate::model::Sampled;
-use crate::refusal::any_control_off;
-use crate::refusal::place_off;
+use crate::refusal::sample_refusal;
 use finite::model::Outcome;
 ghost use mathlib.Core.Path.{_≡_};
 ghost use Rattle.sample.specs.Answer.{sampled, sampleAnswer, Reads};
@@ -26,19 +25,13 @@ ghost use Rattle.sample.specs.Line.{LineSampled};
 pub fn sample(patches: &[i32], f: usize, n: usize, a: usize, b: usize) -> Sampled
     ensures { λ r. ⌜ sampled r ≡ sampleAnswer (now (patches .entry)) f n a b ⌝ }
 {
-    if patches.len() / 48 <= f {
-        return Sampled::Refused(12);
+    let k = sample_refusal(patches, f, n, a, b);
+    if k != 0 {
+        return Sampled::Refused(k);
     }
     let at = 48 * f;
     let end = at + 48;
-    let patch = &patches[at..end];
-    if any_control_off(patch) {
-        return Sampled::Refused(13);
-    }
-    if place_off(n, a, b) {
-        return Sampled::Refused(14);
-    }
-    Sampled::At(point(patch, n, a, b))
+    Sampled::At(point(&patches[at..end], n, a, b))
 }
 
 // The sample of face f at (a, b), for N = n, in micrometres (rule S5).
@@ -64,21 +57,15 @@ pub fn reading(patches: &[i32], f: usize, n: usize, a: usize, b: usize) -> Readi
 pub fn sample_line(patches: &[i32], f: usize, n: usize, b: usize, line: &mut [i32]) -> Outcome
     ensures { λ r. ⌜ LineSampled (now (patches .entry)) f n b (now (line .entry)) r (now (line .exit)) ⌝ }
 {
-    if patches.len() / 48 <= f {
-        return Outcome::Refused(12);
-    }
-    let at = 48 * f;
-    let end = at + 48;
-    let patch = &patches[at..end];
-    if any_control_off(patch) {
-        return Outcome::Refused(13);
-    }
-    if place_off(n, 0, b) {
-        return Outcome::Refused(14);
+    let k = sample_refusal(patches, f, n, 0, b);
+    if k != 0 {
+        return Outcome::Refused(k);
     }
     if line.len() < 3 * (n + 1) {
         return Outcome::Refused(17);
     }
-    write_points(patch, n, b, line);
+    let at = 48 * f;
+    let end = at + 48;
+    write_points(&patches[at..end], n, b, line);
     Outcome::Done
 }

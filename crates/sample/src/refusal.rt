@@ -1,4 +1,4 @@
-// The causes that look at the control values of one patch and at the place: 13 and 14.
+// The causes to refuse a sample: 12, 13 and 14.
 use crate::model::MAX_CONTROL;
 use crate::model::MAX_STEPS;
 use crate::model::MIN_STEPS;
@@ -7,10 +7,11 @@ ghost use lib.Dec.{ltb};
 ghost use lib.IntN.{pos, natAbs};
 ghost use lib.ListN.{length, getD};
 ghost use Rattle.finite.specs.Fold.{anyBelow};
-ghost use Rattle.sample.specs.Refusal.{maxControl, placeOff};
+ghost use Rattle.finite.specs.Table.{firstMet, refusalOf};
+ghost use Rattle.sample.specs.Refusal.{maxControl, placeOff, sampleRows};
 
 // Cause 13, for the numbers of one patch. No early way out, so that the compiler tests several numbers at a time.
-pub(crate) fn any_control_off(patch: &[i32]) -> bool
+fn any_control_off(patch: &[i32]) -> bool
     ensures { λ r. ⌜ r ≡ anyBelow (λ i. ltb maxControl (natAbs (getD (now (patch .entry)) i (pos 0)))) (length (now (patch .entry))) ⌝ }
 {
     let mut off = false;
@@ -21,7 +22,7 @@ pub(crate) fn any_control_off(patch: &[i32]) -> bool
 }
 
 // Cause 14.
-pub(crate) fn place_off(n: usize, a: usize, b: usize) -> bool
+fn place_off(n: usize, a: usize, b: usize) -> bool
     ensures { λ r. ⌜ r ≡ placeOff n a b ⌝ }
 {
     if n < MIN_STEPS {
@@ -34,4 +35,22 @@ pub(crate) fn place_off(n: usize, a: usize, b: usize) -> bool
         return true;
     }
     n < b
+}
+
+// The number of the first cause that is met for face f at (a, b), for N = n; 0 for none.
+pub(crate) fn sample_refusal(patches: &[i32], f: usize, n: usize, a: usize, b: usize) -> u8
+    ensures { λ r. ⌜ refusalOf r ≡ firstMet (sampleRows (now (patches .entry)) f n a b) ⌝ }
+{
+    if patches.len() / 48 <= f {
+        return 12;
+    }
+    let at = 48 * f;
+    let end = at + 48;
+    if any_control_off(&patches[at..end]) {
+        return 13;
+    }
+    if place_off(n, a, b) {
+        return 14;
+    }
+    0
 }

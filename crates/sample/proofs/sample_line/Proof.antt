@@ -1,168 +1,102 @@
--- `sample_line` meets its contract: the four tests are the causes 12, 13, 14 and 17, in that order, and the part of the list that is handed on
--- is the patch of the face.
-use mathlib.Core.Path.{_≡_, sym, _∙_}
-use mathlib.Core.Bool.{Bool, false}
-use mathlib.Core.List.{List, [], _∷_}
+-- `sample_line` meets its contract: the causes of a sample at a = 0 are tested first, then 17; where none is met, the part of the list that is
+-- handed on is the patch of the face.
+use mathlib.Core.Path.{_≡_, sym, ap, _∙_}
+use mathlib.Core.Option.{none}
 use Prim.Native.Nat.{_≤_}
 use native.Mathlib.Omega.{arith}
-use borrow.Author.Needs.{needs}
 use lib.ListN.{length}
-use Rattle.finite.specs.Table.{Row, row}
-use Rattle.finite.proofs.TableLaws.{From, all-rows, row-met, row-passed}
-use Rattle.sample.specs.Refusal.{minSteps, maxSteps, controlOff, placeOff}
-use Rattle.sample.specs.Line.{lineLength, lineShort, lineRows}
-use Rattle.sample.proofs.PatchLaws.{patch-off, patch-small}
-use Rattle.sample.proofs.RefusalLaws.{place-on, face-off, face-on}
-use Rattle.sample.proofs.LineAnswerLaws.{line-short, line-long, line-done, line-not-done}
+use borrow.Author.Needs.{needs}
+use Rattle.finite.specs.Table.{firstMet, refusalOf}
+use Rattle.finite.proofs.TableLaws.{refusal-some}
+use Rattle.sample.specs.Refusal.{sampleRows}
+use Rattle.sample.specs.Line.{lineLength}
+use Rattle.sample.proofs.RefusalLaws.{Allowed, allowed}
+use Rattle.sample.proofs.LineAnswerLaws.{line-stopped, line-short, line-clear, line-done, line-not-done}
 use Rattle.sample.proofs.sample_line.Statement.{statement}
 use Rattle.sample.proofs.sample_line.Tie as tie
 
--- ---- at the entry: the rows of the table, and the causes 13, 14 and 17
-module _ (s : tie.Start) where
-  abbrev rows : List Row
-  rows = lineRows (s .args .patches .now) (s .args .f) (s .args .n) (s .args .b) (s .args .line .now)
-
-  abbrev controls : Bool
-  controls = controlOff (s .args .patches .now) (s .args .f)
-
-  abbrev place : Bool
-  place = placeOff (s .args .n) 0 (s .args .b)
-
-  abbrev short : Bool
-  short = lineShort (s .args .n) (s .args .line .now)
-
--- ---- the face is listed: 12 is passed
-past-12 : (c : tie.Else1) → (let s = c .before in From (rows s) (row (controls s) 13 ∷ (row (place s) 14 ∷ (row (short s) 17 ∷ []))))
-past-12 c = let s = c .before in row-passed (all-rows (rows s)) (face-on (s .args .patches .now) (s .args .f) (c .if1 .left))
-
--- ---- the control values are tested: what the test said of 13
-module _ (c : tie.After-any-control-off) where
-  abbrev listed : tie.Else1
-  listed = c .before .before
-
-  told : controls (listed .before) ≡ c .any-control-off .result
-  told = sym (patch-off _ _ (listed .if1 .left)) ∙ sym (c .any-control-off .ensures)
-
--- ---- they are within their limit: 13 is passed
-module _ (c : tie.Else2) where
+-- ---- no cause of a sample is met
+module _ (c : tie.Else1) where
   abbrev start : tie.Start
-  start = listed (c .before) .before
+  start = c .before .before
 
-  controls-on : controls start ≡ false
-  controls-on = told (c .before) ∙ c .if2 .left
+  nothing-met : (let s = start .args in firstMet (sampleRows (s .patches .now) (s .f) (s .n) 0 (s .b)) ≡ none)
+  nothing-met = sym (c .before .sample-refusal .ensures) ∙ ap refusalOf (c .if1 .left)
 
-  past-13 : From (rows start) (row (place start) 14 ∷ (row (short start) 17 ∷ []))
-  past-13 = row-passed (past-12 (listed (c .before))) controls-on
+  holds : (let s = start .args in Allowed (s .patches .now) (s .f) (s .n) 0 (s .b))
+  holds = allowed _ _ _ _ _ nothing-met
 
--- ---- the place is in its range: 14 is passed
-module _ (c : tie.Else3) where
-  abbrev tested : tie.Else2
-  tested = c .before .before
+-- ---- the lent list is long enough
+module _ (c : tie.Else2) where
+  abbrev passed : tie.Else1
+  passed = c .before
 
-  place-told : place (start tested) ≡ false
-  place-told = sym (c .before .place-off .ensures) ∙ c .if3 .left
-
-  past-14 : From (rows (start tested)) (row (short (start tested)) 17 ∷ [])
-  past-14 = row-passed (past-13 tested) place-told
-
-  range : (let s = start tested in (minSteps ≤ s .args .n) × (s .args .n ≤ maxSteps) × (0 ≤ s .args .n) × (s .args .b ≤ s .args .n))
-  range = place-on _ _ _ place-told
-
--- ---- the lent list is long enough: 17 is passed
-module _ (c : tie.Else4) where
-  abbrev placed : tie.Else3
-  placed = c .before
-
-  long : (let s = start (tested placed) in lineLength (s .args .n) ≤ length (s .args .line .now))
-  long = c .if4 .left
+  long : (let s = start passed .args in lineLength (s .n) ≤ length (s .line .now))
+  long = c .if2 .left
 
 -- ---- the answers, in the order of the code
+sample-refusal-requires : tie.Need-sample-refusal-requires
+sample-refusal-requires c κs = tt
+
 returns : tie.Need-returns
-returns c = let s = c .before in line-not-done _ _ _ _ _ (row-met (all-rows (rows s)) (face-off (s .args .patches .now) (s .args .f) (c .if1 .taken)))
+returns c = line-not-done _ _ _ _ _ (line-stopped _ _ _ _ _ (sym (c .before .sample-refusal .ensures) ∙ refusal-some _ (c .if1 .taken)))
 
-mul-at : tie.Need-mul-at
-mul-at c = omega arith
+add-if2 : tie.Need-add-if2
+add-if2 c = omega (arith, holds c .across .most)
 
-add-end : tie.Need-add-end
-add-end c = omega arith
-
-mul-patch : tie.Need-mul-patch
-mul-patch c = omega arith
-
-sub-patch : tie.Need-sub-patch
-sub-patch c = omega arith
-
-part-patch-start : tie.Need-part-patch-start
-part-patch-start c = omega arith
-
-part-patch-end : tie.Need-part-patch-end
-part-patch-end c = omega arith
-
-any-control-off-requires : tie.Need-any-control-off-requires
-any-control-off-requires c κs = tt
+mul-if2 : tie.Need-mul-if2
+mul-if2 c = omega (arith, holds c .across .most)
 
 returns-2 : tie.Need-returns-2
-returns-2 c = line-not-done _ _ _ _ _ (row-met (past-12 (listed (c .before))) (told (c .before) ∙ c .if2 .taken))
+returns-2 c = let e : tie.Else1 = c .before in line-not-done _ _ _ _ _ (line-short _ _ _ _ _ (nothing-met e) (c .if2 .taken))
 
-place-off-requires : tie.Need-place-off-requires
-place-off-requires c κs = tt
+mul-at : tie.Need-mul-at
+mul-at c = omega (arith, holds (passed c) .listed)
 
-returns-3 : tie.Need-returns-3
-returns-3 c = line-not-done _ _ _ _ _ (row-met (past-13 (c .before .before)) (sym (c .before .place-off .ensures) ∙ c .if3 .taken))
+add-end : tie.Need-add-end
+add-end c = omega (arith, holds (passed c) .listed)
 
-add-if4 : tie.Need-add-if4
-add-if4 c = omega (arith, range c .1)
+mul-write-points : tie.Need-mul-write-points
+mul-write-points c = omega (arith, holds (passed c) .listed)
 
-mul-if4 : tie.Need-mul-if4
-mul-if4 c = omega (arith, range c .1)
+sub-write-points : tie.Need-sub-write-points
+sub-write-points c = omega (arith, holds (passed c) .listed)
 
-returns-4 : tie.Need-returns-4
-returns-4 c =
-    let p : tie.Else3 = c .before in
-    let s = start (tested p) in
-    line-not-done _ _ _ _ _ (row-met (past-14 p) (line-short (s .args .n) (s .args .line .now) (c .if4 .taken)))
+part-write-points-start : tie.Need-part-write-points-start
+part-write-points-start c = omega (arith, holds (passed c) .listed)
+
+part-write-points-end : tie.Need-part-write-points-end
+part-write-points-end c = omega (arith, holds (passed c) .listed)
 
 write-points-requires : tie.Need-write-points-requires
 write-points-requires c κs =
-    let o : tie.Else4 = c .before in
-    let p = placed o in
-    let r = range p in
-    let e = tested p in (
-      patch-small _ _ (listed (e .before) .if1 .left) (controls-on e),
-      record { least = omega (arith, r .0); most = omega (arith, r .1); within = omega (arith, r .3) },
-      long o,
-    )
+    let e : tie.Else2 = c .before .before in
+    (holds (passed e) .small, holds (passed e) .across, long e)
 
 same-length : tie.Need-same-length
 same-length c = search needs
 
-returns-5 : tie.Need-returns-5
-returns-5 c =
+returns-3 : tie.Need-returns-3
+returns-3 c =
     let w : tie.After-write-points = c .before in
-    let o : tie.Else4 = w .before .before in
-    let p = placed o in
-    let s = start (tested p) in
-    line-done _ _ _ _ _ (row-passed (past-14 p) (line-long (s .args .n) (s .args .line .now) (long o)) .same)
-    (listed (tested p .before) .if1 .left) (w .write-points .ensures)
+    let e : tie.Else2 = let a : tie.After-write-points-arg2 = w .before in a .before .before in
+    line-done _ _ _ _ _ (line-clear _ _ _ _ _ (nothing-met (passed e)) (long e)) (holds (passed e) .listed) (w .write-points .ensures)
 
 pub sample-line-spec : {M : Type 1} → statement M
 sample-line-spec =
     tie.close
     (tie.spec
+    sample-refusal-requires
     returns
+    add-if2
+    mul-if2
+    returns-2
     mul-at
     add-end
-    mul-patch
-    sub-patch
-    part-patch-start
-    part-patch-end
-    any-control-off-requires
-    returns-2
-    place-off-requires
-    returns-3
-    add-if4
-    mul-if4
-    returns-4
+    mul-write-points
+    sub-write-points
+    part-write-points-start
+    part-write-points-end
     write-points-requires
     same-length
-    returns-5)
+    returns-3)

@@ -1,20 +1,17 @@
 -- `row_lines` meets its contract: the points of the row are what the sample call answers at its places; where the row is refused, so is each of them.
 use mathlib.Core.Path.{_≡_, sym, ap, _∙_, subst}
-use mathlib.Core.Option.{none, some}
+use mathlib.Core.Option.{none}
 use mathlib.Core.List.{List}
-use Prim.Native.Nat.{ℕ, _+_, _-_, _<_, _≤_}
+use Prim.Native.Nat.{ℕ, _+_, _-_}
 use native.Mathlib.Omega.{arith}
-use lib.IntN.{ℤ}
-use lib.ListN.{length}
 use borrow.Author.Needs.{needs}
-use Rattle.finite.specs.Table.{Answer, result, refusal, outcome}
+use Rattle.finite.specs.Table.{Answer, outcome}
 use Rattle.finite.proofs.TableLaws.{result-none, refusal-met}
 use Rattle.sample.specs.Answer.{sampleAnswer}
-use Rattle.sample.specs.Line.{lineLength, lineRefusal, pointIn}
 use Rattle.sample.specs.declared.model.Point.{Point}
 use Rattle.sample.proofs.LineAnswerLaws.{line-refused}
 use Rattle.text.specs.Text.{Printed}
-use Rattle.listing.specs.Listing.{lineOf, sampleText}
+use Rattle.listing.specs.Listing.{lineOf}
 use Rattle.listing.proofs.RowLaws.{run-ext, run-one}
 use Rattle.listing.proofs.samples.row_lines.Statement.{statement}
 use Rattle.listing.proofs.samples.row_lines.Tie as tie
@@ -94,7 +91,7 @@ returns-2 c =
     let s : tie.After-sample-line = not-sampled k in
     let told = sym (ap outcome (k .k .given .1)) ∙ s .sample-line .ensures .answer-is in
     let p = start s .args .p in
-    let here = line-refused _ _ _ _ _ (omega (arith, start s .pre .1)) (refusal-met tt _ told) (p .a + 0) (omega (arith, start s .pre .0 .a-within)) in
+    let here = line-refused _ _ _ _ _ (p .a + 0) (omega (arith, start s .pre .0 .a-within)) (omega (arith, start s .pre .1)) (refusal-met tt _ told) in
     run-one _ _ (omega (arith, start s .pre .0 .a-within)) (start s .pre .2) (w .refusal-line .kept .1 .0)
     (printed-as (λ r. line s r 0) (sym here) (w .refusal-line .ensures))
 

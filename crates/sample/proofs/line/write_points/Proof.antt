@@ -13,7 +13,7 @@ use borrow.Author.Needs.{needs}
 use Rattle.integer.specs.Nearest.{nearest}
 use Rattle.integer.proofs.Laws.{read-back}
 use Rattle.finite.specs.Filled.{listBelow, filled}
-use Rattle.finite.proofs.FilledLaws.{filled-start, filled-all, length-filled}
+use Rattle.finite.proofs.FilledLaws.{filled-start, length-filled}
 use Rattle.sample.specs.Refusal.{maxSteps}
 use Rattle.sample.specs.Blend.{controlOf, Steps, Light, Fine, Mean, blended}
 use Rattle.sample.proofs.BlendLaws.{weights-light}
