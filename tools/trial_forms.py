@@ -2,15 +2,14 @@
 
 What is expected is computed here, in meshes.py and in patches.py by the rules of docs/SPECIFICATION.md, of a mesh by sets and
 dictionaries over the whole of it and of control points and samples by fractions, and not as the library does it, so the gate compares
-two readings of the rules. tools/trials.py and tools/mirror_trials.py have the trials.
+two readings of the rules. tools/trials.py and tools/mirror_trials.py have the trials. The forms of the sample call and of the line call
+are in sample_forms.py.
 """
 
 import struct
 from dataclasses import dataclass
-from fractions import Fraction
-from math import comb
 
-from meshes import CONTROLS, MESH_FAULTS, NO_MATE, STEPS, Mesh, MeshReading, PatchReading, changed, mirrored, numbered, spoiled
+from meshes import MESH_FAULTS, NO_MATE, Mesh, MeshReading, PatchReading, changed, mirrored, numbered, spoiled
 from patches import PATCH, mirrored_patch, mirrored_samples, mirrored_side, rounded, shuffled
 from shapes import Shape, cube, square
 
@@ -21,10 +20,11 @@ PLACES = 2048
 PATCH_PLACES = 12291
 CLEAR = 816
 
-# What a sample trial's file begins with, a patch trial's, and a mirror trial's.
+# What a sample trial's file begins with, a patch trial's, a mirror trial's, and a line trial's.
 SAMPLE = 65535
 HEAD = 65533
 MIRROR = 65531
+LINE = 65529
 
 
 # ---- Mesh trials: the arguments of the check.
@@ -36,7 +36,7 @@ class MeshTrial(Mesh):
 
     def bytes(self):
         """The trial's file, as crates/trials/src/reading.rt has it."""
-        assert self.v not in (SAMPLE, HEAD, MIRROR)
+        assert self.v not in (SAMPLE, HEAD, MIRROR, LINE)
         sizes = struct.pack("<6H", self.v, self.f, len(self.positions), len(self.tags), len(self.faces), self.twins)
         return sizes + self.packed()
 
@@ -74,26 +74,6 @@ def with_faults(causes):
     if 1 in causes:
         lengthened(trial, "tags")
     return trial
-
-
-# ---- Sample trials: the arguments of the sample call and of the reading.
-
-
-@dataclass
-class SampleTrial:
-    numbers: list
-    f: int = 0
-    n: int = 2
-    a: int = 1
-    b: int = 1
-
-    def bytes(self):
-        """The trial's file, as crates/trials/src/reading.rt has it."""
-        head = struct.pack("<H4Q", SAMPLE, self.f, self.n, self.a, self.b)
-        return head + struct.pack(f"<{len(self.numbers)}i", *self.numbers)
-
-    def answer(self):
-        return SampleAnswer(self)
 
 
 # ---- Patch trials: the arguments of the patch call, and the N of rule S1.
@@ -303,37 +283,3 @@ class MirrorAnswer(PatchReading):
         assert image_of(self.mesh).answer().line() == "\n".join(shown)
         lists = self.list_lines(image.positions, image.tags, image.faces)
         return "\n".join(["done", *lists, spaced([" check"], self.counts()), f" image {shown[0]}", *shown[1:]])
-
-
-class SampleAnswer:
-    """What the rules say of the sample call and of the reading."""
-
-    def __init__(self, trial):
-        self.trial = trial
-        self.patch = trial.numbers[PATCH * trial.f : PATCH * trial.f + PATCH]
-
-    def causes(self):
-        """The numbers of all causes that are met, in order; the answer is the first."""
-        t = self.trial
-        met = {
-            12: PATCH * t.f + PATCH > len(t.numbers),
-            13: any(x not in CONTROLS for x in self.patch),
-            14: t.n not in STEPS or t.a > t.n or t.b > t.n,
-        }
-        return [number for number, holds in met.items() if holds]
-
-    def exact(self):
-        """The point of the patch, before it is rounded."""
-        t = self.trial
-        bernstein = lambda x: [comb(3, i) * x**i * (1 - x) ** (3 - i) for i in range(4)]
-        u, v = bernstein(Fraction(t.a, t.n)), bernstein(Fraction(t.b, t.n))
-        return [sum(u[i] * v[j] * self.patch[3 * (i + 4 * j) + k] for i in range(4) for j in range(4)) for k in range(3)]
-
-    def line(self):
-        """What the program prints after the trial's name."""
-        causes = self.causes()
-        if causes:
-            return f"refused {causes[0]} reading refused {causes[0]}"
-        # A fraction is rounded once, ties to even.
-        sample = [round(x) for x in self.exact()]
-        return spaced(sample, doubles(sample)).lstrip()

@@ -1,8 +1,9 @@
 #!/usr/bin/env python3
 """Writes the trials of crates/trials: data/ (a file a trial), args (their names) and stdout (what the program has to print).
 
-What is expected is computed in trial_forms.py from an independent reading of the rules. A trial's name says what it is, and ends in
--refused-N where the call says no. The trials of the mirror call are in mirror_trials.py.
+What is expected is computed in trial_forms.py and sample_forms.py from an independent reading of the rules. A trial's name says what
+it is, and ends in -refused-N where the call says no. The trials of the mirror call are in mirror_trials.py, those of the line call in
+line_trials.py.
 """
 
 import argparse
@@ -10,9 +11,11 @@ import random
 from itertools import chain, count, product
 from pathlib import Path
 
+import line_trials
 import mirror_trials
 from meshes import BOUNDARY_FACES, CONTROL, INNER_VALENCES, STEPS, changed
 from patches import PATCH
+from sample_forms import SampleTrial, cross, limits, patch, random_patches, with_number
 from shapes import (
     Shape,
     across_twice,
@@ -40,7 +43,6 @@ from trial_forms import (
     PATCH_PLACES,
     PLACES,
     MeshTrial,
-    SampleTrial,
     lengthened,
     mesh,
     patched,
@@ -65,28 +67,10 @@ PATCH_RANDOM = random.Random(20250608)
 # ---- Control values, and coordinates.
 
 
-def patch(points):
-    """A patch with the control points that are named, {(i, j): (x, y, z)}, and zeros."""
-    return [x for j, i in product(range(4), repeat=2) for x in points.get((i, j), (0, 0, 0))]
-
-
-def cross(values):
-    """A patch with these values for x at i = 0, one for each j, and for y at j = 0, one for each i."""
-    return patch({(i, j): (values[j] if i == 0 else 0, values[i] if j == 0 else 0, 0) for i, j in product(range(4), repeat=2)})
-
-
 def halves(trial):
     """A trial whose three coordinates lie halfway between whole numbers."""
     assert all(x.denominator == 2 for x in trial.answer().exact())
     return trial
-
-
-def random_patches(count):
-    return [RANDOM.randint(-CONTROL, CONTROL) for _ in range(PATCH * count)]
-
-
-def with_number(numbers, place, value):
-    return numbers[:place] + [value] + numbers[place + 1 :]
 
 
 def varied(shape, n):
@@ -257,7 +241,7 @@ def pairs():
 
 def sample_faces():
     """The face number and the length of the list: 12."""
-    three = random_patches(3)
+    three = random_patches(RANDOM, 3)
     yield "sample-first-face-of-3", SampleTrial(three, f=0)
     yield "sample-middle-face-of-3", SampleTrial(three, f=1)
     yield "sample-last-face-of-3", SampleTrial(three, f=2)
@@ -285,14 +269,14 @@ def sample_faces():
         (143, 2, "-refused-12"),
     ):
         yield f"sample-{length}-numbers-face-{f}{suffix}", SampleTrial(three[:length], f=f)
-    longest = random_patches(43)[:PLACES]
+    longest = random_patches(RANDOM, 43)[:PLACES]
     yield "sample-2048-numbers-face-41", SampleTrial(longest, f=41)
     yield "sample-2048-numbers-face-42-refused-12", SampleTrial(longest, f=42)
 
 
 def sample_controls():
     """The control values of the face, and of the others: 13."""
-    one, three = random_patches(1), random_patches(3)
+    one, three = random_patches(RANDOM, 1), random_patches(RANDOM, 3)
     for where, place in (("first", 0), ("middle", 23), ("last", 47)):
         for word, sign in (("", 1), ("minus-", -1)):
             at, beyond = sign * CONTROL, sign * (CONTROL + 1)
@@ -316,7 +300,7 @@ def sample_controls():
 
 def sample_places():
     """N, a and b: 14."""
-    one = random_patches(1)
+    one = random_patches(RANDOM, 1)
     yield "sample-steps-0-refused-14", SampleTrial(one, n=0, a=0, b=0)
     yield "sample-steps-0-place-1-1-refused-14", SampleTrial(one, n=0)
     yield "sample-steps-1", SampleTrial(one, n=1)
@@ -340,7 +324,7 @@ def sample_places():
 
 def sample_pairs():
     """Two causes together: the lower number wins."""
-    one = random_patches(1)
+    one = random_patches(RANDOM, 1)
     off = with_number(one, 47, CONTROL + 1)
     together = {
         "sample-face-1-of-1-and-steps-33-refused-12": (SampleTrial(one, f=1, n=33), [12, 14]),
@@ -389,27 +373,18 @@ def sample_rounding():
 def sample_random():
     """Random control values at the corners of a patch, on its edges and inside, and for each N at a random place."""
     for n in (1, 2, 3, 5, 32):
-        two = random_patches(2)
+        two = random_patches(RANDOM, 2)
         for b, a in product(sorted({0, 1, n - 1, n}), repeat=2):
             yield f"sample-random-{n}-steps-place-{a}-{b}", SampleTrial(two, f=1, n=n, a=a, b=b)
     for n in STEPS:
-        yield f"sample-random-{n}-steps", SampleTrial(random_patches(1), n=n, a=RANDOM.randint(0, n), b=RANDOM.randint(0, n))
+        yield f"sample-random-{n}-steps", SampleTrial(random_patches(RANDOM, 1), n=n, a=RANDOM.randint(0, n), b=RANDOM.randint(0, n))
 
 
 def sample_limits():
     """Every control value at the limit."""
-    signs = {
-        "plus": lambda i, j, k: 1,
-        "minus": lambda i, j, k: -1,
-        "alternating": lambda i, j, k: (-1) ** (i + j + k),
-        "alternating-along-u": lambda i, j, k: (-1) ** (i + k),
-        "alternating-along-v": lambda i, j, k: (-1) ** (j + k),
-        "random": lambda i, j, k: RANDOM.choice((-1, 1)),
-    }
-    for word, sign in signs.items():
-        limits = [CONTROL * sign(i, j, k) for j, i, k in product(range(4), range(4), range(3))]
+    for word, numbers in limits(RANDOM):
         for n, a, b in ((1, 1, 0), (2, 1, 1), (3, 1, 2), (5, 0, 3), (31, 15, 16), (32, 1, 31)):
-            yield f"sample-limits-{word}-{n}-steps", SampleTrial(limits, n=n, a=a, b=b)
+            yield f"sample-limits-{word}-{n}-steps", SampleTrial(numbers, n=n, a=a, b=b)
 
 
 # ---- The trials of the patch call.
@@ -501,7 +476,7 @@ def patch_refused():
 def files():
     """Files that are no trial, with what the program says of them."""
     whole = mesh(square()).bytes()
-    sample = SampleTrial(random_patches(1)).bytes()
+    sample = SampleTrial(random_patches(RANDOM, 1)).bytes()
     yield "positions-2049-too-long", changed(mesh(square()), positions=[0] * (PLACES + 1)).bytes(), "too long"
     yield "faces-2049-too-long", changed(mesh(square()), faces=[0] * (PLACES + 1)).bytes(), "too long"
     yield "twins-2049-too-long", changed(mesh(square()), twins=PLACES + 1).bytes(), "too long"
@@ -565,7 +540,8 @@ def main():
         formatter_class=argparse.RawDescriptionHelpFormatter,
     )
     about.parse_args()
-    write(chain(trials(MESHES + SAMPLES + PATCHES), files(), trials(mirror_trials.GROUPS), mirror_trials.files()))
+    mirrors, lines = trials(mirror_trials.GROUPS), trials(line_trials.GROUPS)
+    write(chain(trials(MESHES + SAMPLES + PATCHES), files(), mirrors, mirror_trials.files(), lines, line_trials.files()))
 
 
 if __name__ == "__main__":

@@ -1,7 +1,8 @@
 // Runs the calls on each trial that an argument names (a file, see reading.rt), and prints one line for it, which begins with the
-// name; a patch trial and a mirror trial have more lines. mesh_trial.rt, patch_trial.rt, mirror_trial.rt and sample_trial.rt say what
-// follows the name. `no file` says that none has that name, `not whole` that the file is longer or shorter than its sizes and lists,
-// and `too long` that a list has more places than reading.rt has for it.
+// name; a patch trial, a mirror trial and a line trial have more lines. mesh_trial.rt, patch_trial.rt, mirror_trial.rt, sample_trial.rt
+// and line_trial.rt say what follows the name. `no file` says that none has that name, `not whole` that the file is longer or shorter
+// than its sizes and lists, and `too long` that a list has more places than reading.rt has for it.
+mod line_trial;
 mod mesh_trial;
 mod mirror_trial;
 mod patch_trial;
@@ -17,10 +18,16 @@ use crate::reading::u16_at;
 // What the file of a sample trial has where that of a mesh trial has V.
 const SAMPLE: usize = 65535;
 
+// What that of a line trial has there.
+const LINE: usize = 65529;
+
 // The trial in a file's bytes.
 fn run(b: &[u8]) {
-    if u16_at(b, 0) == SAMPLE {
+    let mark = u16_at(b, 0);
+    if mark == SAMPLE {
         sample_trial::run(b);
+    } else if mark == LINE {
+        line_trial::run(b);
     } else {
         let at = head_length(b);
         mesh_trial::run(&b[0..at], &b[at..]);

@@ -12,6 +12,9 @@
 //
 // Of the sample call: 65535 as a 16-bit number, which is V in no trial of the mesh check; then f, N, a and b as 64-bit numbers; then
 // the control values as 32-bit two's complement numbers, to the end of the file.
+//
+// Of the line call: 65529 as a 16-bit number; f, N and b as 64-bit numbers; the length of the lent list as a 16-bit number; then the
+// control values as in a file of the sample call.
 use crate::printing::print_text;
 ghost use mathlib.Core.Path.{_≡_};
 ghost use Prim.Native.Nat.{_+_, _^_, _≤_, _<_};
@@ -113,6 +116,16 @@ fn i32_at(b: &[u8], at: usize) -> i32
         return x as i32;
     }
     !((4294967295 - x) as i32)
+}
+
+// How many 32-bit numbers there are from a place to the end of the file.
+pub(crate) fn i32_count(b: &[u8], at: usize) -> usize
+    ensures { λ r. ⌜ r < 2 ^ 61 ⌝ }
+{
+    if b.len() < at {
+        return 0;
+    }
+    (b.len() - at) / 4
 }
 
 // Fills a list with the 32-bit numbers from a place on.

@@ -6,10 +6,10 @@ use crate::printing::print_reading;
 use crate::printing::print_sampled;
 use crate::reading::PLACES;
 use crate::reading::can_run;
+use crate::reading::i32_count;
 use crate::reading::read_i32s;
 use crate::reading::room;
 use crate::reading::u64_at;
-ghost use Prim.Native.Nat.{_^_, _<_};
 
 // Where the control values begin.
 const NUMBERS_AT: usize = 34;
@@ -32,19 +32,9 @@ fn show(b: &[u8], patches: &mut [i32]) {
     );
 }
 
-// The number of control values.
-fn count(b: &[u8]) -> usize
-    ensures { λ r. ⌜ r < 2 ^ 61 ⌝ }
-{
-    if b.len() < NUMBERS_AT {
-        return 0;
-    }
-    (b.len() - NUMBERS_AT) / 4
-}
-
 // The trial in a file's bytes.
 pub(crate) fn run(b: &[u8]) {
-    let n = count(b);
+    let n = i32_count(b, NUMBERS_AT);
     if !can_run(b, NUMBERS_AT + 4 * n, n <= PLACES) {
         return;
     }
