@@ -22,6 +22,7 @@ use Rattle.sample.specs.Answer.{sampleAnswer}
 use Rattle.mask.specs.Mask.{innerMask, edgeMask, boundaryEdgeMask, smoothCornerMask, boundaryCornerMask, vertexMask}
 use Rattle.patch.specs.Point.{weight, sharp, sharpSum, ringSum, fixed, cornerPoint, innerPoint, edgePoint, alongPoint, beforePoint, point}
 use Rattle.patch.specs.Patch.{owner, kind, patchPoint, patchNumber, patchesAfter}
+use Rattle.sample.specs.Line.{lineShort, lineAnswer, lineAfter}
 use Rattle.edit.specs.Mirror.{mirrored, mirrorAnswer}
 use Rattle.examples.specs.Meshes.{square, cube, pillow, doubledFace, bowTie, strip, tagged, openFanOfEight, openFanOfNine}
 
@@ -70,6 +71,10 @@ refusalNumber (refusal k) = pos k ∷ []
 abbrev mirroring : IndexedMesh → ℕ → ℕ → ℕ → List ℤ
 mirroring M positions tags indices = refusalNumber (mirrorAnswer M (replicate positions (pos 0)) (replicate tags 0) (replicate indices 0))
 
+-- the line call on the patch list of a mesh, with so many 7s lent: the number of a refusal, and then the list afterwards
+abbrev lined : IndexedMesh → ℕ → ℕ → ℕ → ℕ → List ℤ
+lined M n f b places = refusalNumber (lineAnswer (patchesAfter M []) f n b (replicate places (pos 7))) ++ lineAfter (patchesAfter M []) f n b (replicate places (pos 7))
+
 -- three coordinates that are not negative, and the same with x negated, which is above 0
 abbrev xyz : ℕ → ℕ → ℕ → List ℤ
 xyz x y z = pos x ∷ pos y ∷ pos z ∷ []
@@ -86,7 +91,8 @@ naturals (n ∷ ns) = pos n ∷ naturals ns
 -- that share a vertex but no half-edge (rule X5); two faces side by side with boundary vertices of two faces (rule X6); the square as an accepted
 -- mesh (rule X1); the strip with a boundary vertex tagged 1 and 2, and the cube with a tagged vertex (rule X7); open fans of eight and nine faces
 -- (rule X8); the mirror image of the strip: its lists, counts, control points and a sample, beside that of the strip, and the mirror call on lists that
--- fit, that are too long and too short, and on a refused mesh with a list that is too long (rule X12).
+-- fit, that are too long and too short, and on a refused mesh with a list that is too long (rule X12); the line call on the second face of the strip,
+-- with a list that fits, one that is longer, one that is too short, and refusals that come before that one (rule X13).
 pub examples : List Example
 examples =
     example (controlPoint square 0 1 0) (xyz 1792 0 0)
@@ -132,6 +138,12 @@ examples =
     ∷ example (mirroring strip 18 7 8) (pos 16 ∷ [])
     ∷ example (mirroring strip 18 6 7) (pos 16 ∷ [])
     ∷ example (mirroring (tagged cube (0 ∷ 0 ∷ 0 ∷ 0 ∷ 0 ∷ 0 ∷ 0 ∷ 1 ∷ [])) 25 8 24) (pos 11 ∷ [])
+    ∷ example (lined strip 2 1 0 9) (xyz 2304 0 384 ++ xyz 3456 0 1200 ++ xyz 4608 0 2304)
+    ∷ example (lined strip 2 1 1 10) (xyz 2304 1152 192 ++ xyz 3394 1152 569 ++ xyz 4608 1152 1152 ++ (pos 7 ∷ []))
+    ∷ example (lined strip 2 1 1 8) (pos 17 ∷ replicate 8 (pos 7))
+    ∷ example (lined strip 2 1 3 8) (pos 14 ∷ replicate 8 (pos 7))
+    ∷ example (lined strip 33 1 3 102) (pos 14 ∷ replicate 102 (pos 7))
+    ∷ example (lined strip 0 2 1 0) (pos 12 ∷ [])
     ∷ []
 
 pub examples-hold : computedAll examples ≡ statedAll examples
@@ -140,5 +152,5 @@ unfolding examples halfEven nearestℕ nearest foldBelow listBelow filled
     sizesOff coordinateOff tagOff vertexOff vertexTwice halfEdgeTwice vertexUnused fanBroken valenceOff innerTagged meshRefusal
     innerMask edgeMask boundaryEdgeMask smoothCornerMask boundaryCornerMask vertexMask weight sharp sharpSum ringSum fixed
     cornerPoint innerPoint edgePoint alongPoint beforePoint point owner kind patchPoint patchNumber
-    bernstein numerator rounded faceOff controlOff placeOff sampleAnswer
+    bernstein numerator rounded faceOff controlOff placeOff sampleAnswer lineShort
 examples-hold = refl

@@ -54,6 +54,10 @@ pub blended-values : (weights : List ℕ) (h : ℕ → ℤ) {values : List ℤ} 
 unfolding foldBelow listBelow
 blended-values weights h e = ap (λ (xs : List ℤ). blended weights (λ i. getD xs i (pos 0))) e
 
+-- ---- another place of the same N
+pub steps-at : {n b : ℕ} → Steps n b → (a : ℕ) → a ≤ n → Steps n a
+steps-at s a l = record { least = s .least; most = s .most; within = l }
+
 -- ---- one patch
 pub weights-light : {n a : ℕ} → Steps n a → Light (listBelow (bernstein n a) 4)
 weights-light {n} {a} s = record { light = λ i l. rw (listBelow-at (bernstein n a) 4 i 0 l) (bernstein-small n a (s .within) (s .most) i l) }

@@ -5,6 +5,7 @@ use native.Mathlib.Omega.{arith}
 use Rattle.finite.specs.Table.{firstMet, refusalOf}
 use Rattle.finite.proofs.TableLaws.{refusal-some}
 use Rattle.sample.specs.Refusal.{sampleRows}
+use Rattle.sample.proofs.BlendLaws.{steps-at}
 use Rattle.sample.proofs.RefusalLaws.{Allowed, allowed, refused, answered}
 use Rattle.sample.proofs.sample.Statement.{statement}
 use Rattle.sample.proofs.sample.Tie as tie
@@ -46,7 +47,12 @@ part-point-end : tie.Need-part-point-end
 part-point-end c = omega (arith, holds c .listed)
 
 point-requires : tie.Need-point-requires
-point-requires c κs = let h = holds (c .before) in (h .small, h .at, h .across)
+point-requires c κs =
+    let h = holds (c .before) in (
+      h .small,
+      steps-at (h .at) _ (omega (arith, h .at .within, h .across .within)),
+      steps-at (h .at) _ (omega (arith, h .at .within, h .across .within)),
+    )
 
 returns-2 : tie.Need-returns-2
 returns-2 c = let e : tie.Else1 = c .before .before in answered _ _ _ _ _ (nothing-met e) (holds e .listed) (c .point .ensures)

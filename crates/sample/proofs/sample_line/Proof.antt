@@ -10,6 +10,7 @@ use Rattle.finite.specs.Table.{firstMet, refusalOf}
 use Rattle.finite.proofs.TableLaws.{refusal-some}
 use Rattle.sample.specs.Refusal.{sampleRows}
 use Rattle.sample.specs.Line.{lineLength}
+use Rattle.sample.proofs.BlendLaws.{steps-at}
 use Rattle.sample.proofs.RefusalLaws.{Allowed, allowed}
 use Rattle.sample.proofs.LineAnswerLaws.{line-stopped, line-short, line-clear, line-done, line-not-done}
 use Rattle.sample.proofs.sample_line.Statement.{statement}
@@ -32,7 +33,7 @@ module _ (c : tie.Else2) where
   passed = c .before
 
   long : (let s = start passed .args in lineLength (s .n) ≤ length (s .line .now))
-  long = c .if2 .left
+  long = omega (arith, c .if2 .left)
 
 -- ---- the answers, in the order of the code
 sample-refusal-requires : tie.Need-sample-refusal-requires
@@ -71,7 +72,8 @@ part-write-points-end c = omega (arith, holds (passed c) .listed)
 write-points-requires : tie.Need-write-points-requires
 write-points-requires c κs =
     let e : tie.Else2 = c .before .before in
-    (holds (passed e) .small, holds (passed e) .across, long e)
+    let h = holds (passed e) in
+    (h .small, steps-at (h .across) _ (omega (arith, h .across .within)), long e)
 
 same-length : tie.Need-same-length
 same-length c = search needs

@@ -16,7 +16,7 @@ use Rattle.finite.specs.Filled.{listBelow, filled}
 use Rattle.finite.proofs.FilledLaws.{filled-start, length-filled}
 use Rattle.sample.specs.Refusal.{maxSteps}
 use Rattle.sample.specs.Blend.{controlOf, Steps, Light, Fine, Mean, blended}
-use Rattle.sample.proofs.BlendLaws.{weights-light}
+use Rattle.sample.proofs.BlendLaws.{steps-at, weights-light}
 use Rattle.sample.proofs.LineLaws.{lineOf, point-asked, point-told, filled-point}
 use Rattle.sample.proofs.line.write_points.Statement.{statement}
 use Rattle.sample.proofs.line.write_points.Tie as tie
@@ -56,9 +56,7 @@ module _ (c : tie.In-loop Inv-loop μ-loop) where
   at-loop = c .before
 
   steps : Steps (entry at-loop .args .n) (at-loop .loop .a)
-  steps =
-      let s = entry at-loop .pre .1 in
-      record { least = s .least; most = s .most; within = omega (arith, c .loop-test .taken) }
+  steps = steps-at (entry at-loop .pre .1) _ (omega (arith, c .loop-test .taken))
 
   few : at-loop .loop .a ≤ maxSteps
   few = omega (arith, c .loop-test .taken, entry at-loop .pre .1 .most)
@@ -97,7 +95,7 @@ last c = c .before .before .before
 
 -- ---- the answers, in the order of the code
 weights-requires : tie.Need-weights-requires Inv-loop μ-loop
-weights-requires c κs = c .pre .1
+weights-requires c κs = steps-at (c .pre .1) _ (omega (arith, c .pre .1 .within))
 
 divisor-requires : tie.Need-divisor-requires Inv-loop μ-loop
 divisor-requires c κs = c .before .pre .1 .most
