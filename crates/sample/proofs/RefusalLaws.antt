@@ -40,17 +40,13 @@ face-listed : (patches : List ℤ) (f : ℕ) → faceOff patches f ≡ false →
 unfolding faceOff
 face-listed patches f e = omega (arith, ltb-false (length patches) (48 * f + 48) e)
 
-place-on : (n a b : ℕ) → placeOff n a b ≡ false → Steps n a × Steps n b
+pub place-on : (n a b : ℕ) → placeOff n a b ≡ false → (minSteps ≤ n) × (n ≤ maxSteps) × (a ≤ n) × (b ≤ n)
 unfolding placeOff
 place-on n a b e =
     let h₁ = or-false (ltb n minSteps) _ e in
     let h₂ = or-false (ltb maxSteps n) _ (h₁ .1) in
     let h₃ = or-false (ltb n a) (ltb n b) (h₂ .1) in
-    let least = ltb-false n minSteps (h₁ .0) in
-    let most = ltb-false maxSteps n (h₂ .0) in (
-      record { least = least; most = most; within = ltb-false n a (h₃ .0) },
-      record { least = least; most = most; within = ltb-false n b (h₃ .1) },
-    )
+    (ltb-false n minSteps (h₁ .0), ltb-false maxSteps n (h₂ .0), ltb-false n a (h₃ .0), ltb-false n b (h₃ .1))
 
 pub allowed : (patches : List ℤ) (f n a b : ℕ) → firstMet (sampleRows patches f n a b) ≡ none → Allowed patches f n a b
 allowed patches f n a b e =
@@ -58,8 +54,13 @@ allowed patches f n a b e =
     let past-13 = none-met (controlOff patches f) 13 _ (past-12 .1) in
     let past-14 = none-met (placeOff n a b) 14 _ (past-13 .1) in
     let listed = face-listed patches f (past-12 .0) in
-    let places = place-on n a b (past-14 .0) in
-    record { listed = listed; small = patch-small patches f listed (past-13 .0); at = places .0; across = places .1 }
+    let on = place-on n a b (past-14 .0) in
+    record {
+      listed = listed;
+      small = patch-small patches f listed (past-13 .0);
+      at = record { least = on .0; most = on .1; within = on .2 };
+      across = record { least = on .0; most = on .1; within = on .3 };
+    }
 
 -- ---- the answer, by the first cause met
 module _ (patches : List ℤ) (f n a b : ℕ) where
