@@ -72,8 +72,11 @@ abbrev mirroring : IndexedMesh → ℕ → ℕ → ℕ → List ℤ
 mirroring M positions tags indices = refusalNumber (mirrorAnswer M (replicate positions (pos 0)) (replicate tags 0) (replicate indices 0))
 
 -- the line call on the patch list of a mesh, with so many 7s lent: the number of a refusal, and then the list afterwards
+abbrev lineNumbers : List ℤ → ℕ → ℕ → ℕ → List ℤ → List ℤ
+lineNumbers patches f n b line = refusalNumber (lineAnswer patches f n b line) ++ lineAfter patches f n b line
+
 abbrev lined : IndexedMesh → ℕ → ℕ → ℕ → ℕ → List ℤ
-lined M n f b places = refusalNumber (lineAnswer (patchesAfter M []) f n b (replicate places (pos 7))) ++ lineAfter (patchesAfter M []) f n b (replicate places (pos 7))
+lined M n f b places = lineNumbers (patchesAfter M []) f n b (replicate places (pos 7))
 
 -- three coordinates that are not negative, and the same with x negated, which is above 0
 abbrev xyz : ℕ → ℕ → ℕ → List ℤ

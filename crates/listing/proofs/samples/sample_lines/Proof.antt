@@ -1,6 +1,6 @@
 -- `sample_lines` meets its contract: the lines before the next place are stored, row by row, and the loop stops where no face is left or the next
 -- line might have no room.
-use Prim.Native.Nat.{_+_, _*_, _-_, _≤_, _<_}
+use Prim.Native.Nat.{ℕ, _+_, _*_, _-_, _≤_, _<_}
 use native.Mathlib.Omega.{arith}
 use lib.ListN.{length, length-take, length-drop}
 use borrow.Author.Needs.{needs}
@@ -48,16 +48,24 @@ module _ (c : tie.After-row-lines Inv-loop μ-loop) where
   abbrev here : tie.At-loop Inv-loop μ-loop
   here = at-loop in-loop
 
+  abbrev faces : ℕ
+  faces = start here .args .t .mesh .faces
+
+  abbrev steps : ℕ
+  steps = start here .args .t .steps
+
+  -- the number of the line that comes next
+  abbrev next : ℕ
+  next = here .loop .to + c .row-lines .result .count
+
   leads : 0 < c .row-lines .result .count
   leads = c .row-lines .ensures .some
 
-  fits : here .loop .to + c .row-lines .result .count ≤ 1 + start here .args .t .mesh .faces * (start here .args .t .steps + 1) * (start here .args .t .steps + 1)
+  fits : next ≤ 1 + faces * (steps + 1) * (steps + 1)
   fits = going-fits (here .loop .inv) (in-loop .before .if1 .taken) _ leads (c .row-lines .ensures .within)
 
-  few : here .loop .to + c .row-lines .result .count ≤ 1 + maxFaces * (maxSteps + 1) * (maxSteps + 1)
-  few =
-      let s = start here in
-      omega (arith, few-lines (s .args .t .mesh .faces) (s .args .t .steps) (here .loop .to + c .row-lines .result .count - 1) (s .pre .1) (s .pre .2) (omega (arith, fits)))
+  few : next ≤ 1 + maxFaces * (maxSteps + 1) * (maxSteps + 1)
+  few = omega (arith, few-lines faces steps (next - 1) (start here .pre .1) (start here .pre .2) (omega (arith, fits)))
 
   stored-end : here .loop .at + c .row-lines .result .length ≤ length (here .loop .out)
   stored-end =
@@ -119,7 +127,8 @@ loop-again : tie.Need-loop-again Inv-loop μ-loop
 loop-again c =
     let w = called (c .before) in
     let l = here w in
-    going-more (l .loop .inv) _ _ _ (start l .pre .0) (in-loop w .before .if1 .taken) (w .row-lines .ensures) (c .place-of2 .ensures .0) (c .place-of2 .ensures .1)
+    going-more (l .loop .inv) _ _ _ (start l .pre .0) (in-loop w .before .if1 .taken) (w .row-lines .ensures)
+    (c .place-of2 .ensures .0) (c .place-of2 .ensures .1)
 
 same-length : tie.Need-same-length Inv-loop μ-loop
 same-length c = stored-length (c .before .before .before .loop .inv .stored)
