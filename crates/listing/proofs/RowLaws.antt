@@ -16,8 +16,27 @@ use Rattle.listing.specs.declared.model.Lines.{Lines}
 use Rattle.listing.proofs.ListingLaws.{joined-ext, joined-add, text-at, place-below}
 use Rattle.listing.proofs.StretchLaws.{stored-none, stored-length, stored-behind, printed-stored, lt-unless}
 
--- ---- a loop over the points of a row
---   Running text from end before after a at   the lines of the places from `from` up to a, which is no further than `end`, are stored
+-- ---- a run of lines
+-- of other texts that are the same
+pub run-ext : {t u : ℕ → List ℕ} {most : ℕ} {before after : List ℕ} {r : Lines} → ((j : ℕ) → j < most → t j ≡ u j) → Run t most before r after
+    → Run u most before r after
+run-ext {t} {u} {most} {before} {after} {r} h s = record {
+  some = s .some;
+  within = s .within;
+  stored =
+      subst (λ (x : List ℕ). Stored x before after (r .length))
+      (joined-ext t u (r .count) (λ j l. h j (omega (arith, l, s .within)))) (s .stored);
+}
+
+-- of one line
+pub run-one : (t : ℕ → List ℕ) (most : ℕ) {before after : List ℕ} {r : ℕ} → 0 < most → linePlaces ≤ length before → length after ≡ length before
+    → Printed (t 0) before after r → Run t most before (record { count = 1; length = r }) after
+unfolding joined
+run-one t most l room same q = record { some = omega arith; within = l; stored = printed-stored room same q }
+
+-- ---- a loop that stores lines
+--   Running text from end before after a at   the lines text 0, text 1, .. with the numbers from `from` up to a, which is no further than `end`, are
+--                          stored
 pub record Running (text : ℕ → List ℕ) (from end : ℕ) (before after : List ℕ) (a at : ℕ) : Type 0 where
   pub on : from ≤ a
   pub within : a ≤ end
@@ -32,18 +51,17 @@ running-start text from end out l = record {
 }
 
 module _ {text : ℕ → List ℕ} {from end : ℕ} {before after : List ℕ} {a at : ℕ} (g : Running text from end before after a at) where
-  pub running-more : (k : List ℕ) (r : ℕ) → a < end → linePlaces ≤ length (take (length after - at) (drop at after))
-      → length k ≡ length (take (length after - at) (drop at after))
-      → Printed (text (a - from)) (take (length after - at) (drop at after)) k r
-      → Running text from end before (take at after ++ (k ++ drop (length after - at) (drop at after))) (a + 1) (at + r)
-  unfolding joined
-  running-more k r l room same q = record {
+  -- a run more, in the part behind what is stored
+  pub running-more : (k : List ℕ) (r : Lines) {most : ℕ} → a + r .count ≤ end
+      → Run (λ j. text (a - from + j)) most (take (length after - at) (drop at after)) r k
+      → Running text from end before (take at after ++ (k ++ drop (length after - at) (drop at after))) (a + r .count) (at + r .length)
+  running-more k r l run = record {
     on = omega (arith, g .on);
-    within = omega (arith, l);
+    within = l;
     stored =
-        subst (λ (i : ℕ). Stored (joined text i) before (take at after ++ (k ++ drop (length after - at) (drop at after))) (at + r))
-        (let z : suc (a - from) ≡ a + 1 - from = omega (arith, g .on) in z)
-        (stored-behind (g .stored) (printed-stored room same q));
+        subst (λ (x : List ℕ). Stored x before (take at after ++ (k ++ drop (length after - at) (drop at after))) (at + r .length))
+        (sym (joined-add text (a - from) (r .count)) ∙ ap (joined text) (let z : a - from + r .count ≡ a + r .count - from = omega (arith, g .on) in z))
+        (stored-behind (g .stored) (run .stored));
   }
 
   -- where not even one line was stored, the buffer has no room for one
@@ -60,44 +78,20 @@ module _ {text : ℕ → List ℕ} {from end : ℕ} {before after : List ℕ} {a
     stored = g .stored;
   }
 
--- ---- a run of other texts that are the same
-pub run-ext : {t u : ℕ → List ℕ} {most : ℕ} {before after : List ℕ} {r : Lines} → ((j : ℕ) → j < most → t j ≡ u j) → Run t most before r after
-    → Run u most before r after
-run-ext {t} {u} {most} {before} {after} {r} h s = record {
-  some = s .some;
-  within = s .within;
-  stored =
-      subst (λ (x : List ℕ). Stored x before after (r .length))
-      (joined-ext t u (r .count) (λ j l. h j (omega (arith, l, s .within)))) (s .stored);
-}
-
--- a run of one line
-pub run-one : (t : ℕ → List ℕ) (most : ℕ) {before after : List ℕ} {r : ℕ} → 0 < most → linePlaces ≤ length before → length after ≡ length before
-    → Printed (t 0) before after r → Run t most before (record { count = 1; length = r }) after
-unfolding joined
-run-one t most l room same q = record { some = omega arith; within = l; stored = printed-stored room same q }
-
 -- ---- a loop over the rows
 --   Going ..    the lines from `line` up to `to` are stored, and p is the place of the next sample
+abbrev lastLine : ℕ → ℕ → ℕ → ℕ
+lastLine n faces line = max line (1 + faces * (n + 1) * (n + 1))
+
 pub record Going (patches : List ℤ) (n faces line : ℕ) (before after : List ℕ) (p : Place) (to at : ℕ) : Type 0 where
   pub placed : Placed n p
   pub here : suc (index n p) ≡ to
-  pub on : line ≤ to
-  pub within : to ≤ max line (1 + faces * (n + 1) * (n + 1))
-  pub stored : Stored (joined (λ j. sampleTextAt patches n (line - 1 + j)) (to - line)) before after at
+  pub running : Running (λ j. sampleTextAt patches n (line - 1 + j)) line (lastLine n faces line) before after to at
 
 pub going-start : (patches : List ℤ) (n faces line : ℕ) (out : List ℕ) (p : Place) → 0 < line → Placed n p → index n p ≡ line - 1
     → Going patches n faces line out out p line 0
-unfolding joined
-going-start patches n faces line out p some placed e = record {
-  placed = placed;
-  here = omega arith;
-  on = omega arith;
-  within = le-max-left line (1 + faces * (n + 1) * (n + 1));
-  stored =
-      subst (λ (k : ℕ). Stored (joined (λ j. sampleTextAt patches n (line - 1 + j)) k) out out 0)
-      (let z : 0 ≡ line - line = omega arith in z) (stored-none out);
-}
+going-start patches n faces line out p some placed e =
+    record { placed = placed; here = omega arith; running = running-start _ line _ out (le-max-left line (1 + faces * (n + 1) * (n + 1))) }
 
 module _ {patches : List ℤ} {n faces line : ℕ} {before after : List ℕ} {p : Place} {to at : ℕ} (g : Going patches n faces line before after p to at) where
   -- so many lines more of this row end within the lines of the faces
@@ -106,11 +100,11 @@ module _ {patches : List ℤ} {n faces line : ℕ} {before after : List ℕ} {p 
       omega (arith, g .here, place-below n faces (p .face) (p .b) (p .a + count - 1) (omega (arith, g .placed .a-within)) (g .placed .b-within) l)
 
   -- the lines from p to the end of its row, by their numbers
-  row-text : 0 < line → (j : ℕ) → j < n + 1 - p .a → sampleTextAt patches n (line - 1 + (to - line + j)) ≡ sampleText patches n (p .face) (p .b) (p .a + j)
+  row-text : 0 < line → (j : ℕ) → j < n + 1 - p .a → sampleText patches n (p .face) (p .b) (p .a + j) ≡ sampleTextAt patches n (line - 1 + (to - line + j))
   row-text some j l =
-      ap (sampleTextAt patches n)
-      (let z : line - 1 + (to - line + j) ≡ (p .face * (n + 1) + p .b) * (n + 1) + (p .a + j) = omega (arith, g .here, g .on) in z)
-      ∙ text-at patches n (p .face) (p .b) (p .a + j) (g .placed .b-within) (omega (arith, l))
+      sym (text-at patches n (p .face) (p .b) (p .a + j) (g .placed .b-within) (omega (arith, l)))
+      ∙ ap (sampleTextAt patches n)
+      (let z : (p .face * (n + 1) + p .b) * (n + 1) + (p .a + j) ≡ line - 1 + (to - line + j) = omega (arith, g .here, g .running .on) in z)
 
   pub going-more : (k : List ℕ) (r : Lines) (p' : Place) → 0 < line → p .face < faces
       → Run (λ j. sampleText patches n (p .face) (p .b) (p .a + j)) (n + 1 - p .a) (take (length after - at) (drop at after)) r k
@@ -119,30 +113,13 @@ module _ {patches : List ℤ} {n faces line : ℕ} {before after : List ℕ} {p 
   going-more k r p' some l run placed e = record {
     placed = placed;
     here = omega (arith, e, run .some);
-    on = omega (arith, g .on);
-    within = le-trans (going-fits l (r .count) (run .some) (run .within)) (le-max-right line (1 + faces * (n + 1) * (n + 1)));
-    stored =
-        subst (λ (x : List ℕ). Stored x before (take at after ++ (k ++ drop (length after - at) (drop at after))) (at + r .length)) (sym more)
-        (stored-behind (g .stored) (run .stored));
+    running =
+        running-more (g .running) k r
+        (le-trans (going-fits l (r .count) (run .some) (run .within)) (le-max-right line (1 + faces * (n + 1) * (n + 1))))
+        (run-ext (row-text some) run);
   }
-    where
-      more :
-          joined (λ j. sampleTextAt patches n (line - 1 + j)) (to + r .count - line)
-          ≡ joined (λ j. sampleTextAt patches n (line - 1 + j)) (to - line) ++ joined (λ j. sampleText patches n (p .face) (p .b) (p .a + j)) (r .count)
-      more =
-          ap (joined (λ j. sampleTextAt patches n (line - 1 + j))) (let z : to + r .count - line ≡ to - line + r .count = omega (arith, g .on) in z)
-          ∙ joined-add (λ j. sampleTextAt patches n (line - 1 + j)) (to - line) (r .count)
-          ∙ ap (λ (x : List ℕ). joined (λ j. sampleTextAt patches n (line - 1 + j)) (to - line) ++ x)
-          (joined-ext _ _ (r .count) (λ j q. row-text some j (omega (arith, q, run .within))))
 
-  -- where not even one line was stored, the buffer has no room for one, or there is none
-  pub going-no-room : length after - at < linePlaces → line ≡ to → linePlaces ≤ length before → ⊥
-  unfolding joined
-  going-no-room tight e room =
-      let none : at ≡ 0 =
-      g .stored .length-is ∙ ap (λ (k : ℕ). length (joined (λ j. sampleTextAt patches n (line - 1 + j)) k)) (let z : to - line ≡ 0 = omega (arith, e) in z) in
-      omega (arith, none, tight, room, stored-length (g .stored))
-
+  -- where no face is left there is no line
   pub going-no-face : faces ≤ p .face → line ≡ to → line < 1 + faces * (n + 1) * (n + 1) → ⊥
   going-no-face l e more =
       let beyond : faces * (n + 1) * (n + 1) ≤ (p .face * (n + 1) + p .b) * (n + 1) =
@@ -163,12 +140,12 @@ pub going-end : (t : Tessellation) {patches : List ℤ} {line : ℕ} {before aft
     → (line ≡ to → line < 1 + t .mesh .faces * (t .steps + 1) * (t .steps + 1) → linePlaces ≤ length before → ⊥)
     → Stretched (result t) patches line before (record { line = to; length = at }) after
 going-end t {patches} {line} {before} {after} {p} {to} {at} some g stuck = record {
-  on = g .on;
-  within = g .within;
+  on = g .running .on;
+  within = g .running .within;
   stored =
       subst (λ (x : List ℕ). Stored x before after at)
       (joined-ext (λ j. sampleTextAt patches (t .steps) (line - 1 + j)) (λ j. lineAt (result t) patches (line + j)) (to - line)
       (λ j _. sym (line-later t patches line j some)))
-      (g .stored);
-  some = λ _ more room. lt-unless (g .on) (λ e. stuck e more room);
+      (g .running .stored);
+  some = λ _ more room. lt-unless (g .running .on) (λ e. stuck e more room);
 }

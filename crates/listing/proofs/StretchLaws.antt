@@ -10,7 +10,7 @@ use lib.Dec.{eqb, ltb}
 use lib.IntN.{ℤ}
 use lib.ListN.{length, take, drop, length-append, length-drop, drop-of-length-le}
 use lib.Seq.{take-append-seam, drop-append-seam, drop-drop, take-all}
-use borrow.Author.Tests.{le-ltb, ltb-true, ne-eqb}
+use borrow.Author.Tests.{le-ltb, ltb-true, ltb-false, ne-eqb}
 use Rattle.finite.specs.Table.{Answer}
 use Rattle.finite.proofs.FoldLaws.{bool-cases}
 use Rattle.meshfile.specs.declared.model.Tessellation.{Tessellation}
@@ -95,7 +95,7 @@ one-stored answer patches u {before} {after} {r} is more filled same q =
         rw line (record {
           on = omega arith;
           within = le-trans more (le-max-right 0 (lineCount answer));
-          stored = rw is (record { length-is = whole; fits = omega (arith, whole, printed-within same q); list = q .list ∙ rw e });
+          stored = rw is (printed-stored (ltb-false (length before) linePlaces e) same q);
           some = λ _ _ _. omega arith;
         })
 

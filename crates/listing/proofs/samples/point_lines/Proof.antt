@@ -19,7 +19,7 @@ use Rattle.text.proofs.TextLaws.{printed-within}
 use Rattle.listing.specs.Listing.{lineOf}
 use Rattle.listing.specs.declared.model.Place.{Place}
 use Rattle.listing.proofs.StretchLaws.{stored-length}
-use Rattle.listing.proofs.RowLaws.{Running, running-start, running-more, running-end, running-stuck}
+use Rattle.listing.proofs.RowLaws.{run-one, Running, running-start, running-more, running-stuck, running-end}
 use Rattle.listing.proofs.samples.point_lines.Statement.{statement}
 use Rattle.listing.proofs.samples.point_lines.Tie as tie
 
@@ -78,9 +78,9 @@ read c = c .before .before
 
 -- it is that of the next place,
 printed-at : (points : List ℤ) (p : Place) (a : ℕ) {l m : List ℕ} {r : ℕ} → p .a ≤ a
-    → Printed (lineOf (result (pointIn points a)) (p .face) a (p .b)) l m r → Printed (lineText points p (a - p .a)) l m r
+    → Printed (lineOf (result (pointIn points a)) (p .face) a (p .b)) l m r → Printed (lineText points p (a - p .a + 0)) l m r
 printed-at points p a {l} {m} {r} on q =
-    subst (λ (i : ℕ). Printed (lineOf (result (pointIn points i)) (p .face) i (p .b)) l m r) (let e : a ≡ p .a + (a - p .a) = omega (arith, on) in e) q
+    subst (λ (i : ℕ). Printed (lineOf (result (pointIn points i)) (p .face) i (p .b)) l m r) (let e : a ≡ p .a + (a - p .a + 0) = omega (arith, on) in e) q
 
 -- and ends within the part that was lent
 module _ (c : tie.After-sample-line Inv-loop μ-loop) where
@@ -159,10 +159,12 @@ loop-again c =
     let i = in-loop v in
     let l = here w in
     let s = start l in
-    running-more (l .loop .inv) _ _ (omega (arith, on-row i)) (rw (length-take, length-drop) (omega (arith, room i)))
+    running-more (l .loop .inv) _ _ (omega (arith, on-row i))
+    (run-one (λ j. lineText (s .args .points .now) (s .args .p) (l .loop .a - s .args .p .a + j)) 1 (omega arith)
+    (rw (length-take, length-drop) (omega (arith, room i)))
     (w .sample-line .kept .1 .1 .1 .1 .1 .1 .0)
     (printed-at (s .args .points .now) (s .args .p) (l .loop .a) (l .loop .inv .on)
-    (rw (toZ-ofZ (fits v .0), toZ-ofZ (fits v .1), toZ-ofZ (fits v .2)) at (w .sample-line .ensures)))
+    (rw (toZ-ofZ (fits v .0), toZ-ofZ (fits v .1), toZ-ofZ (fits v .2)) at (w .sample-line .ensures))))
 
 sub-t24 : tie.Need-sub-t24 Inv-loop μ-loop
 sub-t24 c = c .before .before .loop .inv .on

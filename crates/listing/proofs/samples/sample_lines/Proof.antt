@@ -10,7 +10,7 @@ use Rattle.sample.specs.Refusal.{maxSteps}
 use Rattle.text.specs.Text.{linePlaces}
 use Rattle.listing.proofs.ListingLaws.{few-lines}
 use Rattle.listing.proofs.StretchLaws.{stored-length}
-use Rattle.listing.proofs.RowLaws.{Going, going-start, going-fits, going-more, going-no-room, going-no-face, going-end}
+use Rattle.listing.proofs.RowLaws.{running-stuck, Going, going-start, going-fits, going-more, going-no-face, going-end}
 use Rattle.listing.proofs.samples.sample_lines.Statement.{statement}
 use Rattle.listing.proofs.samples.sample_lines.Tie as tie
 
@@ -30,7 +30,7 @@ module _ (c : tie.At-loop Inv-loop μ-loop) where
   start = entry (c .before .before)
 
   ends : c .loop .at ≤ length (c .loop .out)
-  ends = let g = c .loop .inv .stored in omega (arith, g .length-is, g .fits, stored-length g)
+  ends = let g = c .loop .inv .running .stored in omega (arith, g .length-is, g .fits, stored-length g)
 
 -- ---- in the loop: the next place is that of a sample, and its line has room
 module _ (c : tie.Then2 Inv-loop μ-loop) where
@@ -109,7 +109,7 @@ row-lines-requires c κs =
 add-at : tie.Need-add-at Inv-loop μ-loop
 add-at c =
     let w : tie.After-row-lines Inv-loop μ-loop = let k : tie.After-slice-known2 Inv-loop μ-loop = c .before in k .before .before in
-    omega (arith, stored-end w, stored-length (here w .loop .inv .stored), start (here w) .good)
+    omega (arith, stored-end w, stored-length (here w .loop .inv .running .stored), start (here w) .good)
 
 add-to : tie.Need-add-to Inv-loop μ-loop
 add-to c = omega (arith, few (called c))
@@ -131,16 +131,16 @@ loop-again c =
     (c .place-of2 .ensures .0) (c .place-of2 .ensures .1)
 
 same-length : tie.Need-same-length Inv-loop μ-loop
-same-length c = stored-length (c .before .before .before .loop .inv .stored)
+same-length c = stored-length (c .before .before .before .loop .inv .running .stored)
 
 returns : tie.Need-returns Inv-loop μ-loop
 returns c =
     let l = c .before .before .before in
     let s = start l in
-    going-end (s .args .t) (s .pre .0) (l .loop .inv) (λ e _ room. going-no-room (l .loop .inv) (leb-false linePlaces _ (c .if2 .left)) e room)
+    going-end (s .args .t) (s .pre .0) (l .loop .inv) (λ e _ room. running-stuck (l .loop .inv .running) e room (leb-false linePlaces _ (c .if2 .left)))
 
 same-length-2 : tie.Need-same-length-2 Inv-loop μ-loop
-same-length-2 c = stored-length (c .before .before .loop .inv .stored)
+same-length-2 c = stored-length (c .before .before .loop .inv .running .stored)
 
 returns-2 : tie.Need-returns-2 Inv-loop μ-loop
 returns-2 c =
