@@ -2,6 +2,8 @@
 pub mod BernsteinLaws
 pub mod SampleLaws
 pub mod BlendLaws
+pub mod SizedLaws
+pub mod DifferenceLaws
 pub mod LineLaws
 pub mod PatchLaws
 pub mod RefusalLaws

@@ -1,16 +1,21 @@
--- A line, point by point: what a coordinate asks of its curve and gives, where it stands in the line, and three numbers stored.
-use mathlib.Core.Path.{_≡_, sym, ap, _∙_, subst}
+-- A line, point by point: where a coordinate stands in it, the sums that it comes from, and three numbers stored.
+use mathlib.Core.Path.{_≡_, sym, ap, ap₂, _∙_}
 use mathlib.Core.List.{List}
 use Prim.Native.Nat.{ℕ, _+_, _*_, _/_, _%_, _^_, _≤_, _<_}
 use native.Mathlib.Omega.{arith}
 use lib.IntN.{ℤ, pos}
 use lib.ListN.{length, getD, set}
 use Rattle.integer.specs.Nearest.{nearest}
+use Rattle.finite.specs.Fold.{foldBelow}
 use Rattle.finite.specs.Filled.{listBelow, filled}
-use Rattle.finite.proofs.FilledLaws.{filled-more}
-use Rattle.sample.specs.Bernstein.{bernstein, rounded}
-use Rattle.sample.specs.Blend.{controlOf, Small, Steps, Light, Fine, Mean, blended}
-use Rattle.sample.proofs.BlendLaws.{weights-light, blended-values, curve-fine, sample-mean, blended-mean, rounded-blended}
+use Rattle.finite.proofs.FilledLaws.{listBelow-at, filled-more}
+use Rattle.sample.specs.Bernstein.{bernstein, numerator, rounded}
+use Rattle.sample.specs.Blend.{controlOf, Small, Steps, Mean, blended}
+use Rattle.sample.specs.Differences.{differencesAt, nextOf, Tame, cubic}
+use Rattle.sample.proofs.SampleLaws.{numerator-rows}
+use Rattle.sample.proofs.BlendLaws.{weights-light, curve-fine, sample-mean}
+use Rattle.sample.proofs.SizedLaws.{read, sized}
+use Rattle.sample.proofs.DifferenceLaws.{cubic-next, cubic-tame, cubic-weighed}
 
 -- number i of the line of one b
 abbrev pub lineOf : List ℤ → ℕ → ℕ → ℕ → ℤ
@@ -22,26 +27,55 @@ line-at patch n a b k l =
     let r : k ≡ (3 * a + k) % 3 = omega arith in
     ap (λ (i : ℕ). rounded n i b (controlOf patch k)) q ∙ ap (λ (i : ℕ). rounded n ((3 * a + k) / 3) b (controlOf patch i)) r
 
--- the curve of coordinate k, and its point at a
-module _ {patch : List ℤ} (small : Small patch) (k : ℕ) (below : k < 3) {n a b : ℕ} (at : Steps n a) (across : Steps n b) {u v : List ℕ} {d : ℕ}
-    {curve : List ℤ} (hu : u ≡ listBelow (bernstein n a) 4) (hv : v ≡ listBelow (bernstein n b) 4) (hd : d ≡ n ^ 6)
-    (hc : curve ≡ listBelow (λ i. blended v (λ j. controlOf patch k (i + 4 * j))) 4) where
-  abbrev sum : ℤ
-  sum = blended u (λ i. getD curve i (pos 0))
+-- the curve of coordinate k at one b, and the sum along it at a with its differences
+abbrev pub curveOf : List ℤ → ℕ → ℕ → ℕ → ℕ → ℤ
+curveOf patch n b k i = blended (listBelow (bernstein n b) 4) (λ j. controlOf patch k (i + 4 * j))
 
-  pub point-asked : Light u × Fine curve × Mean sum d
-  point-asked = (
-    subst Light (sym hu) (weights-light at),
-    subst Fine (sym hc) (curve-fine small k below (subst Light (sym hv) (weights-light across))),
-    subst (λ (z : ℤ). Mean z d) (sym (blended-values u _ hc)) (blended-mean n a b _ hu hv hd (sample-mean small k below at across)),
-  )
+abbrev pub sumsOf : List ℤ → ℕ → ℕ → ℕ → ℕ → List ℤ
+sumsOf patch n b k a = differencesAt (cubic n (curveOf patch n b k)) a
 
-  pub point-told : {r : ℤ} → r ≡ nearest sum d → r ≡ lineOf patch n b (3 * a + k)
-  point-told e =
-      e
-      ∙ ap (λ (z : ℤ). nearest z d) (blended-values u _ hc)
-      ∙ rounded-blended n a b (controlOf patch k) hu hv hd (at .least)
-      ∙ line-at patch n a b k below
+-- they start from the values of the curve
+pub sums-start : (patch : List ℤ) (n b k : ℕ) {v : List ℕ} {curve x : List ℤ} → v ≡ listBelow (bernstein n b) 4
+    → curve ≡ listBelow (λ i. blended v (λ j. controlOf patch k (i + 4 * j))) 4
+    → x ≡ differencesAt (cubic n (λ i. getD curve i (pos 0))) 0
+    → x ≡ sumsOf patch n b k 0
+unfolding cubic listBelow
+sums-start patch n b k hv hc e =
+    e
+    ∙ ap (λ (c : List ℤ). differencesAt (cubic n (λ i. getD c i (pos 0))) 0)
+    (hc ∙ ap (λ (v : List ℕ). listBelow (λ i. blended v (λ j. controlOf patch k (i + 4 * j))) 4) hv)
+
+-- at each a they are small, the sum over N^6 is the coordinate of the sample, and the next of them are those of a + 1
+module _ {patch : List ℤ} (small : Small patch) (k : ℕ) (below : k < 3) {n a b : ℕ} (at : Steps n a) (across : Steps n b) {d : ℕ} (hd : d ≡ n ^ 6)
+    {x : List ℤ} (hx : x ≡ sumsOf patch n b k a) where
+  abbrev curve : ℕ → ℤ
+  curve = curveOf patch n b k
+
+  sum-is : cubic n curve a ≡ numerator n a b (controlOf patch k)
+  unfolding foldBelow listBelow
+  sum-is = cubic-weighed n a (at .within) curve ∙ sym (numerator-rows n a b (controlOf patch k))
+
+  sum-mean : Mean (cubic n curve a) (n ^ 6)
+  sum-mean = rw sum-is (sample-mean small k below at across)
+
+  pub sums-tame : Tame x
+  sums-tame =
+      rw hx
+      (cubic-tame curve (λ i l. rw (listBelow-at curve 4 i (pos 0) l) at (curve-fine small k below (weights-light across) .fine i l))
+      n a (at .most) (omega (arith, at .within, at .most)) (omega (arith, sum-mean .within, sum-mean .most)))
+
+  sum-read : read (getD x 0 (pos 0)) ≡ cubic n curve a
+  sum-read = sized (getD x 0 (pos 0)) (sums-tame .tame 0 (omega arith)) (omega arith) .is ∙ ap (λ (s : List ℤ). getD s 0 (pos 0)) hx
+
+  pub sum-asked : Mean (read (getD x 0 (pos 0))) d
+  sum-asked = rw (sum-read, hd) sum-mean
+
+  pub sum-told : {r : ℤ} → r ≡ nearest (read (getD x 0 (pos 0))) d → r ≡ lineOf patch n b (3 * a + k)
+  unfolding rounded
+  sum-told e = e ∙ ap₂ nearest (sum-read ∙ sum-is) hd ∙ line-at patch n a b k below
+
+  pub sums-next : {x' : List ℤ} → x' ≡ nextOf x → x' ≡ sumsOf patch n b k (a + 1)
+  sums-next e = e ∙ ap nextOf hx ∙ cubic-next curve n a
 
 -- one point more in a list that is filled from the front
 pub filled-point : {A : Type 0} (f : ℕ → A) (a : ℕ) {x y z : A} (d m : List A) → 3 * (a + 1) ≤ length d → m ≡ filled f (3 * a) d

@@ -4,3 +4,4 @@ pub mod Refusal
 pub mod Answer
 pub mod Line
 pub mod Blend
+pub mod Differences

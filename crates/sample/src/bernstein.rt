@@ -33,7 +33,7 @@ pub(crate) fn divisor(n: usize) -> u32
 }
 
 // One term more of a sum.
-fn add_product(sum: i64, weight: u32, value: i64) -> i64
+pub(crate) fn add_product(sum: i64, weight: u32, value: i64) -> i64
     requires { ⌜ SFits w64 (pos weight *ℤ value) × SFits w64 (sum +ℤ pos weight *ℤ value) ⌝ }
     ensures { λ r. ⌜ r ≡ sum +ℤ pos weight *ℤ value ⌝ }
 {
@@ -87,7 +87,7 @@ pub(crate) fn curve(patch: &[i32], k: usize, v: [u32; 4]) -> [i64; 4]
 }
 
 // A sum of control values over the sum of their weights, rounded once: no further from 0 than a control value, so it fits.
-fn rounded_quotient(sum: i64, divisor: u32) -> i32
+pub(crate) fn rounded_quotient(sum: i64, divisor: u32) -> i32
     requires { ⌜ Mean sum divisor ⌝ }
     ensures { λ r. ⌜ r ≡ nearest sum divisor ⌝ }
 {
@@ -95,7 +95,7 @@ fn rounded_quotient(sum: i64, divisor: u32) -> i32
 }
 
 // The coordinate of the sample that four blended values stand for: blended along u too, and rounded once.
-pub(crate) fn on_curve(u: [u32; 4], curve: [i64; 4], divisor: u32) -> i32
+fn on_curve(u: [u32; 4], curve: [i64; 4], divisor: u32) -> i32
     requires { ⌜ Light u × Fine curve × Mean (blended u (λ i. getD curve i (pos 0))) divisor ⌝ }
     ensures { λ r. ⌜ r ≡ nearest (blended u (λ i. getD curve i (pos 0))) divisor ⌝ }
 {

@@ -1,8 +1,10 @@
-// A line of samples: all places a of one b, by the three curves that they share.
+// A line of samples: all places a of one b, along the three curves that they share, from one place to the next by differences.
 use crate::bernstein::curve;
 use crate::bernstein::divisor;
-use crate::bernstein::on_curve;
+use crate::bernstein::rounded_quotient;
 use crate::bernstein::weights;
+use crate::differences::first_sums;
+use crate::differences::stepped;
 ghost use mathlib.Core.Path.{_≡_};
 ghost use Prim.Native.Nat.{_/_, _%_, _≤_};
 ghost use lib.ListN.{length};
@@ -19,13 +21,15 @@ pub(crate) fn write_points(patch: &[i32], n: usize, b: usize, line: &mut [i32])
 {
     let v = weights(n, b);
     let over = divisor(n);
-    let x = curve(patch, 0, v);
-    let y = curve(patch, 1, v);
-    let z = curve(patch, 2, v);
+    let mut x = first_sums(n, curve(patch, 0, v));
+    let mut y = first_sums(n, curve(patch, 1, v));
+    let mut z = first_sums(n, curve(patch, 2, v));
     for a in 0..n + 1 {
-        let u = weights(n, a);
-        line[3 * a] = on_curve(u, x, over);
-        line[3 * a + 1] = on_curve(u, y, over);
-        line[3 * a + 2] = on_curve(u, z, over);
+        line[3 * a] = rounded_quotient(x[0], over);
+        line[3 * a + 1] = rounded_quotient(y[0], over);
+        line[3 * a + 2] = rounded_quotient(z[0], over);
+        x = stepped(x);
+        y = stepped(y);
+        z = stepped(z);
     }
 }

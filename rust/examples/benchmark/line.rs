@@ -1,12 +1,27 @@
-//! A line of samples, in Rust: the checks, the weights of b, the divisor and the three curves once, then one division a coordinate.
+//! A line of samples, in Rust: the checks, the weights of b, the divisor and the three curves once, then from one place to the next by
+//! differences, with one division a coordinate.
 
 use crate::access::Access;
 use crate::limits::*;
-use crate::sample::{blend, column, divisor, patch_of, weights};
+use crate::sample::{column, divisor, patch_of, weights};
 use rusketja::Refusal;
 
 /// The places of the longest line.
 pub const PLACES: usize = 3 * (*STEPS.end() + 1);
+
+/// The sum along a curve at a = 0, and its three differences.
+#[inline(always)]
+fn first_sums(n: usize, [w, x, y, z]: [i64; 4]) -> [i64; 4] {
+    let n = n as i64;
+    let (first, second, third) = (x - w, (y - x) - (x - w), ((z - y) - (y - x)) - ((y - x) - (x - w)));
+    [n * n * n * w, third + 3 * n * second + 3 * n * n * first, 6 * third + 6 * n * second, 6 * third]
+}
+
+/// A sum and its three differences, one place further.
+#[inline(always)]
+fn stepped([value, first, second, third]: [i64; 4]) -> [i64; 4] {
+    [value + first, first + second, second + third, third]
+}
 
 /// Writes a line, as [`rusketja::sample_line`] does. Not inlined, since the library's is called too.
 #[inline(never)]
@@ -27,13 +42,13 @@ pub fn sample_line<'a, A: Access>(
     }
     let line = A::part_mut(line, 0, places);
     let (v, divisor) = (weights(n, b), divisor(n));
-    let curve = |k| [0, 1, 2, 3].map(|i| column::<A>(patch, k, v, i));
-    let curves = [curve(0), curve(1), curve(2)];
+    let first_sums = |k| first_sums(n, [0, 1, 2, 3].map(|i| column::<A>(patch, k, v, i)));
+    let mut sums = [first_sums(0), first_sums(1), first_sums(2)];
     for a in 0..=n {
-        let u = weights(n, a);
-        for (k, curve) in curves.into_iter().enumerate() {
-            *A::at(line, 3 * a + k) = round(blend(u, curve), divisor) as i32;
+        for (k, sum) in sums.into_iter().enumerate() {
+            *A::at(line, 3 * a + k) = round(sum[0], divisor) as i32;
         }
+        sums = sums.map(stepped);
     }
     Ok(line.as_chunks().0)
 }

@@ -1,4 +1,4 @@
--- `write_points` meets its contract: at each a the list is filled with the points before it, and each coordinate comes from its curve.
+-- `write_points` meets its contract: at each a the list is filled with the points before it, and the three sums are those of a.
 use mathlib.Core.Path.{_≡_, sym, ap, _∙_, subst}
 use mathlib.Core.List.{List}
 use Prim.Native.Nat.{ℕ, _+_, _*_, _-_, _^_, _≤_, _<_}
@@ -16,41 +16,58 @@ use Rattle.finite.specs.Filled.{listBelow, filled}
 use Rattle.finite.proofs.FilledLaws.{filled-start, length-filled}
 use Rattle.sample.specs.Refusal.{maxSteps}
 use Rattle.sample.specs.Blend.{controlOf, Steps, Light, Fine, Mean, blended}
-use Rattle.sample.proofs.BlendLaws.{steps-at, weights-light}
-use Rattle.sample.proofs.LineLaws.{lineOf, point-asked, point-told, filled-point}
+use Rattle.sample.specs.Differences.{nextOf, Tame}
+use Rattle.sample.proofs.SizedLaws.{read}
+use Rattle.sample.proofs.BlendLaws.{steps-at, weights-light, curve-fine}
+use Rattle.sample.proofs.LineLaws.{lineOf, sumsOf, sums-start, sums-tame, sums-next, sum-asked, sum-told, filled-point}
 use Rattle.sample.proofs.line.write_points.Statement.{statement}
 use Rattle.sample.proofs.line.write_points.Tie as tie
 
 abbrev Inv-loop : tie.InvT-loop
-Inv-loop patch n b line₀ over x y z a₀ a-end line a = (a ≤ n + 1) × (line ≡ filled (lineOf patch n b) (3 * a) line₀)
+Inv-loop patch n b line₀ over x₀ y₀ z₀ a₀ a-end line x y z a =
+    (a ≤ n + 1) × (line ≡ filled (lineOf patch n b) (3 * a) line₀)
+    × (x ≡ sumsOf patch n b 0 a) × (y ≡ sumsOf patch n b 1 a) × (z ≡ sumsOf patch n b 2 a)
 
 abbrev μ-loop : tie.MeasureT-loop
-μ-loop patch n b line₀ over x y z a₀ a-end line a = n + 1 - a
+μ-loop patch n b line₀ over x₀ y₀ z₀ a₀ a-end line x y z a = n + 1 - a
 
--- ---- the weights of b and the divisor are there
+-- ---- the weights of b and the divisor are there: the curve of coordinate k is small
 module _ (c : tie.After-divisor Inv-loop μ-loop) where
   abbrev start : tie.Start Inv-loop μ-loop
   start = c .before .before
 
-  v-light : Light (c .before .weights .result)
+  abbrev v : List ℕ
+  v = c .before .weights .result
+
+  v-light : Light v
   v-light = subst Light (sym (c .before .weights .ensures)) (weights-light (start .pre .1))
 
--- ---- the three curves are there
-abbrev divided : tie.After-curve3 Inv-loop μ-loop → tie.After-divisor Inv-loop μ-loop
-divided c = c .before .before .before
+  fine : (k : ℕ) → k < 3 → {curve : List ℤ} → curve ≡ listBelow (λ i. blended v (λ j. controlOf (start .args .patch .now) k (i + 4 * j))) 4
+      → (start .args .n ≤ maxSteps) × Fine curve
+  fine k l e = (start .pre .1 .most, subst Fine (sym e) (curve-fine (start .pre .0) k l v-light))
+
+-- ---- the sums at a = 0 are there
+abbrev past-x : tie.After-first-sums Inv-loop μ-loop → tie.After-divisor Inv-loop μ-loop
+past-x c = c .before .before
+
+abbrev past-y : tie.After-first-sums2 Inv-loop μ-loop → tie.After-divisor Inv-loop μ-loop
+past-y c = past-x (c .before .before)
+
+abbrev past-z : tie.After-first-sums3 Inv-loop μ-loop → tie.After-divisor Inv-loop μ-loop
+past-z c = past-y (c .before .before)
 
 -- ---- at the loop
 module _ (c : tie.At-loop Inv-loop μ-loop) where
-  abbrev curves : tie.After-curve3 Inv-loop μ-loop
-  curves = c .before
+  abbrev given : tie.After-divisor Inv-loop μ-loop
+  given = past-z (c .before)
 
   abbrev entry : tie.Start Inv-loop μ-loop
-  entry = start (divided curves)
+  entry = start given
 
   same : length (c .loop .line) ≡ length (entry .args .line .now)
   same = ap length (c .loop .inv .1) ∙ length-filled _ (3 * c .loop .a) _ (omega (arith, c .loop .inv .0, entry .pre .2))
 
--- ---- in the loop: a is a place, and three more numbers have room
+-- ---- in the loop: a is a place, three more numbers have room, and what the sums of coordinate k are asked for and give
 module _ (c : tie.In-loop Inv-loop μ-loop) where
   abbrev at-loop : tie.At-loop Inv-loop μ-loop
   at-loop = c .before
@@ -64,34 +81,39 @@ module _ (c : tie.In-loop Inv-loop μ-loop) where
   room : 3 * (at-loop .loop .a + 1) ≤ length (entry at-loop .args .line .now)
   room = omega (arith, c .loop-test .taken, entry at-loop .pre .2)
 
--- ---- the weights of a are there: what coordinate k asks of its curve, and what it gives
-module _ (c : tie.After-weights2 Inv-loop μ-loop) where
-  abbrev passing : tie.In-loop Inv-loop μ-loop
-  passing = c .before
+  abbrev line-of : ℕ → ℤ
+  line-of = lineOf (entry at-loop .args .patch .now) (entry at-loop .args .n) (entry at-loop .args .b)
 
-  abbrev given : tie.After-divisor Inv-loop μ-loop
-  given = divided (curves (at-loop passing))
+  abbrev sums : ℕ → ℕ → List ℤ
+  sums = sumsOf (entry at-loop .args .patch .now) (entry at-loop .args .n) (entry at-loop .args .b)
 
-  abbrev values : ℕ → List ℤ
-  values k = listBelow (λ i. blended (given .before .weights .result) (λ j. controlOf (start given .args .patch .now) k (i + 4 * j))) 4
+  module _ (k : ℕ) (below : k < 3) {x : List ℤ} (e : x ≡ sums k (at-loop .loop .a)) where
+    asked : Mean (read (getD x 0 (pos 0))) (given at-loop .divisor .result)
+    asked = sum-asked (entry at-loop .pre .0) k below steps (entry at-loop .pre .1) (given at-loop .divisor .ensures) e
 
-  asked : (k : ℕ) → k < 3 → {curve : List ℤ} → curve ≡ values k
-      → Light (c .weights2 .result) × Fine curve × Mean (blended (c .weights2 .result) (λ i. getD curve i (pos 0))) (given .divisor .result)
-  asked k l e =
-      point-asked (start given .pre .0) k l (steps passing) (start given .pre .1) (c .weights2 .ensures) (given .before .weights .ensures)
-      (given .divisor .ensures) e
+    told : {r : ℤ} → mag r < 2 ^ 31 → r ≡ nearest (read (getD x 0 (pos 0))) (given at-loop .divisor .result)
+        → toZ w32 (ofZ w32 r) ≡ line-of (3 * at-loop .loop .a + k)
+    told ok q = read-back w32 ok (sum-told (entry at-loop .pre .0) k below steps (entry at-loop .pre .1) (given at-loop .divisor .ensures) e q)
 
-  told : (k : ℕ) → k < 3 → {curve : List ℤ} {r : ℤ} → mag r < 2 ^ 31 → curve ≡ values k
-      → r ≡ nearest (blended (c .weights2 .result) (λ i. getD curve i (pos 0))) (given .divisor .result)
-      → toZ w32 (ofZ w32 r) ≡ lineOf (start given .args .patch .now) (start given .args .n) (start given .args .b) (3 * at-loop passing .loop .a + k)
-  told k l ok e q =
-      read-back w32 ok
-      (point-told (start given .pre .0) k l (steps passing) (start given .pre .1) (c .weights2 .ensures) (given .before .weights .ensures)
-      (given .divisor .ensures) e q)
+    tame : Tame x
+    tame = sums-tame (entry at-loop .pre .0) k below steps (entry at-loop .pre .1) (given at-loop .divisor .ensures) e
+
+    next : {x' : List ℤ} → x' ≡ nextOf x → x' ≡ sums k (at-loop .loop .a + 1)
+    next q = sums-next (entry at-loop .pre .0) k below steps (entry at-loop .pre .1) (given at-loop .divisor .ensures) e q
 
 -- ---- the three numbers are there
-abbrev last : tie.After-on-curve3 Inv-loop μ-loop → tie.After-weights2 Inv-loop μ-loop
-last c = c .before .before .before
+abbrev past-1 : tie.After-rounded-quotient Inv-loop μ-loop → tie.In-loop Inv-loop μ-loop
+past-1 c = c .before .before
+
+abbrev past-2 : tie.After-rounded-quotient2 Inv-loop μ-loop → tie.In-loop Inv-loop μ-loop
+past-2 c = past-1 (c .before .before)
+
+abbrev past-3 : tie.After-rounded-quotient3 Inv-loop μ-loop → tie.In-loop Inv-loop μ-loop
+past-3 c = past-2 (c .before .before)
+
+-- ---- and the sums of a + 1
+abbrev stored : tie.After-stepped3 Inv-loop μ-loop → tie.After-rounded-quotient3 Inv-loop μ-loop
+stored c = c .before .before .before
 
 -- ---- the answers, in the order of the code
 weights-requires : tie.Need-weights-requires Inv-loop μ-loop
@@ -103,79 +125,121 @@ divisor-requires c κs = c .before .pre .1 .most
 curve-requires : tie.Need-curve-requires Inv-loop μ-loop
 curve-requires c κs = (start c .pre .0, omega arith, v-light c)
 
+first-sums-requires : tie.Need-first-sums-requires Inv-loop μ-loop
+first-sums-requires c κs = fine (c .before) 0 (omega arith) (c .curve .ensures)
+
 curve-requires-2 : tie.Need-curve-requires-2 Inv-loop μ-loop
-curve-requires-2 c κs = let d = c .before in (start d .pre .0, omega arith, v-light d)
+curve-requires-2 c κs = let d = past-x c in (start d .pre .0, omega arith, v-light d)
+
+first-sums-requires-2 : tie.Need-first-sums-requires-2 Inv-loop μ-loop
+first-sums-requires-2 c κs = fine (past-x (c .before)) 1 (omega arith) (c .curve2 .ensures)
 
 curve-requires-3 : tie.Need-curve-requires-3 Inv-loop μ-loop
-curve-requires-3 c κs = let d = c .before .before in (start d .pre .0, omega arith, v-light d)
+curve-requires-3 c κs = let d = past-y c in (start d .pre .0, omega arith, v-light d)
+
+first-sums-requires-3 : tie.Need-first-sums-requires-3 Inv-loop μ-loop
+first-sums-requires-3 c κs = fine (past-y (c .before)) 2 (omega arith) (c .curve3 .ensures)
 
 add-a-end : tie.Need-add-a-end Inv-loop μ-loop
-add-a-end c = omega (arith, start (divided c) .pre .1 .most)
+add-a-end c = omega (arith, start (past-z c) .pre .1 .most)
 
 loop-holds : tie.Need-loop-holds Inv-loop μ-loop
-loop-holds c = (omega arith, filled-start _ _)
+loop-holds c =
+    let y : tie.After-first-sums2 Inv-loop μ-loop = c .before .before in
+    let x : tie.After-first-sums Inv-loop μ-loop = y .before .before in
+    let patch = start (past-z c) .args .patch .now in
+    let hv = past-z c .before .weights .ensures in (
+      omega arith,
+      filled-start _ _,
+      sums-start patch _ _ 0 hv (x .before .curve .ensures) (x .first-sums .ensures),
+      sums-start patch _ _ 1 hv (y .before .curve2 .ensures) (y .first-sums2 .ensures),
+      sums-start patch _ _ 2 hv (c .before .curve3 .ensures) (c .first-sums3 .ensures),
+    )
 
-weights-requires-2 : tie.Need-weights-requires-2 Inv-loop μ-loop
-weights-requires-2 c κs = steps c
+array-copy-out-rounded-quotient : tie.Need-array-copy-out-rounded-quotient Inv-loop μ-loop
+array-copy-out-rounded-quotient c = omega arith
 
-on-curve-requires : tie.Need-on-curve-requires Inv-loop μ-loop
-on-curve-requires c κs = asked c 0 (omega arith) (curves (at-loop (passing c)) .before .before .curve .ensures)
+rounded-quotient-requires : tie.Need-rounded-quotient-requires Inv-loop μ-loop
+rounded-quotient-requires c κs = let p = c .before in asked p 0 (omega arith) (at-loop p .loop .inv .2)
 
 mul-line : tie.Need-mul-line Inv-loop μ-loop
-mul-line c = omega (arith, few (passing (c .before)))
+mul-line c = omega (arith, few (past-1 c))
 
 mul-line-2 : tie.Need-mul-line-2 Inv-loop μ-loop
 mul-line-2 c = search needs
 
 slice-set-from-line : tie.Need-slice-set-from-line Inv-loop μ-loop
-slice-set-from-line c = let w = c .before in omega (arith, room (passing w), same (at-loop (passing w)))
+slice-set-from-line c = let p = past-1 c in omega (arith, room p, same (at-loop p))
 
-on-curve-requires-2 : tie.Need-on-curve-requires-2 Inv-loop μ-loop
-on-curve-requires-2 c κs = let w = c .before in asked w 1 (omega arith) (curves (at-loop (passing w)) .before .curve2 .ensures)
+array-copy-out-rounded-quotient-2 : tie.Need-array-copy-out-rounded-quotient-2 Inv-loop μ-loop
+array-copy-out-rounded-quotient-2 c = omega arith
+
+rounded-quotient-requires-2 : tie.Need-rounded-quotient-requires-2 Inv-loop μ-loop
+rounded-quotient-requires-2 c κs = let p = past-1 (c .before) in asked p 1 (omega arith) (at-loop p .loop .inv .3)
 
 mul-line-3 : tie.Need-mul-line-3 Inv-loop μ-loop
-mul-line-3 c = omega (arith, few (passing (c .before .before)))
+mul-line-3 c = omega (arith, few (past-2 c))
 
 add-line : tie.Need-add-line Inv-loop μ-loop
-add-line c = omega (arith, few (passing (c .before .before)))
+add-line c = omega (arith, few (past-2 c))
 
 mul-line-4 : tie.Need-mul-line-4 Inv-loop μ-loop
 mul-line-4 c = search needs
 
 slice-set-from-line-2 : tie.Need-slice-set-from-line-2 Inv-loop μ-loop
-slice-set-from-line-2 c = let w = c .before .before in rw length-set (omega (arith, room (passing w), same (at-loop (passing w))))
+slice-set-from-line-2 c = let p = past-2 c in rw length-set (omega (arith, room p, same (at-loop p)))
 
-on-curve-requires-3 : tie.Need-on-curve-requires-3 Inv-loop μ-loop
-on-curve-requires-3 c κs = let w = c .before .before in asked w 2 (omega arith) (curves (at-loop (passing w)) .curve3 .ensures)
+array-copy-out-rounded-quotient-3 : tie.Need-array-copy-out-rounded-quotient-3 Inv-loop μ-loop
+array-copy-out-rounded-quotient-3 c = omega arith
 
-mul-t18 : tie.Need-mul-t18 Inv-loop μ-loop
-mul-t18 c = omega (arith, few (passing (last c)))
+rounded-quotient-requires-3 : tie.Need-rounded-quotient-requires-3 Inv-loop μ-loop
+rounded-quotient-requires-3 c κs = let p = past-2 (c .before) in asked p 2 (omega arith) (at-loop p .loop .inv .4)
 
-add-t15 : tie.Need-add-t15 Inv-loop μ-loop
-add-t15 c = omega (arith, few (passing (last c)))
+mul-t24 : tie.Need-mul-t24 Inv-loop μ-loop
+mul-t24 c = omega (arith, few (past-3 c))
 
-mul-t16 : tie.Need-mul-t16 Inv-loop μ-loop
-mul-t16 c = search needs
+add-t20 : tie.Need-add-t20 Inv-loop μ-loop
+add-t20 c = omega (arith, few (past-3 c))
+
+mul-t19 : tie.Need-mul-t19 Inv-loop μ-loop
+mul-t19 c = search needs
 
 slice-set-from-line-3 : tie.Need-slice-set-from-line-3 Inv-loop μ-loop
-slice-set-from-line-3 c = let w = last c in rw (length-set, length-set) (omega (arith, room (passing w), same (at-loop (passing w))))
+slice-set-from-line-3 c = let p = past-3 c in rw (length-set, length-set) (omega (arith, room p, same (at-loop p)))
+
+stepped-requires : tie.Need-stepped-requires Inv-loop μ-loop
+stepped-requires c κs = let p = past-3 c in tame p 0 (omega arith) (at-loop p .loop .inv .2)
+
+stepped-requires-2 : tie.Need-stepped-requires-2 Inv-loop μ-loop
+stepped-requires-2 c κs = let p = past-3 (c .before) in tame p 1 (omega arith) (at-loop p .loop .inv .3)
+
+stepped-requires-3 : tie.Need-stepped-requires-3 Inv-loop μ-loop
+stepped-requires-3 c κs = let p = past-3 (c .before .before) in tame p 2 (omega arith) (at-loop p .loop .inv .4)
 
 add-a : tie.Need-add-a Inv-loop μ-loop
-add-a c = omega (arith, few (passing (last c)))
+add-a c = omega (arith, few (past-3 (stored c)))
 
 loop-less : tie.Need-loop-less Inv-loop μ-loop
-loop-less c = omega (arith, passing (last c) .loop-test .taken)
+loop-less c = omega (arith, past-3 (stored c) .loop-test .taken)
 
 loop-again : tie.Need-loop-again Inv-loop μ-loop
 loop-again c =
-    let w = last c in
-    let p = passing w in
-    let l = at-loop p in (
+    let third = stored c in
+    let second : tie.After-rounded-quotient2 Inv-loop μ-loop = third .before .before in
+    let first : tie.After-rounded-quotient Inv-loop μ-loop = second .before .before in
+    let p = past-3 third in
+    let l = at-loop p in
+    let hx = l .loop .inv .2 in
+    let hy = l .loop .inv .3 in
+    let hz = l .loop .inv .4 in (
       omega (arith, p .loop-test .taken),
       filled-point _ (l .loop .a) _ _ (room p) (l .loop .inv .1)
-          (told w 0 (omega arith) (c .before .before .on-curve .ok) (curves l .before .before .curve .ensures) (c .before .before .on-curve .ensures))
-          (told w 1 (omega arith) (c .before .on-curve2 .ok) (curves l .before .curve2 .ensures) (c .before .on-curve2 .ensures))
-          (told w 2 (omega arith) (c .on-curve3 .ok) (curves l .curve3 .ensures) (c .on-curve3 .ensures)),
+          (told p 0 (omega arith) hx (first .rounded-quotient .ok) (first .rounded-quotient .ensures))
+          (told p 1 (omega arith) hy (second .rounded-quotient2 .ok) (second .rounded-quotient2 .ensures))
+          (told p 2 (omega arith) hz (third .rounded-quotient3 .ok) (third .rounded-quotient3 .ensures)),
+      next p 0 (omega arith) hx (c .before .before .stepped .ensures),
+      next p 1 (omega arith) hy (c .before .stepped2 .ensures),
+      next p 2 (omega arith) hz (c .stepped3 .ensures),
     )
 
 same-length : tie.Need-same-length Inv-loop μ-loop
@@ -197,25 +261,33 @@ write-points-spec =
     weights-requires
     divisor-requires
     curve-requires
+    first-sums-requires
     curve-requires-2
+    first-sums-requires-2
     curve-requires-3
+    first-sums-requires-3
     add-a-end
     loop-holds
-    weights-requires-2
-    on-curve-requires
+    array-copy-out-rounded-quotient
+    rounded-quotient-requires
     mul-line
     mul-line-2
     slice-set-from-line
-    on-curve-requires-2
+    array-copy-out-rounded-quotient-2
+    rounded-quotient-requires-2
     mul-line-3
     add-line
     mul-line-4
     slice-set-from-line-2
-    on-curve-requires-3
-    mul-t18
-    add-t15
-    mul-t16
+    array-copy-out-rounded-quotient-3
+    rounded-quotient-requires-3
+    mul-t24
+    add-t20
+    mul-t19
     slice-set-from-line-3
+    stepped-requires
+    stepped-requires-2
+    stepped-requires-3
     add-a
     loop-less
     loop-again

@@ -1,0 +1,48 @@
+-- A number of 64 bits as the machine reads it: which it is, and its size. Sums, differences and products fit where the sizes say so.
+use mathlib.Core.Path.{_≡_, ap₂, _∙_}
+use Prim.Native.Nat.{ℕ, _+_, _*_, _^_, _≤_, _<_}
+use native.Mathlib.Omega.{arith}
+use lib.IntN.{ℤ, pos, natAbs, _+ℤ_, _-ℤ_, _*ℤ_}
+use lib.Signed.{mag}
+use mir.Syntax.{w64}
+use mir.Val.{SFits, toZ, ofZ}
+use mir.Facts.{toZ-ofZ}
+use Rattle.integer.proofs.Laws.{abs-+, abs--, abs-*-≤, sfits-abs, sfits-+, read-back}
+
+abbrev pub read : ℤ → ℤ
+read z = toZ w64 (ofZ w64 z)
+
+-- what is read as x' is x, and at most X in size
+pub record Sized (x' x : ℤ) (X : ℕ) : Type 0 where
+  pub is : x' ≡ x
+  pub size : natAbs x ≤ X
+
+pub sized : (x : ℤ) {X : ℕ} → natAbs x ≤ X → X < 2 ^ 63 → Sized (read x) x X
+sized x p l = record { is = toZ-ofZ (sfits-abs x (omega arith)); size = p }
+
+module _ {x' y' x y : ℤ} {X Y : ℕ} (p : Sized x' x X) (q : Sized y' y Y) where
+  pub plus-fits : X + Y < 2 ^ 63 → SFits w64 (x' +ℤ y')
+  plus-fits l = rw (p .is, q .is) (sfits-+ x y (omega (arith, p .size, q .size)))
+
+  pub plus-sized : X + Y < 2 ^ 63 → Sized (read (x' +ℤ y')) (x +ℤ y) (X + Y)
+  plus-sized l = rw (p .is, q .is) (sized (x +ℤ y) (omega (arith, abs-+ x y, p .size, q .size)) l)
+
+  pub minus-fits : X + Y < 2 ^ 63 → SFits w64 (x' -ℤ y')
+  minus-fits l = rw (p .is, q .is) (sfits-abs (x -ℤ y) (omega (arith, abs-- x y, p .size, q .size)))
+
+  pub minus-sized : X + Y < 2 ^ 63 → Sized (read (x' -ℤ y')) (x -ℤ y) (X + Y)
+  minus-sized l = rw (p .is, q .is) (sized (x -ℤ y) (omega (arith, abs-- x y, p .size, q .size)) l)
+
+  -- a product with a weight of at most W, added
+  module _ (w W : ℕ) (v : w ≤ W) where
+    pub sum-fits : X + W * Y < 2 ^ 63 → SFits w64 (pos w *ℤ y') × SFits w64 (x' +ℤ pos w *ℤ y')
+    sum-fits l =
+        let product = abs-*-≤ (pos w) y v (q .size) in
+        rw (p .is, q .is) (sfits-abs (pos w *ℤ y) (omega (arith, product)), sfits-+ x (pos w *ℤ y) (omega (arith, product, p .size)))
+
+    pub sum-sized : {r : ℤ} → mag r < 2 ^ 63 → r ≡ x' +ℤ pos w *ℤ y' → Sized (read r) (x +ℤ pos w *ℤ y) (X + W * Y)
+    sum-sized ok e =
+        record {
+          is = read-back w64 ok (e ∙ ap₂ (λ (x y : ℤ). x +ℤ pos w *ℤ y) (p .is) (q .is));
+          size = omega (arith, abs-+ x (pos w *ℤ y), abs-*-≤ (pos w) y v (q .size), p .size);
+        }

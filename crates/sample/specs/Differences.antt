@@ -1,0 +1,39 @@
+-- What only the contracts of private functions cite: differences, and the sum along a curve as a cubic in a.
+--
+--   difference f a        the first difference: how much f grows from a to a + 1
+--   difference₂, difference₃   the second and the third: the first of the one before
+--   differencesAt f a     f at a, and its three differences there
+--   nextOf d              the same one place further, where the third difference stays
+--   Tame d                four numbers whose sums by two fit 64 bits
+--   cubic n h a           the sum of the values h 0 to h 3 of a curve by the weights of place a, in powers of a: so it goes on behind a = N
+use mathlib.Core.List.{List, [], _∷_}
+use Prim.Native.Nat.{ℕ, _+_, _*_, _^_, _≤_, _<_}
+use lib.IntN.{ℤ, pos, natAbs, _+ℤ_, _-ℤ_, _*ℤ_}
+use lib.ListN.{getD}
+
+abbrev pub difference : (ℕ → ℤ) → ℕ → ℤ
+difference f a = f (a + 1) -ℤ f a
+
+abbrev pub difference₂ : (ℕ → ℤ) → ℕ → ℤ
+difference₂ f = difference (difference f)
+
+abbrev pub difference₃ : (ℕ → ℤ) → ℕ → ℤ
+difference₃ f = difference (difference₂ f)
+
+abbrev pub differencesAt : (ℕ → ℤ) → ℕ → List ℤ
+differencesAt f a = f a ∷ (difference f a ∷ (difference₂ f a ∷ (difference₃ f a ∷ [])))
+
+abbrev pub nextOf : List ℤ → List ℤ
+nextOf d =
+    let at : ℕ → ℤ = λ i. getD d i (pos 0) in
+    (at 0 +ℤ at 1) ∷ ((at 1 +ℤ at 2) ∷ ((at 2 +ℤ at 3) ∷ (at 3 ∷ [])))
+
+pub record Tame (d : List ℤ) : Type 0 where
+  pub tame : (i : ℕ) → i < 4 → natAbs (getD d i (pos 0)) ≤ 2 ^ 61
+
+unfoldable pub cubic : ℕ → (ℕ → ℤ) → ℕ → ℤ
+cubic n h a =
+    pos (n * n * n) *ℤ h 0
+    +ℤ pos (3 * n * n * a) *ℤ difference h 0
+    +ℤ pos (3 * n * a * a) *ℤ difference₂ h 0
+    +ℤ pos (a * a * a) *ℤ difference₃ h 0

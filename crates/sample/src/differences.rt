@@ -1,0 +1,41 @@
+// Sums along a curve, from one place to the next by their differences: a cubic has a third difference that never changes.
+use crate::bernstein::add_product;
+ghost use mathlib.Core.Path.{_≡_};
+ghost use Prim.Native.Nat.{_≤_};
+ghost use lib.IntN.{pos};
+ghost use lib.ListN.{getD};
+ghost use Rattle.sample.specs.Refusal.{maxSteps};
+ghost use Rattle.sample.specs.Blend.{Fine};
+ghost use Rattle.sample.specs.Differences.{Tame, differencesAt, nextOf, cubic};
+
+// The first of four values, and its three differences.
+fn differences(values: [i64; 4]) -> [i64; 4]
+    requires { ⌜ Fine values ⌝ }
+    ensures { λ r. ⌜ r ≡ differencesAt (λ i. getD values i (pos 0)) 0 ⌝ }
+{
+    let p = values[1] - values[0];
+    let q = values[2] - values[1];
+    let r = values[3] - values[2];
+    [values[0], p, q - p, (r - q) - (q - p)]
+}
+
+// The sum along a curve at a = 0, and its three differences.
+pub(crate) fn first_sums(n: usize, curve: [i64; 4]) -> [i64; 4]
+    requires { ⌜ (n ≤ maxSteps) × Fine curve ⌝ }
+    ensures { λ r. ⌜ r ≡ differencesAt (cubic n (λ i. getD curve i (pos 0))) 0 ⌝ }
+{
+    let m = n as u32;
+    let d = differences(curve);
+    let third = add_product(0, 6, d[3]);
+    let second = add_product(third, 6 * m, d[2]);
+    let first = add_product(add_product(d[3], 3 * m, d[2]), 3 * m * m, d[1]);
+    [add_product(0, m * m * m, d[0]), first, second, third]
+}
+
+// A value and its three differences, one place further.
+pub(crate) fn stepped(d: [i64; 4]) -> [i64; 4]
+    requires { ⌜ Tame d ⌝ }
+    ensures { λ r. ⌜ r ≡ nextOf d ⌝ }
+{
+    [d[0] + d[1], d[1] + d[2], d[2] + d[3], d[3]]
+}
