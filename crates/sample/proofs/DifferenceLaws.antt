@@ -25,6 +25,14 @@ next-is f a e =
     (ap₂ _∷_ (grown (difference₂ f a) (difference₂ f (a + 1)))
     (ap₂ _∷_ e refl)))
 
+-- ---- the third difference, by the first and the last value
+pub third-is : (h : ℕ → ℤ) → (h 3 -ℤ h 0) -ℤ pos 3 *ℤ difference h 1 ≡ difference₃ h 0
+third-is h =
+    let p : Expr = int (h 1) ⊝ int (h 0) in
+    let q : Expr = int (h 2) ⊝ int (h 1) in
+    let r : Expr = int (h 3) ⊝ int (h 2) in
+    prove-eq ((int (h 3) ⊝ int (h 0)) ⊝ nat 3 ⊛ q) ((r ⊝ q) ⊝ (q ⊝ p)) (omega arith)
+
 -- ---- the size of differences
 module _ (h : ℕ → ℤ) (B : ℕ) (fine : (i : ℕ) → i < 4 → natAbs (h i) ≤ B) where
   pub first-size : (i : ℕ) → i < 3 → natAbs (difference h i) ≤ 2 * B
@@ -92,21 +100,22 @@ module _ (h : ℕ → ℤ) where
         (λ _. 0) (λ _. 0) (λ _. 0) (λ _. 6) a (omega arith) (omega arith) (omega arith) (omega arith)
 
     -- at a = 0
-    pub cubic-start : (let r = difference₂ h 0 in
-        let s = difference₃ h 0 in
+    pub cubic-start : (let half = pos 0 +ℤ pos (3 * n) *ℤ difference₂ h 0 in
+        let third = pos 0 +ℤ pos 6 *ℤ difference₃ h 0 in
         differencesAt (cubic n h) 0
         ≡ (pos 0 +ℤ pos (n * n * n) *ℤ h 0)
-        ∷ ((s +ℤ pos (3 * n) *ℤ r +ℤ pos (3 * n * n) *ℤ difference h 0) ∷ ((pos 0 +ℤ pos 6 *ℤ s +ℤ pos (6 * n) *ℤ r) ∷ ((pos 0 +ℤ pos 6 *ℤ s) ∷ []))))
+        ∷ ((half +ℤ difference₃ h 0 +ℤ pos (3 * n * n) *ℤ difference h 0) ∷ ((third +ℤ pos 2 *ℤ half) ∷ (third ∷ []))))
     unfolding cubic
     cubic-start =
-        let p : Expr = int (h 0) in
-        let q : Expr = int (difference h 0) in
-        let r : Expr = int (difference₂ h 0) in
-        let s : Expr = int (difference₃ h 0) in
-        ap₂ _∷_ (prove-eq (combined-expr (n * n * n) (3 * n * n * 0) (3 * n * 0 * 0) (0 * 0 * 0)) (nat 0 ⊕ nat (n * n * n) ⊛ p) (omega arith))
-        (ap₂ _∷_ (cubic-first 0 ∙ prove-eq (combined-expr 0 (3 * n * n) (3 * n * (2 * 0 + 1)) (3 * 0 * 0 + 3 * 0 + 1)) (s ⊕ nat (3 * n) ⊛ r ⊕ nat (3 * n * n) ⊛ q) (omega arith))
-        (ap₂ _∷_ (cubic-second 0 ∙ prove-eq (combined-expr 0 0 (6 * n) (6 * (0 + 1))) (nat 0 ⊕ nat 6 ⊛ s ⊕ nat (6 * n) ⊛ r) (omega arith))
-        (ap₂ _∷_ (cubic-third 0 ∙ prove-eq (combined-expr 0 0 0 6) (nat 0 ⊕ nat 6 ⊛ s) (omega arith)) refl)))
+        let half : Expr = nat 0 ⊕ nat (3 * n) ⊛ int (difference₂ h 0) in
+        let third : Expr = nat 0 ⊕ nat 6 ⊛ int (difference₃ h 0) in
+        let value = prove-eq (combined-expr (n * n * n) (3 * n * n * 0) (3 * n * 0 * 0) (0 * 0 * 0)) (nat 0 ⊕ nat (n * n * n) ⊛ int (h 0)) (omega arith) in
+        let first =
+        prove-eq (combined-expr 0 (3 * n * n) (3 * n * (2 * 0 + 1)) (3 * 0 * 0 + 3 * 0 + 1))
+        (half ⊕ int (difference₃ h 0) ⊕ nat (3 * n * n) ⊛ int (difference h 0)) (omega arith) in
+        let second = prove-eq (combined-expr 0 0 (6 * n) (6 * (0 + 1))) (third ⊕ nat 2 ⊛ half) (omega arith) in
+        let last = prove-eq (combined-expr 0 0 0 6) third (omega arith) in
+        ap₂ _∷_ value (ap₂ _∷_ (cubic-first 0 ∙ first) (ap₂ _∷_ (cubic-second 0 ∙ second) (ap₂ _∷_ (cubic-third 0 ∙ last) refl)))
 
     pub cubic-next : (a : ℕ) → nextOf (differencesAt (cubic n h) a) ≡ differencesAt (cubic n h) (a + 1)
     cubic-next a = next-is (cubic n h) a (cubic-third a ∙ sym (cubic-third (a + 1)))

@@ -20,6 +20,13 @@ pub record Sized (x' x : ℤ) (X : ℕ) : Type 0 where
 pub sized : (x : ℤ) {X : ℕ} → natAbs x ≤ X → X < 2 ^ 63 → Sized (read x) x X
 sized x p l = record { is = toZ-ofZ (sfits-abs x (omega arith)); size = p }
 
+module _ (w : ℕ) {x' x : ℤ} {X : ℕ} (p : Sized x' x X) where
+  pub times-fits : w * X < 2 ^ 63 → SFits w64 (pos w *ℤ x')
+  times-fits l = rw (p .is) (sfits-abs (pos w *ℤ x) (omega (arith, abs-*-≤ (pos w) x {A = w} (omega arith) (p .size))))
+
+  pub times-sized : w * X < 2 ^ 63 → Sized (read (pos w *ℤ x')) (pos w *ℤ x) (w * X)
+  times-sized l = rw (p .is) (sized (pos w *ℤ x) (abs-*-≤ (pos w) x (omega arith) (p .size)) l)
+
 module _ {x' y' x y : ℤ} {X Y : ℕ} (p : Sized x' x X) (q : Sized y' y Y) where
   pub plus-fits : X + Y < 2 ^ 63 → SFits w64 (x' +ℤ y')
   plus-fits l = rw (p .is, q .is) (sfits-+ x y (omega (arith, p .size, q .size)))

@@ -15,8 +15,7 @@ fn differences(values: [i64; 4]) -> [i64; 4]
 {
     let p = values[1] - values[0];
     let q = values[2] - values[1];
-    let r = values[3] - values[2];
-    [values[0], p, q - p, (r - q) - (q - p)]
+    [values[0], p, q - p, values[3] - values[0] - 3 * q]
 }
 
 // The sum along a curve at a = 0, and its three differences.
@@ -26,10 +25,15 @@ pub(crate) fn first_sums(n: usize, curve: [i64; 4]) -> [i64; 4]
 {
     let m = n as u32;
     let d = differences(curve);
+    let half = add_product(0, 3 * m, d[2]);
+    let first = add_product(half + d[3], 3 * m * m, d[1]);
     let third = add_product(0, 6, d[3]);
-    let second = add_product(third, 6 * m, d[2]);
-    let first = add_product(add_product(d[3], 3 * m, d[2]), 3 * m * m, d[1]);
-    [add_product(0, m * m * m, d[0]), first, second, third]
+    [
+        add_product(0, m * m * m, d[0]),
+        first,
+        add_product(third, 2, half),
+        third,
+    ]
 }
 
 // A value and its three differences, one place further.

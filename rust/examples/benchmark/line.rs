@@ -13,8 +13,9 @@ pub const PLACES: usize = 3 * (*STEPS.end() + 1);
 #[inline(always)]
 fn first_sums(n: usize, [w, x, y, z]: [i64; 4]) -> [i64; 4] {
     let n = n as i64;
-    let (first, second, third) = (x - w, (y - x) - (x - w), ((z - y) - (y - x)) - ((y - x) - (x - w)));
-    [n * n * n * w, third + 3 * n * second + 3 * n * n * first, 6 * third + 6 * n * second, 6 * third]
+    let (first, gap) = (x - w, y - x);
+    let (half, third) = (3 * n * (gap - first), z - w - 3 * gap);
+    [n * n * n * w, half + third + 3 * n * n * first, 6 * third + 2 * half, 6 * third]
 }
 
 /// A sum and its three differences, one place further.
@@ -42,13 +43,14 @@ pub fn sample_line<'a, A: Access>(
     }
     let line = A::part_mut(line, 0, places);
     let (v, divisor) = (weights(n, b), divisor(n));
-    let first_sums = |k| first_sums(n, [0, 1, 2, 3].map(|i| column::<A>(patch, k, v, i)));
-    let mut sums = [first_sums(0), first_sums(1), first_sums(2)];
+    let column = |k, i| column::<A>(patch, k, v, i);
+    let first_sums = |k| first_sums(n, [column(k, 0), column(k, 1), column(k, 2), column(k, 3)]);
+    let (mut x, mut y, mut z) = (first_sums(0), first_sums(1), first_sums(2));
     for a in 0..=n {
-        for (k, sum) in sums.into_iter().enumerate() {
-            *A::at(line, 3 * a + k) = round(sum[0], divisor) as i32;
-        }
-        sums = sums.map(stepped);
+        *A::at(line, 3 * a) = round(x[0], divisor) as i32;
+        *A::at(line, 3 * a + 1) = round(y[0], divisor) as i32;
+        *A::at(line, 3 * a + 2) = round(z[0], divisor) as i32;
+        (x, y, z) = (stepped(x), stepped(y), stepped(z));
     }
     Ok(line.as_chunks().0)
 }

@@ -1,12 +1,13 @@
 -- `differences` meets its contract: the values are at most 2 ^ 45, so that their differences fit.
-use mathlib.Core.Path.{refl, ap₂}
+use mathlib.Core.Path.{refl, ap₂, _∙_}
 use mathlib.Core.List.{_∷_}
-use Prim.Native.Nat.{ℕ, _+_, _^_, _<_}
+use Prim.Native.Nat.{ℕ, _+_, _*_, _^_, _<_}
 use native.Mathlib.Omega.{arith}
-use lib.IntN.{ℤ, pos, _-ℤ_}
+use lib.IntN.{ℤ, pos, _-ℤ_, _*ℤ_}
 use lib.ListN.{getD}
-use Rattle.sample.specs.Differences.{difference, difference₂}
-use Rattle.sample.proofs.SizedLaws.{read, Sized, sized, minus-fits, minus-sized}
+use Rattle.sample.specs.Differences.{difference}
+use Rattle.sample.proofs.SizedLaws.{read, Sized, sized, times-fits, times-sized, minus-fits, minus-sized}
+use Rattle.sample.proofs.DifferenceLaws.{third-is}
 use Rattle.sample.proofs.differences.differences.Statement.{statement}
 use Rattle.sample.proofs.differences.differences.Tie as tie
 
@@ -21,9 +22,11 @@ module _ (s : tie.Start) where
   first : (i : ℕ) → i < 3 → Sized (read (read (at (i + 1)) -ℤ read (at i))) (difference at i) (2 ^ 46)
   first i l = minus-sized (value (i + 1) (omega arith)) (value i (omega arith)) (omega arith)
 
-  second : (i : ℕ) → i < 2
-      → Sized (read (read (read (at (i + 1 + 1)) -ℤ read (at (i + 1))) -ℤ read (read (at (i + 1)) -ℤ read (at i)))) (difference₂ at i) (2 ^ 47)
-  second i l = minus-sized (first (i + 1) (omega arith)) (first i (omega arith)) (omega arith)
+  span : Sized (read (read (at 3) -ℤ read (at 0))) (at 3 -ℤ at 0) (2 ^ 46)
+  span = minus-sized (value 3 (omega arith)) (value 0 (omega arith)) (omega arith)
+
+  thrice : Sized (read (pos 3 *ℤ read (read (at 2) -ℤ read (at 1)))) (pos 3 *ℤ difference at 1) (3 * 2 ^ 46)
+  thrice = times-sized 3 (first 1 (omega arith)) (omega arith)
 
 -- ---- the way back from each difference
 abbrev start : tie.After-p2 → tie.Start
@@ -32,8 +35,8 @@ start c = c .before .before
 abbrev start-2 : tie.After-q2 → tie.Start
 start-2 c = start (c .before .before)
 
-abbrev start-3 : tie.After-r2 → tie.Start
-start-3 c = start-2 (c .before .before)
+abbrev start-3 : tie.After-t22 → tie.Start
+start-3 c = start-2 (c .before .before .before)
 
 -- ---- the answers, in the order of the code
 array-copy-out-p : tie.Need-array-copy-out-p
@@ -54,37 +57,34 @@ array-copy-out-q-2 c = omega arith
 sub-q : tie.Need-sub-q
 sub-q c = let s = start-2 c in minus-fits (value s 2 (omega arith)) (value s 1 (omega arith)) (omega arith)
 
-array-copy-out-r : tie.Need-array-copy-out-r
-array-copy-out-r c = omega arith
+array-copy-out-t7 : tie.Need-array-copy-out-t7
+array-copy-out-t7 c = omega arith
 
-array-copy-out-r-2 : tie.Need-array-copy-out-r-2
-array-copy-out-r-2 c = omega arith
+sub-t10 : tie.Need-sub-t10
+sub-t10 c = let s = start-2 (c .before) in minus-fits (first s 1 (omega arith)) (first s 0 (omega arith)) (omega arith)
 
-sub-r : tie.Need-sub-r
-sub-r c = let s = start-3 c in minus-fits (value s 3 (omega arith)) (value s 2 (omega arith)) (omega arith)
+array-copy-out-t19 : tie.Need-array-copy-out-t19
+array-copy-out-t19 c = omega arith
 
-array-copy-out-t8 : tie.Need-array-copy-out-t8
-array-copy-out-t8 c = omega arith
-
-sub-t11 : tie.Need-sub-t11
-sub-t11 c = let s = start-3 (c .before) in minus-fits (first s 1 (omega arith)) (first s 0 (omega arith)) (omega arith)
-
-sub-t22 : tie.Need-sub-t22
-sub-t22 c = let s = start-3 (c .before) in minus-fits (first s 2 (omega arith)) (first s 1 (omega arith)) (omega arith)
+array-copy-out-t22 : tie.Need-array-copy-out-t22
+array-copy-out-t22 c = omega arith
 
 sub-t23 : tie.Need-sub-t23
-sub-t23 c = sub-t11 c
+sub-t23 c = let s = start-3 c in minus-fits (value s 3 (omega arith)) (value s 0 (omega arith)) (omega arith)
 
-sub-t24 : tie.Need-sub-t24
-sub-t24 c = let s = start-3 (c .before) in minus-fits (second s 1 (omega arith)) (second s 0 (omega arith)) (omega arith)
+mul-t24 : tie.Need-mul-t24
+mul-t24 c = times-fits 3 (first (start-3 c) 1 (omega arith)) (omega arith)
+
+sub-t25 : tie.Need-sub-t25
+sub-t25 c = let s = start-3 c in minus-fits (span s) (thrice s) (omega arith)
 
 returns : tie.Need-returns
 returns c =
-    let s = start-3 (c .before) in
+    let s = start-3 c in
     ap₂ _∷_ (value s 0 (omega arith) .is)
     (ap₂ _∷_ (first s 0 (omega arith) .is)
-    (ap₂ _∷_ (second s 0 (omega arith) .is)
-    (ap₂ _∷_ (minus-sized (second s 1 (omega arith)) (second s 0 (omega arith)) (omega arith) .is) refl)))
+    (ap₂ _∷_ (minus-sized (first s 1 (omega arith)) (first s 0 (omega arith)) (omega arith) .is)
+    (ap₂ _∷_ (minus-sized (span s) (thrice s) (omega arith) .is ∙ third-is (at s)) refl)))
 
 pub differences-spec : {M : Type 1} → statement M
 differences-spec =
@@ -96,12 +96,11 @@ differences-spec =
     array-copy-out-q
     array-copy-out-q-2
     sub-q
-    array-copy-out-r
-    array-copy-out-r-2
-    sub-r
-    array-copy-out-t8
-    sub-t11
-    sub-t22
+    array-copy-out-t7
+    sub-t10
+    array-copy-out-t19
+    array-copy-out-t22
     sub-t23
-    sub-t24
+    mul-t24
+    sub-t25
     returns)

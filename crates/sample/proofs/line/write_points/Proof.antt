@@ -40,7 +40,7 @@ module _ (c : tie.After-divisor Inv-loop μ-loop) where
   v = c .before .weights .result
 
   v-light : Light v
-  v-light = subst Light (sym (c .before .weights .ensures)) (weights-light (start .pre .1))
+  v-light = subst Light (sym (c .before .weights .ensures)) (weights-light (steps-at (start .pre .1) _ (omega (arith, start .pre .1 .within))))
 
   fine : (k : ℕ) → k < 3 → {curve : List ℤ} → curve ≡ listBelow (λ i. blended v (λ j. controlOf (start .args .patch .now) k (i + 4 * j))) 4
       → (start .args .n ≤ maxSteps) × Fine curve
