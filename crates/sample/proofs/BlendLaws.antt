@@ -49,10 +49,10 @@ pub list-of-four : {A : Type 0} (f : ℕ → A) {w x y z : A} → w ≡ f 0 → 
 unfolding listBelow
 list-of-four f p q r s = ap₂ _∷_ p (ap₂ _∷_ q (ap₂ _∷_ r (ap₂ _∷_ s refl)))
 
-pub blended-values : (weights : List ℕ) (h : ℕ → ℤ) {values : List ℤ} → values ≡ listBelow h 4
-    → blended weights (λ i. getD values i (pos 0)) ≡ blended weights h
+pub blended-list : (weights : List ℕ) (h : ℕ → ℤ) {values : List ℤ} {r : ℤ} → values ≡ listBelow h 4
+    → r ≡ blended weights (λ i. getD values i (pos 0)) → r ≡ blended weights h
 unfolding foldBelow listBelow
-blended-values weights h e = ap (λ (xs : List ℤ). blended weights (λ i. getD xs i (pos 0))) e
+blended-list weights h e q = q ∙ ap (λ (xs : List ℤ). blended weights (λ i. getD xs i (pos 0))) e
 
 -- ---- another place of the same N
 pub steps-at : {n b : ℕ} → Steps n b → (a : ℕ) → a ≤ n → Steps n a

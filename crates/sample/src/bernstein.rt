@@ -94,21 +94,13 @@ pub(crate) fn rounded_quotient(sum: i64, divisor: u32) -> i32
     integer::round(sum, divisor) as i32
 }
 
-// The coordinate of the sample that four blended values stand for: blended along u too, and rounded once.
-fn on_curve(u: [u32; 4], curve: [i64; 4], divisor: u32) -> i32
-    requires { ⌜ Light u × Fine curve × Mean (blended u (λ i. getD curve i (pos 0))) divisor ⌝ }
-    ensures { λ r. ⌜ r ≡ nearest (blended u (λ i. getD curve i (pos 0))) divisor ⌝ }
-{
-    rounded_quotient(blend(u, curve), divisor)
-}
-
-// Coordinate k of the sample.
+// Coordinate k of the sample: blended along u too, and rounded once.
 fn coordinate(patch: &[i32], k: usize, u: [u32; 4], v: [u32; 4], divisor: u32) -> i32
     requires { ⌜ Small (now patch) × (k < 3) × Light u × Light v ⌝ }
     requires { ⌜ Mean (blendedTwice u v (controlOf (now patch) k)) divisor ⌝ }
     ensures { λ r. ⌜ r ≡ nearest (blendedTwice u v (controlOf (now (patch .entry)) k)) divisor ⌝ }
 {
-    on_curve(u, curve(patch, k, v), divisor)
+    rounded_quotient(blend(u, curve(patch, k, v)), divisor)
 }
 
 // The point of the patch at (a, b).

@@ -1,5 +1,5 @@
 -- `curve` meets its contract: the four columns are small, so that they can be blended, and the four sums are the curve.
-use mathlib.Core.Path.{_≡_, sym, _∙_, subst}
+use mathlib.Core.Path.{_≡_, sym, subst}
 use mathlib.Core.List.{List}
 use Prim.Native.Nat.{ℕ, _+_, _*_, _<_}
 use native.Mathlib.Omega.{arith}
@@ -8,7 +8,7 @@ use mir.Syntax.{w64}
 use Rattle.integer.proofs.Laws.{read-back}
 use Rattle.finite.specs.Filled.{listBelow}
 use Rattle.sample.specs.Blend.{controlOf, Light, Fine}
-use Rattle.sample.proofs.BlendLaws.{list-of-four, blended-values, column-fine}
+use Rattle.sample.proofs.BlendLaws.{list-of-four, blended-list, column-fine}
 use Rattle.sample.proofs.bernstein.curve.Statement.{statement}
 use Rattle.sample.proofs.bernstein.curve.Tie as tie
 
@@ -59,10 +59,10 @@ returns c =
     let r = q .before .before in
     let v = r .before .before .args .v in
     list-of-four _
-    (read-back w64 (r .blend .ok) (r .blend .ensures ∙ blended-values v _ (r .before .column .ensures)))
-    (read-back w64 (q .blend2 .ok) (q .blend2 .ensures ∙ blended-values v _ (q .before .column2 .ensures)))
-    (read-back w64 (p .blend3 .ok) (p .blend3 .ensures ∙ blended-values v _ (p .before .column3 .ensures)))
-    (read-back w64 (c .blend4 .ok) (c .blend4 .ensures ∙ blended-values v _ (c .before .column4 .ensures)))
+    (read-back w64 (r .blend .ok) (blended-list v _ (r .before .column .ensures) (r .blend .ensures)))
+    (read-back w64 (q .blend2 .ok) (blended-list v _ (q .before .column2 .ensures) (q .blend2 .ensures)))
+    (read-back w64 (p .blend3 .ok) (blended-list v _ (p .before .column3 .ensures) (p .blend3 .ensures)))
+    (read-back w64 (c .blend4 .ok) (blended-list v _ (c .before .column4 .ensures) (c .blend4 .ensures)))
 
 pub curve-spec : {M : Type 1} → statement M
 curve-spec =
