@@ -23,7 +23,7 @@ use Rattle.mesh.specs.HalfEdge.{edges, boundaries, Simple}
 use Rattle.mesh.specs.Fan.{valence, onBoundary, fan}
 use Rattle.mesh.specs.IndexedMesh.{IndexedMesh, corners, at, tag, coordinate}
 use Rattle.mesh.specs.Refusal.{meshSizesOff, coordinateOff, tagOff, vertexOff, vertexTwice, halfEdgeTwice}
-use Rattle.mesh.specs.Refusal.{vertexUnused, fanBroken, valenceOff, innerTagged, entryRows, earlyRows, lateRows, Accepted}
+use Rattle.mesh.specs.Refusal.{vertexUnused, fanBroken, valenceOff, innerTagged, entryRows, earlyRows, fanRows, lateRows, Accepted}
 use Rattle.mesh.specs.WellFormed.{Sized, WellFormed}
 use Rattle.mesh.proofs.TwinLaws.{doubled-simple, simple-doubled}
 use Rattle.mesh.proofs.SizeLaws.{mesh-sizes-false}
@@ -186,6 +186,13 @@ early-unmet M own early =
     let h₆ = none-met (vertexTwice M) 6 _ (h₅ .1) in
     let h₇ = none-met (halfEdgeTwice M) 7 _ (h₆ .1) in
     record { sizes = h₁ .0; rows = h₂ .0; coordinate = h₃ .0; tag = h₄ .0; vertex = h₅ .0; twice = h₆ .0; half-edge = h₇ .0 }
+
+-- where no row of the fans is met, the corners at every vertex form one
+pub fans-unmet : (at : ℕ → ℕ) (n v : ℕ) → firstMet (fanRows at n v) ≡ none → (p : ℕ) → p < v → fan at n p ≡ true
+fans-unmet at n v e =
+    let h₈ = none-met (vertexUnused at n v) 8 _ e in
+    let h₉ = none-met (fanBroken at n v) 9 _ (h₈ .1) in
+    fan-false at n v (h₉ .0)
 
 pub accepted-from : (M : IndexedMesh) (own : List Row) → firstMet (earlyRows M own) ≡ none → firstMet (lateRows M) ≡ none → WellFormed M
 accepted-from M own early late =

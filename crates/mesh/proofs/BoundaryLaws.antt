@@ -4,8 +4,8 @@
 --   One at n p t             exactly one corner at p has t
 --   InnerVertex at n p       no boundary half-edge leaves or enters p
 --   BoundaryVertex at n p    exactly one leaves p, and exactly one enters it
-use mathlib.Core.Path.{_≡_, sym, ap, _∙_}
-use mathlib.Core.Bool.{Bool, true, false, true≢false}
+use mathlib.Core.Path.{_≡_, refl, sym, ap, _∙_, subst}
+use mathlib.Core.Bool.{Bool, true, false, not, cond, true≢false}
 use mathlib.Core.Logic.{_⊎_, inl, inr, ⊎-elim}
 use mathlib.Mathlib.Data.Bool.Basic.{eq-false-of-not-eq-true}
 use Prim.Native.Nat.{ℕ, zero, suc, _<_}
@@ -19,12 +19,12 @@ use Rattle.mesh.specs.HalfEdge.{twin, boundary, Simple}
 use Rattle.mesh.specs.Fan.{anyAt, valence, onBoundary, around, iterate, fan}
 use Rattle.mesh.proofs.CornerLaws.{next-below, not-none}
 use Rattle.mesh.proofs.TwinLaws.{twin-cases}
-use Rattle.mesh.proofs.CirculationLaws.{Turning, around-in, back-none, back-some}
+use Rattle.mesh.proofs.CirculationLaws.{Turning, around-in, back-none, back-some, steps-keep, around-ext}
 use Rattle.mesh.proofs.VertexLaws.{any-at-hit, any-at-none, any-at-false}
-use Rattle.mesh.proofs.TurnLaws.{Covers, turn-first, turn-at}
-use Rattle.mesh.proofs.FanLaws.{fan-turning, fan-keeps, fan-means}
+use Rattle.mesh.proofs.TurnLaws.{Covers, turn-first, turn-at, turn-covers}
+use Rattle.mesh.proofs.FanLaws.{fan-turn, fan-turning, fan-keeps, fan-means}
 use Rattle.mesh.specs.Tables.{Corners}
-use Rattle.mesh.specs.Circulation.{backAround, Turn}
+use Rattle.mesh.specs.Circulation.{backAround, Turn, Run}
 
 pub record One (at : ℕ → ℕ) (n p : ℕ) (t : ℕ → Bool) : Type 0 where
   pub corner : ℕ
@@ -70,11 +70,11 @@ module _ {n : ℕ} (at : ℕ → ℕ) (k : Corners n) (simple : Simple at n) whe
   b = backAround (twin at n) n
 
   -- a half-edge that leaves is boundary exactly when no corner is before its corner, and one that enters when none is after it
-  leaves : (c : ℕ) → c < n → boundary at n c ≡ true → b c ≡ noTwin
+  pub leaves : (c : ℕ) → c < n → boundary at n c ≡ true → b c ≡ noTwin
   unfolding boundary
   leaves c l e = back-none (twin at n) n c l (eqb-true (twin at n c) noTwin e)
 
-  leaves-back : (c : ℕ) → c < n → b c ≡ noTwin → boundary at n c ≡ true
+  pub leaves-back : (c : ℕ) → c < n → b c ≡ noTwin → boundary at n c ≡ true
   unfolding boundary
   leaves-back c l e =
       ⊎-elim
@@ -84,11 +84,11 @@ module _ {n : ℕ} (at : ℕ → ℕ) (k : Corners n) (simple : Simple at n) whe
       (λ w. eq-eqb (twin at n c) noTwin (w .0))
       (twin-cases at n c)
 
-  enters : (c : ℕ) → c < n → boundary at n (prev c) ≡ true → s c ≡ noTwin
+  pub enters : (c : ℕ) → c < n → boundary at n (prev c) ≡ true → s c ≡ noTwin
   unfolding boundary
   enters c l e = around-in (twin at n) n c l ∙ eqb-true (twin at n (prev c)) noTwin e
 
-  enters-back : (c : ℕ) → c < n → s c ≡ noTwin → boundary at n (prev c) ≡ true
+  pub enters-back : (c : ℕ) → c < n → s c ≡ noTwin → boundary at n (prev c) ≡ true
   unfolding boundary
   enters-back c l e = eq-eqb (twin at n (prev c)) noTwin (sym (around-in (twin at n) n c l) ∙ e)
 
@@ -164,3 +164,32 @@ module _ {n : ℕ} (at : ℕ → ℕ) (k : Corners n) (simple : Simple at n) whe
   unfolding onBoundary
   boundary-vertex p f e =
       ⊎-elim (λ w. absurd (true≢false (sym e ∙ any-at-none at n p (boundary at n) (w .leaving)))) (λ w. w) (fan-boundary p f)
+
+  -- ---- whether the walk on from one corner comes back to it
+  run-inner : (c m : ℕ) → fan at n (at c) ≡ true → Run s n c (suc m) c → InnerVertex at n (at c)
+  unfolding fan iterate
+  run-inner c m f r =
+      let t : Turn s b n c (suc m) = record { some = r .some; inside = r .inside; apart = r .apart; ends = inl (r .ends) } in
+      let all = eqb-true (suc m) (valence at n (at c)) (sym (fan-turn (fan-turning at k simple) at (fan-keeps at k simple) c (suc m) t) ∙ f) in
+      inner (at c) c m refl t (turn-covers (fan-turning at k simple) c (suc m) t at (fan-keeps at k simple) all) (r .ends)
+
+  run-enters : (c m : ℕ) → Run s n c (suc m) noTwin → anyAt at n (at c) (λ d. boundary at n (prev d)) ≡ true
+  unfolding iterate
+  run-enters c m r =
+      let last = r .inside m (omega arith) in
+      any-at-hit at n (at c) (λ d. boundary at n (prev d)) (iterate s m c) last
+      (steps-keep (fan-keeps at k simple) c m (λ j l. r .inside j (omega arith)))
+      (enters-back (iterate s m c) last (r .ends))
+
+  -- the corners at the vertex of c form a fan: it is on the boundary exactly when the walk on from c does not come back to c
+  pub run-boundary : (c m : ℕ) (closed : Bool) → fan at n (at c) ≡ true → Run s n c m (cond closed c noTwin) → not closed ≡ onBoundary at n (at c)
+  unfolding onBoundary
+  run-boundary c zero closed f r = absurd (not-suc-le-zero (r .some))
+  run-boundary c (suc m) true f r = sym (any-at-none at n (at c) (boundary at n) (run-inner c m f r .leaving))
+  run-boundary c (suc m) false f r = sym (boundary-entering (at c) f ∙ run-enters c m r)
+
+  -- the same with a table of the twins
+  pub table-boundary : (tw : ℕ → ℕ) → ((c : ℕ) → c < n → tw c ≡ twin at n c)
+      → (c m : ℕ) (closed : Bool) → fan at n (at c) ≡ true → Run (around tw n) n c m (cond closed c noTwin) → not closed ≡ onBoundary at n (at c)
+  table-boundary tw holds c m closed f r =
+      run-boundary c m closed f (subst (λ (t : ℕ → ℕ). Run t n c m (cond closed c noTwin)) (around-ext k holds) r)

@@ -133,6 +133,13 @@ module _ {n : ℕ} {s b : ℕ → ℕ} (g : Turning s b n) where
   pub step-injective : (c d : ℕ) → c < n → d < n → s c ≡ s d → s c < n → c ≡ d
   step-injective c d a q e h = sym (g .back c a h) ∙ ap b e ∙ g .back d q (rw e at h)
 
+-- steps among the corners stay at the vertex
+pub steps-keep : {s at : ℕ → ℕ} {n : ℕ} → Keeps s at n → (o i : ℕ) → ((j : ℕ) → j ≤ i → iterate s j o < n) → at (iterate s i o) ≡ at o
+unfolding iterate
+steps-keep keeps o zero inside = refl
+steps-keep {s} keeps o (suc i) inside =
+    keeps (iterate s i o) (inside i (omega arith)) (inside (suc i) (omega arith)) ∙ steps-keep keeps o i (λ j l. inside j (omega arith))
+
 -- ---- twins that are the same for each corner
 module _ {n : ℕ} (k : Corners n) {tw tw′ : ℕ → ℕ} (same : (c : ℕ) → c < n → tw c ≡ tw′ c) where
   pub around-ext : around tw n ≡ around tw′ n

@@ -47,6 +47,17 @@ module _ (s at : ℕ → ℕ) (n p : ℕ) where
       let w = cover d k q in
       any-hit (λ i. eqb (iterate s i c) d) (valence at n p) (w .0) (w .1) (eq-eqb (iterate s (w .0) c) d (w .2))))
 
+  -- a fan has corners
+  fanBy-some : fanBy s at n p ≡ true → 0 < valence at n p
+  fanBy-some h =
+      let w = fan-covers h in
+      let i = w .3 (w .0) (w .1) (w .2) in
+      omega (arith, i .1)
+
+pub fan-some : (at : ℕ → ℕ) (n p : ℕ) → fan at n p ≡ true → 0 < valence at n p
+unfolding fan
+fan-some at n p = fanBy-some (around (twin at n) n) at n p
+
 pub record OneTurn (s b at : ℕ → ℕ) (n p : ℕ) : Type 0 where
   pub first : ℕ
   pub here : at first ≡ p

@@ -5,6 +5,8 @@ pub mod CirculationLaws
 pub mod FanLaws
 pub mod WalkLaws
 pub mod BoundaryLaws
+pub mod ConnectedLaws
+pub mod MetLaws
 pub mod EdgeLaws
 pub mod SizeLaws
 pub mod ChainLaws

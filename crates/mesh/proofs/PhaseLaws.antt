@@ -1,6 +1,6 @@
 -- From the phases of the check to its answer: the first cause met, what the tables say of a cause, and what passed phases give.
-use mathlib.Core.Path.{_≡_, sym, ap, ap₂, _∙_}
-use mathlib.Core.Bool.{Bool, false, not, cond, _&&_, _||_}
+use mathlib.Core.Path.{_≡_, sym, ap, _∙_}
+use mathlib.Core.Bool.{false, not, cond, _||_}
 use mathlib.Core.List.{List, [], _++_}
 use mathlib.Core.Option.{Option, none, some}
 use Prim.Native.Nat.{ℕ, _+_, _*_, _≤_, _<_}
@@ -14,8 +14,7 @@ use Rattle.finite.specs.Filled.{filled}
 use Rattle.finite.proofs.FoldLaws.{bool-cases, fold-ext}
 use Rattle.finite.specs.Table.{Row, firstMet, result, refusal, answerBy, refusalOf}
 use Rattle.finite.proofs.TableLaws.{refusal-some, met-here, skipped, orElse, orElse-assoc, first-append, some-append, none-append}
-use Rattle.limits.specs.Limits.{maxVertices, noTwin, cornerTag}
-use Rattle.limits.specs.Range.{valenceBad}
+use Rattle.limits.specs.Limits.{maxVertices, noTwin}
 use Rattle.corner.specs.Corner.{next}
 use Rattle.mesh.specs.HalfEdge.{twin, edges, boundaries, Simple}
 use Rattle.mesh.specs.IndexedMesh.{IndexedMesh, corners, at}
@@ -27,30 +26,21 @@ use Rattle.mesh.proofs.EdgeLaws.{edges-lead, edges-twice}
 use Rattle.mesh.proofs.AcceptedLaws.{early-unmet, vertex-false, twice-false, half-edge-false}
 use Rattle.mesh.specs.Tables.{Holds, vertexOf, twinOf, Indices, Counted}
 
--- ---- what a table by vertex says of a cause, of the first v vertices
-module _ (v : ℕ) (few : v ≤ maxVertices) (valences : List ℕ) (m : ℕ → ℕ) (h : Holds 0 valences maxVertices m) where
-  pub unused-table : anyBelow (λ p. eqb (getD valences p 0) 0) v ≡ anyBelow (λ p. eqb (m p) 0) v
-  unused-table = fold-ext false _||_ v (λ p l. ap (λ (x : ℕ). eqb x 0) (h p (lt-of-lt-of-le l few)))
-
-  pub valence-table : (boundary : List Bool) (b : ℕ → Bool) → Holds false boundary maxVertices b
-      → anyBelow (λ p. valenceBad (getD boundary p false) (getD valences p 0)) v ≡ anyBelow (λ p. valenceBad (b p) (m p)) v
-  valence-table boundary b k = fold-ext false _||_ v (λ p l. ap₂ valenceBad (k p (lt-of-lt-of-le l few)) (h p (lt-of-lt-of-le l few)))
-
-pub tagged-table : (v : ℕ) → v ≤ maxVertices → (tags : List ℕ) (boundary : List Bool) (b : ℕ → Bool) → Holds false boundary maxVertices b
-    → anyBelow (λ p. eqb (getD tags p 0) cornerTag && not (getD boundary p false)) v ≡ anyBelow (λ p. eqb (getD tags p 0) cornerTag && not (b p)) v
-tagged-table v few tags boundary b k =
-    fold-ext false _||_ v (λ p l. ap (λ (t : Bool). eqb (getD tags p 0) cornerTag && not t) (k p (lt-of-lt-of-le l few)))
+-- ---- what the table of valences says of 8, of the first v vertices
+pub unused-table : (v : ℕ) → v ≤ maxVertices → (valences : List ℕ) (m : ℕ → ℕ) → Holds 0 valences maxVertices m
+    → anyBelow (λ p. eqb (getD valences p 0) 0) v ≡ anyBelow (λ p. eqb (m p) 0) v
+unused-table v few valences m h = fold-ext false _||_ v (λ p l. ap (λ (x : ℕ). eqb x 0) (h p (lt-of-lt-of-le l few)))
 
 -- ---- the counts from the list of twins
 module _ {faces twins : List ℕ} {v f : ℕ} (k : Counted faces twins v f) where
   pub edges-table : countBelow (λ c. ltb c (twinOf twins c)) (4 * f) ≡ edges (vertexOf faces) (4 * f) v
   edges-table =
-      fold-ext 0 _+_ (4 * f) (λ c l. ap (λ (d : ℕ). indicator (ltb c d)) (k .twins-are c l))
-      ∙ sym (edges-lead (vertexOf faces) (indices-corners (k .indices)) (k .simple) (k .named) (k .ends))
+      fold-ext 0 _+_ (4 * f) (λ c l. ap (λ (d : ℕ). indicator (ltb c d)) (k .twinned .twins-are c l))
+      ∙ sym (edges-lead (vertexOf faces) (indices-corners (k .twinned .indices)) (k .twinned .simple) (k .named) (k .ends))
 
   -- the boundary half-edges are what the edges leave over
   pub edges-left : (e : ℕ) → e ≡ countBelow (λ c. ltb c (twinOf twins c)) (4 * f) → 4 * f + boundaries (vertexOf faces) (4 * f) ≡ 2 * e
-  edges-left e q = edges-twice (vertexOf faces) (indices-corners (k .indices)) (k .simple) (k .named) (k .ends) ∙ ap (λ (t : ℕ). 2 * t) (sym (q ∙ edges-table))
+  edges-left e q = edges-twice (vertexOf faces) (indices-corners (k .twinned .indices)) (k .twinned .simple) (k .named) (k .ends) ∙ ap (λ (t : ℕ). 2 * t) (sym (q ∙ edges-table))
 
 -- ---- what the early phases give where they meet no cause
 pub record Passed (M : IndexedMesh) : Type 0 where

@@ -12,7 +12,7 @@ use lib.Dec.{eqb}
 use borrow.Author.Tests.{eq-eqb, eqb-true}
 use Rattle.finite.proofs.Counting.{at-least, pigeons, at-most}
 use Rattle.mesh.specs.Fan.{valence, iterate}
-use Rattle.mesh.proofs.CirculationLaws.{Turning, Keeps, before}
+use Rattle.mesh.proofs.CirculationLaws.{Turning, Keeps, before, steps-keep}
 use Rattle.mesh.proofs.VertexLaws.{valence-count}
 use Rattle.mesh.specs.Circulation.{Turn}
 
@@ -69,11 +69,7 @@ module _ {n : ℕ} {s b : ℕ → ℕ} (g : Turning s b n) (o m : ℕ) (t : Turn
 
   module _ (at : ℕ → ℕ) (keeps : Keeps s at n) where
     pub turn-at : (i : ℕ) → i < m → at (iterate s i o) ≡ at o
-    unfolding iterate
-    turn-at zero l = refl
-    turn-at (suc i) l =
-        let k : i < m = omega arith in
-        keeps (iterate s i o) (t .inside i k) (t .inside (suc i) l) ∙ turn-at i k
+    turn-at i l = steps-keep keeps o i (λ j h. t .inside j (omega arith))
 
     has : (i : ℕ) → i < m → eqb (at (iterate s i o)) (at o) ≡ true
     has i l = eq-eqb (at (iterate s i o)) (at o) (turn-at i l)

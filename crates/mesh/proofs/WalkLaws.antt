@@ -5,7 +5,7 @@
 --   Onward tw n start met on       the loop on from start: a walk of met corners, and `on` the one after them
 --   Backward tw n start met back   the loop back from start: a chain of met corners, and `back` the one before them
 use mathlib.Core.Path.{_≡_, refl, sym, ap, _∙_}
-use mathlib.Core.Bool.{true}
+use mathlib.Core.Bool.{Bool, true, false, cond}
 use mathlib.Core.Logic.{inl, inr, ⊎-elim}
 use Prim.Native.Nat.{ℕ, zero, suc, _+_, _-_, _≤_, _<_}
 use native.Mathlib.Nat.{zero-add, suc-add}
@@ -20,7 +20,7 @@ use Rattle.mesh.specs.Fan.{around, iterate}
 use Rattle.mesh.proofs.CirculationLaws.{Turning, iterate-in, iterate-add, reach, step-injective, turning}
 use Rattle.mesh.proofs.TurnLaws.{On}
 use Rattle.mesh.specs.Tables.{Corners}
-use Rattle.mesh.specs.Circulation.{Paired, backAround, Turn, Circulated}
+use Rattle.mesh.specs.Circulation.{Paired, backAround, Turn, Run, Circulated}
 
 pub record Walk (s : ℕ → ℕ) (n o m : ℕ) : Type 0 where
   pub some : 0 < m
@@ -84,9 +84,8 @@ module _ {n : ℕ} {s b : ℕ → ℕ} (g : Turning s b n) where
   walk-short : (o m : ℕ) → Walk s n o m → m ≤ n
   walk-short o m w = short n m (λ i. iterate s i o) (w .inside) (walk-apart o m w)
 
-  -- it is back: a closed turn
-  walk-closed : (o m : ℕ) → Walk s n o m → iterate s m o ≡ o → Turn s b n o m
-  walk-closed o m w e = record { some = w .some; inside = w .inside; apart = walk-apart o m w; ends = inl e }
+  walk-run : (o m z : ℕ) → Walk s n o m → iterate s m o ≡ z → Run s n o m z
+  walk-run o m z w e = record { some = w .some; inside = w .inside; apart = walk-apart o m w; ends = e }
 
   -- ---- back
   chain-more : (start o m : ℕ) → Chain s n start o m → b o < n → Chain s n start (b o) (suc m)
@@ -155,29 +154,32 @@ module _ {n : ℕ} {tw : ℕ → ℕ} (k : Corners n) (p : Paired tw n) (start :
   pub onward-less : (met on : ℕ) → Onward tw n start met on → (on ≡ noTwin → ⊥) → (on ≡ start → ⊥) → n - (met + 1) < n - met
   onward-less met on w h a = omega (arith, onward-more met on (around tw n on) w h a refl .short)
 
-  -- it is back at its start
-  pub onward-end : (met on : ℕ) → Onward tw n start met on → on ≡ start → Circulated tw n start met
-  unfolding iterate
-  onward-end met on w e =
-      record {
-        first = start;
-        turn = walk-closed (turning k p) start met (w .walk) (sym (w .here) ∙ e);
-        steps = 0;
-        few = w .walk .some;
-        through = refl;
-      }
+  -- what it has met where it stops, back at its start or at none
+  pub onward-run : (met on z : ℕ) → Onward tw n start met on → on ≡ z → Run (around tw n) n start met z
+  onward-run met on z w e = walk-run (turning k p) start met z (w .walk) (sym (w .here) ∙ e)
 
-  pub backward-start : (met on back : ℕ) → Onward tw n start met on → on ≡ noTwin
-      → back ≡ backAround tw n start → Backward tw n start met back
+  -- back at its start: a closed turn
+  pub run-closed : (met : ℕ) (closed : Bool) → Run (around tw n) n start met (cond closed start noTwin) → closed ≡ true → Circulated tw n start met
   unfolding iterate
-  backward-start met on back w e q =
-      let v = w .walk in
-      record {
-        first = start;
-        chain = record { some = v .some; inside = v .inside; over = sym (w .here) ∙ e; through = (0, v .some, refl) };
-        here = q;
-        short = w .short;
-      }
+  run-closed met closed r e = record {
+    first = start;
+    turn = record { some = r .some; inside = r .inside; apart = r .apart; ends = inl (rw e at (r .ends)) };
+    steps = 0;
+    few = r .some;
+    through = refl;
+  }
+
+  pub run-open : (met : ℕ) (closed : Bool) → Run (around tw n) n start met (cond closed start noTwin) → closed ≡ false → Run (around tw n) n start met noTwin
+  run-open met closed r e = rw e at r
+
+  pub backward-start : (met back : ℕ) → Run (around tw n) n start met noTwin → back ≡ backAround tw n start → Backward tw n start met back
+  unfolding iterate
+  backward-start met back r e = record {
+    first = start;
+    chain = record { some = r .some; inside = r .inside; over = r .ends; through = (0, r .some, refl) };
+    here = e;
+    short = short n met (λ i. iterate (around tw n) i start) (r .inside) (r .apart);
+  }
 
   pub backward-in : (met back : ℕ) → Backward tw n start met back → (back ≡ noTwin → ⊥) → back < n
   unfolding iterate

@@ -4,15 +4,21 @@
 --   Paired tw n        the twins tw come in pairs, as those of a mesh without refusal 7 do
 --   Turn s b n o m     m different corners, from o on by steps s, which b undoes: the step from the last one leads back to o
 --                      (a closed turn), or to none, and so does b from o (a chain, which ends at boundary half-edges)
---   Circulated tw n c m   m is the size of the turn through corner c
+--   Run s n o m z      m different corners, from o on by steps s, and then a step to z
+--   Circulated tw n c m   m is the size of the turn through corner c: how many corners circulating from c meets
+--   Ordered at n p first   the corners at p, of which there are some, are `first` and what one step after the other leads to, each once
+--   ClosedTurn at n p  they are so ordered from some corner on, and the step from the last leads back to the first (rule T7)
+--   OneChain at n p    they are so ordered from some corner on, a boundary half-edge leaves p at the first, and one enters p at the last
+--                      (rule T7)
 use mathlib.Core.Path.{_≡_}
-use mathlib.Core.Bool.{cond}
+use mathlib.Core.Bool.{true, cond}
 use mathlib.Core.Logic.{_⊎_}
-use Prim.Native.Nat.{ℕ, _<_}
+use Prim.Native.Nat.{ℕ, suc, _<_}
 use lib.Dec.{eqb, ltb}
 use Rattle.limits.specs.Limits.{noTwin}
-use Rattle.corner.specs.Corner.{next}
-use Rattle.mesh.specs.Fan.{around, iterate}
+use Rattle.corner.specs.Corner.{next, prev}
+use Rattle.mesh.specs.HalfEdge.{twin, boundary}
+use Rattle.mesh.specs.Fan.{valence, around, iterate}
 
 unfoldable pub backAround : (ℕ → ℕ) → ℕ → ℕ → ℕ
 backAround tw n c = cond (ltb c n) (cond (eqb (tw c) noTwin) noTwin (next (tw c))) noTwin
@@ -26,9 +32,34 @@ pub record Turn (s b : ℕ → ℕ) (n o m : ℕ) : Type 0 where
   pub apart : (i j : ℕ) → i < m → j < m → iterate s i o ≡ iterate s j o → i ≡ j
   pub ends : (iterate s m o ≡ o) ⊎ ((iterate s m o ≡ noTwin) × (b o ≡ noTwin))
 
+pub record Run (s : ℕ → ℕ) (n o m z : ℕ) : Type 0 where
+  pub some : 0 < m
+  pub inside : (i : ℕ) → i < m → iterate s i o < n
+  pub apart : (i j : ℕ) → i < m → j < m → iterate s i o ≡ iterate s j o → i ≡ j
+  pub ends : iterate s m o ≡ z
+
 pub record Circulated (tw : ℕ → ℕ) (n c m : ℕ) : Type 0 where
   pub first : ℕ
   pub turn : Turn (around tw n) (backAround tw n) n first m
   pub steps : ℕ
   pub few : steps < m
   pub through : iterate (around tw n) steps first ≡ c
+
+pub record Ordered (at : ℕ → ℕ) (n p first : ℕ) : Type 0 where
+  pub some : 0 < valence at n p
+  pub inside : (i : ℕ) → i < valence at n p → iterate (around (twin at n) n) i first < n
+  pub here : (i : ℕ) → i < valence at n p → at (iterate (around (twin at n) n) i first) ≡ p
+  pub apart : (i j : ℕ) → i < valence at n p → j < valence at n p
+      → iterate (around (twin at n) n) i first ≡ iterate (around (twin at n) n) j first → i ≡ j
+  pub all : (c : ℕ) → c < n → at c ≡ p → (i : ℕ) × (i < valence at n p) × (iterate (around (twin at n) n) i first ≡ c)
+
+pub record ClosedTurn (at : ℕ → ℕ) (n p : ℕ) : Type 0 where
+  pub first : ℕ
+  pub corners : Ordered at n p first
+  pub back : iterate (around (twin at n) n) (valence at n p) first ≡ first
+
+pub record OneChain (at : ℕ → ℕ) (n p : ℕ) : Type 0 where
+  pub first : ℕ
+  pub corners : Ordered at n p first
+  pub leaving : boundary at n first ≡ true
+  pub entering : (i : ℕ) → suc i ≡ valence at n p → boundary at n (prev (iterate (around (twin at n) n) i first)) ≡ true

@@ -6,8 +6,8 @@
 --                      (rule T5), with twins tw; `noTwin` for none, and past the n corners
 --   iterate s i c      i steps of s from c
 --   fan at n p         the corners at p form one fan, closed or open, which the user calls one closed turn or one chain (rule T7): from some
---                      corner at p, fewer steps than p has corners lead to every corner at p. proofs/FanLaws.antt: that is one `Turn`
---                      (specs/Circulation.antt) of all the corners at p.
+--                      corner at p, fewer steps than p has corners lead to every corner at p. proofs/MetLaws.antt: that is a
+--                      `ClosedTurn` or a `OneChain` (specs/Circulation.antt), and so is meeting all the corners by circulating from any one.
 use mathlib.Core.Bool.{Bool, true, false, cond, _&&_, _||_}
 use Prim.Native.Nat.{ℕ, zero, suc, _+_}
 use lib.Dec.{eqb, ltb}

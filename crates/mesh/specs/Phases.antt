@@ -3,18 +3,13 @@
 --   EntriesMet M head link r   r is the first cause from 3 to 7 that M meets, and where it meets none, head and link are its chains
 --   EarlyMet M own head link r   the same for all causes that are checked before the twins are written, with the call's own row met as `own`
 --                     says
---   FansMet at n v boundary r   r is the first cause from 8 to 10 that the corners meet, and where they meet none, `boundary` tells the vertices
---                     of the boundary
 use mathlib.Core.Path.{_≡_}
-use mathlib.Core.Bool.{Bool, false}
 use mathlib.Core.List.{List}
 use Prim.Native.Nat.{ℕ}
 use Rattle.finite.specs.Table.{Row, firstMet, refusalOf}
-use Rattle.limits.specs.Limits.{maxVertices}
-use Rattle.mesh.specs.Fan.{onBoundary}
 use Rattle.mesh.specs.IndexedMesh.{IndexedMesh, corners, at}
-use Rattle.mesh.specs.Refusal.{entryRows, earlyRows, fanRows}
-use Rattle.mesh.specs.Tables.{Holds, Chained}
+use Rattle.mesh.specs.Refusal.{entryRows, earlyRows}
+use Rattle.mesh.specs.Tables.{Chained}
 
 pub record EntriesMet (M : IndexedMesh) (head link : List ℕ) (r : ℕ) : Type 0 where
   pub first : firstMet (entryRows M) ≡ refusalOf r
@@ -23,7 +18,3 @@ pub record EntriesMet (M : IndexedMesh) (head link : List ℕ) (r : ℕ) : Type 
 pub record EarlyMet (M : IndexedMesh) (own : ℕ) (head link : List ℕ) (r : ℕ) : Type 0 where
   pub first : (rows : List Row) → firstMet rows ≡ refusalOf own → firstMet (earlyRows M rows) ≡ refusalOf r
   pub chained : r ≡ 0 → Chained (at M) (corners M) head link
-
-pub record FansMet (at : ℕ → ℕ) (n v : ℕ) (boundary : List Bool) (r : ℕ) : Type 0 where
-  pub first : firstMet (fanRows at n v) ≡ refusalOf r
-  pub marked : r ≡ 0 → Holds false boundary maxVertices (onBoundary at n)

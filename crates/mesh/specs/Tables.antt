@@ -7,6 +7,9 @@
 --   Chained at c head link   the corners below c, chained by vertex from the last to the first: `head` has the last
 --                     corner at each vertex, `link` the corner at the same vertex before each corner, both plus 1, 0 for none
 --   Indices faces n   the first n numbers of the face list are whole faces, and their vertices have places in the tables
+--   Twinned faces twins n   no half-edge of the faces occurs twice, and the first n places of the list of twins hold their twins
+--   Headed faces head n     `head` has the last corner at each vertex, plus 1, 0 for none
+--   Connected faces twins head n   both: what circulating about a vertex rests on
 --   Counted faces twins v f   what the counts of a mesh of v vertices and f faces rest on, with its twins
 use mathlib.Core.Path.{_≡_}
 use mathlib.Core.Bool.{Bool, cond}
@@ -45,10 +48,21 @@ pub record Indices (faces : List ℕ) (n : ℕ) : Type 0 where
   pub listed : n ≤ length faces
   pub named : (c : ℕ) → c < n → vertexOf faces c < maxVertices
 
+pub record Twinned (faces twins : List ℕ) (n : ℕ) : Type 0 where
+  pub indices : Indices faces n
+  pub simple : Simple (vertexOf faces) n
+  pub twins-listed : n ≤ length twins
+  pub twins-are : Holds 0 twins n (twin (vertexOf faces) n)
+
+pub record Headed (faces head : List ℕ) (n : ℕ) : Type 0 where
+  pub heads-listed : maxVertices ≤ length head
+  pub heads-are : Holds 0 head maxVertices (λ p. latest (λ d. eqb (vertexOf faces d) p) n)
+
+pub record Connected (faces twins head : List ℕ) (n : ℕ) : Type 0 where
+  pub twinned : Twinned faces twins n
+  pub headed : Headed faces head n
+
 pub record Counted (faces twins : List ℕ) (v f : ℕ) : Type 0 where
-  pub indices : Indices faces (4 * f)
+  pub twinned : Twinned faces twins (4 * f)
   pub named : (c : ℕ) → c < 4 * f → vertexOf faces c < v
-  pub simple : Simple (vertexOf faces) (4 * f)
   pub ends : (c : ℕ) → c < 4 * f → vertexOf faces (next c) ≡ vertexOf faces c → ⊥
-  pub twins-listed : 4 * f ≤ length twins
-  pub twins-are : Holds 0 twins (4 * f) (twin (vertexOf faces) (4 * f))

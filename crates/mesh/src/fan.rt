@@ -1,81 +1,90 @@
-// Circulating about a vertex, and the cause that it decides: 9.
-use corner::next_corner;
-use corner::prev_corner;
+// The causes that circulating about each vertex decides: whether its corners form a fan, 9, and, as that tells whether it is on the boundary,
+// its valence, 10, and its tag, 11.
+use crate::walk::circulate;
+use crate::walk::walk_on;
 use corner::wide;
-use limits::model::Mesh;
+use limits::inner_tagged;
+use limits::valence_bad;
 ghost use mathlib.Core.Path.{_≡_};
-ghost use mathlib.Core.Bool.{not};
+ghost use mathlib.Core.Bool.{true, not, _&&_};
 ghost use Prim.Native.Nat.{ℕ, _≤_, _<_};
 ghost use lib.Dec.{eqb};
-ghost use lib.ListN.{length};
+ghost use lib.ListN.{length, getD};
 ghost use Rattle.finite.specs.Fold.{anyBelow};
-ghost use Rattle.limits.specs.Limits.{maxVertices};
-ghost use Rattle.mesh.specs.HalfEdge.{twin, Simple};
-ghost use Rattle.mesh.specs.Fan.{valence, around, fan};
-ghost use Rattle.mesh.specs.Tables.{Corners, Holds, vertexOf, twinOf, latest, Indices};
-ghost use Rattle.mesh.specs.Circulation.{Paired, backAround, Circulated};
+ghost use Rattle.limits.specs.Limits.{maxVertices, cornerTag};
+ghost use Rattle.limits.specs.Range.{valenceBad};
+ghost use Rattle.mesh.specs.Fan.{valence, onBoundary, fan};
+ghost use Rattle.mesh.specs.Refusal.{fanBroken, valenceOff};
+ghost use Rattle.mesh.specs.Tables.{Holds, vertexOf, Headed, Connected};
 
-// "No twin", where a corner is wanted.
-const NO_CORNER: usize = Mesh::NO_TWIN as usize;
-
-// The corner after c about its vertex, or "no twin".
-fn around_from(twins: &[u16], n: usize, c: usize) -> usize
-    requires { ⌜ (n ≤ length (now twins)) × (c < n) × Corners n ⌝ }
-    ensures { λ r. ⌜ r ≡ around (twinOf (now (twins .entry))) n c ⌝ }
+// A corner at vertex p, which has corners: the last of them.
+fn corner_at(faces: &[u16], n: usize, head: &[u16], p: usize) -> usize
+    requires { ⌜ Headed (now faces) (now head) n × (p < maxVertices) × (0 < valence (vertexOf (now faces)) n p) ⌝ }
+    ensures { λ r. ⌜ (r < n) × (vertexOf (now (faces .entry)) r ≡ p) ⌝ }
 {
-    let h = prev_corner(c);
-    wide(twins[h])
+    wide(head[p]) - 1
 }
 
-// The corner before c about its vertex, or "no twin".
-fn back_around_from(twins: &[u16], n: usize, c: usize) -> usize
-    requires { ⌜ (n ≤ length (now twins)) × (c < n) ⌝ }
-    ensures { λ r. ⌜ r ≡ backAround (twinOf (now (twins .entry))) n c ⌝ }
+// Whether the corners at vertex p form no single fan, closed or open.
+fn fan_broken(
+    faces: &[u16],
+    n: usize,
+    twins: &[u16],
+    valences: &[u16],
+    head: &[u16],
+    p: usize,
+) -> bool
+    requires { ⌜ Connected (now faces) (now twins) (now head) n × (p < maxVertices) × (0 < valence (vertexOf (now faces)) n p) ⌝ }
+    requires { ⌜ (maxVertices ≤ length (now valences)) × Holds 0 (now valences) maxVertices (valence (vertexOf (now faces)) n) ⌝ }
+    ensures { λ r. ⌜ r ≡ not (fan (vertexOf (now (faces .entry))) n p) ⌝ }
 {
-    let d = wide(twins[c]);
-    if d == NO_CORNER {
-        return NO_CORNER;
-    }
-    next_corner(d)
-}
-
-// How many corners circulating about the vertex of start meets: on from start until it returns there or ends at the boundary,
-// and in the latter case back from start too.
-fn circulate(twins: &[u16], n: usize, start: usize) -> usize
-    requires { ⌜ (n ≤ length (now twins)) × (start < n) × Corners n × Paired (twinOf (now twins)) n ⌝ }
-    ensures { λ r. ⌜ Circulated (twinOf (now (twins .entry))) n start r ⌝ }
-{
-    let mut met = 1;
-    let mut on = around_from(twins, n, start);
-    while on != NO_CORNER {
-        if on == start {
-            return met;
-        }
-        met += 1;
-        on = around_from(twins, n, on);
-    }
-    let mut back = back_around_from(twins, n, start);
-    while back != NO_CORNER {
-        met += 1;
-        back = back_around_from(twins, n, back);
-    }
-    met
-}
-
-// Whether the corners at the vertex of start form no single fan, closed or open.
-fn fan_broken(faces: &[u16], n: usize, twins: &[u16], valences: &[u16], start: usize) -> bool
-    requires { ⌜ Indices (now faces) n × Simple (vertexOf (now faces)) n × (start < n) ⌝ }
-    requires { ⌜ (n ≤ length (now twins)) × (maxVertices ≤ length (now valences)) ⌝ }
-    requires { ⌜ Holds 0 (now twins) n (twin (vertexOf (now faces)) n) ⌝ }
-    requires { ⌜ Holds 0 (now valences) maxVertices (valence (vertexOf (now faces)) n) ⌝ }
-    ensures { λ r. ⌜ r ≡ not (fan (vertexOf (now (faces .entry))) n (vertexOf (now (faces .entry)) start)) ⌝ }
-{
-    let p = wide(faces[start]);
+    let start = corner_at(faces, n, head, p);
     let met = circulate(twins, n, start);
     met != wide(valences[p])
 }
 
-// Cause 9, where every vertex has corners; head has the last corner at each.
+// Whether vertex p, whose corners form a fan, is on the boundary: the walk on from one of them does not come back to it.
+fn on_boundary(faces: &[u16], n: usize, twins: &[u16], head: &[u16], p: usize) -> bool
+    requires { ⌜ Connected (now faces) (now twins) (now head) n × (p < maxVertices) × (fan (vertexOf (now faces)) n p ≡ true) ⌝ }
+    ensures { λ r. ⌜ r ≡ onBoundary (vertexOf (now (faces .entry))) n p ⌝ }
+{
+    let start = corner_at(faces, n, head, p);
+    let on = walk_on(twins, n, start);
+    !on.closed
+}
+
+// Whether `valence` corners at vertex p, which form a fan, are too few or too many. Whether p is on the boundary is asked only of a valence
+// that is in one of the two ranges.
+fn valence_off(
+    faces: &[u16],
+    n: usize,
+    twins: &[u16],
+    head: &[u16],
+    p: usize,
+    valence: usize,
+) -> bool
+    requires { ⌜ Connected (now faces) (now twins) (now head) n × (p < maxVertices) × (fan (vertexOf (now faces)) n p ≡ true) ⌝ }
+    ensures { λ r. ⌜ r ≡ valenceBad (onBoundary (vertexOf (now (faces .entry))) n p) valence ⌝ }
+{
+    let inner = valence_bad(false, valence);
+    if inner == valence_bad(true, valence) {
+        return inner;
+    }
+    valence_bad(on_boundary(faces, n, twins, head, p), valence)
+}
+
+// Whether vertex p, whose corners form a fan, is tagged a corner and is not on the boundary. That is asked only of a tagged one.
+fn tag_off(faces: &[u16], n: usize, twins: &[u16], head: &[u16], p: usize, tag: u8) -> bool
+    requires { ⌜ Connected (now faces) (now twins) (now head) n × (p < maxVertices) × (fan (vertexOf (now faces)) n p ≡ true) ⌝ }
+    ensures { λ r. ⌜ r ≡ (eqb tag cornerTag && not (onBoundary (vertexOf (now (faces .entry))) n p)) ⌝ }
+{
+    if inner_tagged(tag, false) {
+        return inner_tagged(tag, on_boundary(faces, n, twins, head, p));
+    }
+    false
+}
+
+// Cause 9, where every vertex has corners.
 pub(crate) fn any_fan_broken(
     faces: &[u16],
     n: usize,
@@ -84,17 +93,56 @@ pub(crate) fn any_fan_broken(
     valences: &[u16],
     head: &[u16],
 ) -> bool
-    requires { ⌜ Indices (now faces) n × Simple (vertexOf (now faces)) n × (v ≤ maxVertices) ⌝ }
-    requires { ⌜ (n ≤ length (now twins)) × (maxVertices ≤ length (now valences)) × (maxVertices ≤ length (now head)) ⌝ }
-    requires { ⌜ Holds 0 (now twins) n (twin (vertexOf (now faces)) n) ⌝ }
-    requires { ⌜ Holds 0 (now valences) maxVertices (valence (vertexOf (now faces)) n) ⌝ }
-    requires { ⌜ Holds 0 (now head) maxVertices (λ p. latest (λ d. eqb (vertexOf (now faces) d) p) n) ⌝ }
+    requires { ⌜ Connected (now faces) (now twins) (now head) n × (v ≤ maxVertices) ⌝ }
+    requires { ⌜ (maxVertices ≤ length (now valences)) × Holds 0 (now valences) maxVertices (valence (vertexOf (now faces)) n) ⌝ }
     requires { ⌜ ((p : ℕ) → p < v → 0 < valence (vertexOf (now faces)) n p) ⌝ }
-    ensures { λ r. ⌜ r ≡ anyBelow (λ p. not (fan (vertexOf (now (faces .entry))) n p)) v ⌝ }
+    ensures { λ r. ⌜ r ≡ fanBroken (vertexOf (now (faces .entry))) n v ⌝ }
 {
     for p in 0..v {
-        let start = wide(head[p]) - 1;
-        if fan_broken(faces, n, twins, valences, start) {
+        if fan_broken(faces, n, twins, valences, head, p) {
+            return true;
+        }
+    }
+    false
+}
+
+// Cause 10, where the corners at every vertex form a fan.
+pub(crate) fn any_valence_off(
+    faces: &[u16],
+    n: usize,
+    v: usize,
+    twins: &[u16],
+    valences: &[u16],
+    head: &[u16],
+) -> bool
+    requires { ⌜ Connected (now faces) (now twins) (now head) n × (v ≤ maxVertices) ⌝ }
+    requires { ⌜ (maxVertices ≤ length (now valences)) × Holds 0 (now valences) maxVertices (valence (vertexOf (now faces)) n) ⌝ }
+    requires { ⌜ ((p : ℕ) → p < v → fan (vertexOf (now faces)) n p ≡ true) ⌝ }
+    ensures { λ r. ⌜ r ≡ valenceOff (vertexOf (now (faces .entry))) n v ⌝ }
+{
+    for p in 0..v {
+        if valence_off(faces, n, twins, head, p, wide(valences[p])) {
+            return true;
+        }
+    }
+    false
+}
+
+// Cause 11, where the corners at every vertex form a fan.
+pub(crate) fn any_inner_tagged(
+    faces: &[u16],
+    n: usize,
+    v: usize,
+    twins: &[u16],
+    tags: &[u8],
+    head: &[u16],
+) -> bool
+    requires { ⌜ Connected (now faces) (now twins) (now head) n × (v ≤ maxVertices) × (v ≤ length (now tags)) ⌝ }
+    requires { ⌜ ((p : ℕ) → p < v → fan (vertexOf (now faces)) n p ≡ true) ⌝ }
+    ensures { λ r. ⌜ r ≡ anyBelow (λ p. eqb (getD (now (tags .entry)) p 0) cornerTag && not (onBoundary (vertexOf (now (faces .entry))) n p)) v ⌝ }
+{
+    for p in 0..v {
+        if tag_off(faces, n, twins, head, p, tags[p]) {
             return true;
         }
     }

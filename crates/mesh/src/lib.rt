@@ -4,6 +4,7 @@ mod count;
 mod fan;
 mod phases;
 mod vertex;
+mod walk;
 
 use crate::chain::clear_twins;
 use crate::chain::fill_twins;

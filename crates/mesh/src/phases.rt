@@ -2,11 +2,10 @@
 use crate::chain::link_corners;
 use crate::count::count_edges;
 use crate::fan::any_fan_broken;
-use crate::vertex::any_inner_tagged;
+use crate::fan::any_inner_tagged;
+use crate::fan::any_valence_off;
 use crate::vertex::any_unused;
-use crate::vertex::any_valence_off;
 use crate::vertex::count_corners;
-use crate::vertex::mark_boundary;
 use entries::any_coordinate_off;
 use entries::any_tag_off;
 use entries::any_vertex_off;
@@ -15,21 +14,20 @@ use limits::model::Mesh;
 use limits::sizes_off;
 use limits::twins_short;
 ghost use mathlib.Core.Path.{_≡_};
-ghost use mathlib.Core.Bool.{false};
 ghost use mathlib.Core.List.{List, [], _∷_};
 ghost use Prim.Native.Nat.{_*_, _≤_};
-ghost use lib.Dec.{eqb, ltb};
+ghost use lib.Dec.{ltb};
 ghost use lib.IntN.{ℤ};
 ghost use lib.ListN.{length};
 ghost use Rattle.finite.specs.Table.{row, firstMet, refusalOf};
 ghost use Rattle.limits.specs.Limits.{maxVertices, maxFaces};
-ghost use Rattle.mesh.specs.HalfEdge.{twin, edges, boundaries, Simple};
+ghost use Rattle.mesh.specs.HalfEdge.{edges, boundaries};
 ghost use Rattle.mesh.specs.IndexedMesh.{indexed};
 ghost use Rattle.mesh.specs.WellFormed.{Sized};
-ghost use Rattle.mesh.specs.Refusal.{lateRows};
+ghost use Rattle.mesh.specs.Refusal.{fanRows, lateRows};
 ghost use Rattle.mesh.specs.Answer.{given};
-ghost use Rattle.mesh.specs.Tables.{Holds, vertexOf, latest, Indices, Counted};
-ghost use Rattle.mesh.specs.Phases.{EntriesMet, EarlyMet, FansMet};
+ghost use Rattle.mesh.specs.Tables.{Holds, vertexOf, Connected, Counted};
+ghost use Rattle.mesh.specs.Phases.{EntriesMet, EarlyMet};
 
 // Causes 3 to 7, of lists that have the lengths of the sizes. Where none is met, head and link are the chains of all corners afterwards;
 // they come in zeroed.
@@ -101,22 +99,10 @@ pub(crate) fn own_refusal(own: u8, f: usize, twins: usize) -> u8
     0
 }
 
-// Causes 8 to 10, of a mesh whose twins are written; head has the last corner at each vertex. Where none is met, on_boundary tells the
-// vertices of the boundary afterwards; it comes in without marks.
-fn fan_refusal(
-    v: usize,
-    f: usize,
-    faces: &[u16],
-    twins: &[u16],
-    head: &[u16],
-    on_boundary: &mut [bool],
-) -> u8
-    requires { ⌜ Indices (now faces) (4 * f) × Simple (vertexOf (now faces)) (4 * f) × (v ≤ maxVertices) ⌝ }
-    requires { ⌜ (4 * f ≤ length (now twins)) × (maxVertices ≤ length (now head)) × (maxVertices ≤ length (now «on_boundary»)) ⌝ }
-    requires { ⌜ Holds 0 (now twins) (4 * f) (twin (vertexOf (now faces)) (4 * f)) ⌝ }
-    requires { ⌜ Holds 0 (now head) maxVertices (λ p. latest (λ d. eqb (vertexOf (now faces) d) p) (4 * f)) ⌝ }
-    requires { ⌜ Holds false (now «on_boundary») maxVertices (λ p. false) ⌝ }
-    ensures { λ r. ⌜ FansMet (vertexOf (now (faces .entry))) (4 * f) v (now («on_boundary» .exit)) r ⌝ }
+// Causes 8 to 10, of a mesh whose twins are written; head has the last corner at each vertex.
+fn fan_refusal(v: usize, f: usize, faces: &[u16], twins: &[u16], head: &[u16]) -> u8
+    requires { ⌜ Connected (now faces) (now twins) (now head) (4 * f) × (v ≤ maxVertices) ⌝ }
+    ensures { λ r. ⌜ firstMet (fanRows (vertexOf (now (faces .entry))) (4 * f) v) ≡ refusalOf r ⌝ }
 {
     let n = 4 * f;
     let mut valences = [0u16; Mesh::MAX_VERTICES];
@@ -127,8 +113,7 @@ fn fan_refusal(
     if any_fan_broken(faces, n, v, twins, &valences, head) {
         return 9;
     }
-    mark_boundary(faces, n, twins, on_boundary);
-    if any_valence_off(&valences, on_boundary, v) {
+    if any_valence_off(faces, n, v, twins, &valences, head) {
         return 10;
     }
     0
@@ -144,18 +129,15 @@ pub(crate) fn late_refusal(
     twins: &[u16],
     head: &[u16],
 ) -> u8
-    requires { ⌜ Indices (now faces) (4 * f) × Simple (vertexOf (now faces)) (4 * f) × (v ≤ maxVertices) × (v ≤ length (now tags)) ⌝ }
-    requires { ⌜ (4 * f ≤ length (now twins)) × (maxVertices ≤ length (now head)) ⌝ }
-    requires { ⌜ Holds 0 (now twins) (4 * f) (twin (vertexOf (now faces)) (4 * f)) ⌝ }
-    requires { ⌜ Holds 0 (now head) maxVertices (λ p. latest (λ d. eqb (vertexOf (now faces) d) p) (4 * f)) ⌝ }
+    requires { ⌜ Connected (now faces) (now twins) (now head) (4 * f) × (v ≤ maxVertices) × (v ≤ length (now tags)) ⌝ }
     ensures { λ r. ⌜ ((positions : List ℤ) → firstMet (lateRows (indexed v f positions (now (tags .entry)) (now (faces .entry)))) ≡ refusalOf r) ⌝ }
 {
-    let mut on_boundary = [false; Mesh::MAX_VERTICES];
-    let fans = fan_refusal(v, f, faces, twins, head, &mut on_boundary);
+    let fans = fan_refusal(v, f, faces, twins, head);
     if fans != 0 {
         return fans;
     }
-    if any_inner_tagged(tags, &on_boundary, v) {
+    let n = 4 * f;
+    if any_inner_tagged(faces, n, v, twins, tags, head) {
         return 11;
     }
     0

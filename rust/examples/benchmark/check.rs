@@ -39,25 +39,37 @@ fn fill_twins<A: Access>(indices: &[u16], head: &[u16], link: &[u16], twins: &mu
     }
 }
 
-/// How many corners circulating about the vertex of `start` meets: on, and at the boundary back from `start` too.
-fn circulate<A: Access>(twins: &[u16], start: usize) -> u16 {
-    let none = usize::from(NO_TWIN);
+/// "No twin", where a corner is wanted.
+const NO_CORNER: usize = NO_TWIN as usize;
+
+/// The walk on from `start` about its vertex: how many corners it meets, and whether it comes back to `start`.
+#[inline(always)]
+fn walk_on<A: Access>(twins: &[u16], start: usize) -> (u16, bool) {
     let around = |c: usize| usize::from(A::get(twins, turned(3, c)));
-    let back_around = |c: usize| match A::get(twins, c) {
-        NO_TWIN => none,
-        d => turned(1, d.into()),
-    };
     let mut met = 1;
     let mut c = around(start);
-    while c != none {
+    while c != NO_CORNER {
         if c == start {
-            return met;
+            return (met, true);
         }
         met += 1;
         c = around(c);
     }
-    c = back_around(start);
-    while c != none {
+    (met, false)
+}
+
+/// How many corners circulating about the vertex of `start` meets: on, and at the boundary back from `start` too.
+fn circulate<A: Access>(twins: &[u16], start: usize) -> u16 {
+    let (mut met, closed) = walk_on::<A>(twins, start);
+    if closed {
+        return met;
+    }
+    let back_around = |c: usize| match A::get(twins, c) {
+        NO_TWIN => NO_CORNER,
+        d => turned(1, d.into()),
+    };
+    let mut c = back_around(start);
+    while c != NO_CORNER {
         met += 1;
         c = back_around(c);
     }
@@ -105,22 +117,25 @@ fn late_refusal<A: Access>(mesh: &Mesh, twins: &[u16], head: &[u16]) -> Option<R
     if (0..vertices).any(|p| A::get(&valences, p) == 0) {
         return Some(Refusal(8));
     }
-    let broken = |p: usize| circulate::<A>(twins, usize::from(A::get(head, p)) - 1) != A::get(&valences, p);
-    if (0..vertices).any(broken) {
+    let corner_at = |p: usize| usize::from(A::get(head, p)) - 1;
+    if (0..vertices).any(|p| circulate::<A>(twins, corner_at(p)) != A::get(&valences, p)) {
         return Some(Refusal(9));
     }
-    let mut on_boundary = [false; MAX_VERTICES];
-    for (&p, &twin) in indices.iter().zip(twins) {
-        *A::at(&mut on_boundary, p.into()) |= twin == NO_TWIN;
-    }
+    // The corners at every vertex form a fan, so whether it is closed is told from any of them; that is asked only where it matters.
+    let on_boundary = |p: usize| !walk_on::<A>(twins, corner_at(p)).1;
     let valence_off = |p: usize| {
-        let range = if A::get(&on_boundary, p) { BOUNDARY_FACES } else { VALENCE };
-        !range.contains(&A::get(&valences, p))
+        let valence = A::get(&valences, p);
+        let inner = !VALENCE.contains(&valence);
+        if inner == !BOUNDARY_FACES.contains(&valence) {
+            return inner;
+        }
+        let range = if on_boundary(p) { BOUNDARY_FACES } else { VALENCE };
+        !range.contains(&valence)
     };
     if (0..vertices).any(valence_off) {
         return Some(Refusal(10));
     }
-    if (0..vertices).any(|p| A::get(tags, p) == CORNER_TAG && !A::get(&on_boundary, p)) {
+    if (0..vertices).any(|p| A::get(tags, p) == CORNER_TAG && !on_boundary(p)) {
         return Some(Refusal(11));
     }
     None

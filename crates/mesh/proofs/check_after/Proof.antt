@@ -25,7 +25,7 @@ use Rattle.mesh.specs.Answer.{checked, twinsShort, lentRows, given}
 use Rattle.mesh.proofs.PhaseLaws.{Passed, early-passed, answer-early, twins-early, answer-late, twins-late, answer-accepted, twins-accepted}
 use Rattle.mesh.proofs.check_after.Statement.{statement}
 use Rattle.mesh.proofs.check_after.Tie as tie
-use Rattle.mesh.specs.Tables.{Holds, Chained}
+use Rattle.mesh.specs.Tables.{Holds, Chained, Twinned, Headed}
 
 -- ---- at the entry: the mesh that was passed, the list that was lent for its twins, and the call's own rows
 module _ (s : tie.Start) where
@@ -97,6 +97,11 @@ module _ (c : tie.After-fill-twins) where
   written : Holds 0 twins (corners (mesh fill-start)) (twin (at (mesh fill-start)) (corners (mesh fill-start)))
   written p l = ap (λ (t : List ℕ). getD t p 0) (c .fill-twins .ensures) ∙ filled-at _ _ _ _ 0 l
 
+  twinned : Twinned (mesh fill-start .indices) twins (corners (mesh fill-start))
+  twinned =
+      let p = passed clean in
+      record { indices = p .indices; simple = p .simple; twins-listed = kept; twins-are = written }
+
 -- ---- the late group has answered
 module _ (c : tie.After-late-refusal) where
   abbrev filled-list : tie.After-fill-twins
@@ -157,8 +162,9 @@ late-refusal-requires : tie.Need-late-refusal-requires
 late-refusal-requires c κs =
     let t = let k : tie.After-slice-known2 = c .before .before in k .before .before in
     let e = clean t in
-    let p = passed e in
-    ((p .indices, p .simple, p .sized .vertices-high, le-of-eq (sym (p .sized .tags-are))), ((kept t, omega arith), (written t, chained e .heads)))
+    let sizes = passed e .sized in
+    let headed : Headed (mesh (start e) .indices) (head e) (corners (mesh (start e))) = record { heads-listed = omega arith; heads-are = chained e .heads } in
+    (record { twinned = twinned t; headed = headed }, sizes .vertices-high, le-of-eq (sym (sizes .tags-are)))
 
 clear-twins-requires : tie.Need-clear-twins-requires
 clear-twins-requires c κs = omega (arith, kept (filled-list (c .before .before)))
@@ -187,7 +193,7 @@ accepted-requires : tie.Need-accepted-requires
 accepted-requires c κs =
     let t = filled-list (c .before .before) in
     let p = passed (clean t) in
-    record { indices = p .indices; named = p .named; simple = p .simple; ends = p .ends; twins-listed = kept t; twins-are = written t }
+    record { twinned = twinned t; named = p .named; ends = p .ends }
 
 same-length-2 : tie.Need-same-length-2
 same-length-2 c = let e : tie.Else2 = c .before .before in filled-list (e .before) .fill-twins .kept .1 .1 .1 .1 .0

@@ -23,15 +23,15 @@ module _ (c : tie.After-count-edges) where
 
 -- ---- the answers, in the order of the code
 mul-n : tie.Need-mul-n
-mul-n c = let i = c .before .before .pre .indices in omega arith
+mul-n c = let i = c .before .before .pre .twinned .indices in omega arith
 
 count-edges-requires : tie.Need-count-edges-requires
-count-edges-requires c κs = c .before .before .pre .twins-listed
+count-edges-requires c κs = c .before .before .pre .twinned .twins-listed
 
 mul-boundary : tie.Need-mul-boundary
 mul-boundary c =
     let s = start c in
-    omega (arith, s .pre .indices .few, c .count-edges .ensures, count-le (λ d. ltb d (twinOf (s .args .twins .now) d)) (n c))
+    omega (arith, s .pre .twinned .indices .few, c .count-edges .ensures, count-le (λ d. ltb d (twinOf (s .args .twins .now) d)) (n c))
 
 sub-boundary : tie.Need-sub-boundary
 sub-boundary c = omega (arith, left c)

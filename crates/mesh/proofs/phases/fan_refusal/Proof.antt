@@ -1,25 +1,22 @@
--- `fan_refusal` meets its contract: the phases run in the order of the rows, and each says its cause of the tables by vertex.
+-- `fan_refusal` meets its contract: the phases run in the order of the rows, and each decides its row for all vertices.
 use mathlib.Core.Path.{_≡_, sym, _∙_}
 use mathlib.Core.Bool.{false}
 use mathlib.Core.List.{List, [], _∷_}
-use Prim.Native.Nat.{ℕ, _*_, _≤_}
-use native.Mathlib.Nat.{suc-ne-zero}
+use Prim.Native.Nat.{ℕ, _*_}
 use native.Mathlib.Omega.{arith}
-use lib.Dec.{eqb}
 use lib.ListN.{getD-replicate}
 use borrow.Author.Needs.{needs}
 use Rattle.finite.specs.Table.{Row, row}
 use Rattle.finite.proofs.TableLaws.{From, all-rows, row-met, row-passed}
 use Rattle.limits.specs.Limits.{maxVertices}
-use Rattle.mesh.specs.HalfEdge.{twin}
 use Rattle.mesh.specs.Refusal.{vertexUnused, fanBroken, valenceOff, fanRows}
-use Rattle.mesh.proofs.PhaseLaws.{unused-table, valence-table}
-use Rattle.mesh.proofs.AcceptedLaws.{unused-false}
+use Rattle.mesh.specs.Tables.{vertexOf}
+use Rattle.mesh.proofs.PhaseLaws.{unused-table}
+use Rattle.mesh.proofs.AcceptedLaws.{unused-false, fan-false}
 use Rattle.mesh.proofs.phases.fan_refusal.Statement.{statement}
 use Rattle.mesh.proofs.phases.fan_refusal.Tie as tie
-use Rattle.mesh.specs.Tables.{Holds, vertexOf, latest, Indices}
 
--- ---- at the entry: the vertices of the corners, how many there are, what the lists hold, and the rows to look at
+-- ---- at the entry: the vertices of the corners, how many there are, and the rows to look at, all of them and from each on
 module _ (s : tie.Start) where
   abbrev vertex : ℕ → ℕ
   vertex = vertexOf (s .args .faces .now)
@@ -27,22 +24,6 @@ module _ (s : tie.Start) where
   abbrev n : ℕ
   n = 4 * s .args .f
 
-  abbrev indices : Indices (s .args .faces .now) n
-  indices = s .pre .0 .0
-
-  few : s .args .v ≤ maxVertices
-  few = s .pre .0 .2
-
-  twins-are : Holds 0 (s .args .twins .now) n (twin vertex n)
-  twins-are = s .pre .1 .1 .0
-
-  heads-are : Holds 0 (s .args .head .now) maxVertices (λ p. latest (λ d. eqb (vertex d) p) n)
-  heads-are = s .pre .1 .1 .1 .0
-
-  unmarked : Holds false (s .args .on-boundary .now) maxVertices (λ p. false)
-  unmarked = s .pre .1 .1 .1 .1
-
-  -- the rows of the corners at each vertex, all of them and from each on
   abbrev rows : List Row
   rows = fanRows vertex n (s .args .v)
 
@@ -52,8 +33,8 @@ module _ (s : tie.Start) where
   abbrev from-9 : List Row
   from-9 = row (fanBroken vertex n (s .args .v)) 9 ∷ from-10
 
-abbrev entry : tie.After-slice-known → tie.Start
-entry c = c .before .before .before .before
+abbrev entry : tie.After-shared-slice-known3 → tie.Start
+entry c = c .before .before .before
 
 -- ---- the corners at each vertex are counted
 module _ (c : tie.After-count-corners) where
@@ -70,7 +51,7 @@ unused : (c : tie.After-any-unused) → (let s = start (counted c) in c .any-unu
 unfolding vertexUnused
 unused c =
     let k = counted c in
-    c .any-unused .ensures ∙ unused-table _ (few (start k)) (valences k) _ (k .count-corners .ensures)
+    c .any-unused .ensures ∙ unused-table _ (start k .pre .1) (valences k) _ (k .count-corners .ensures)
 
 -- ---- past 8: every vertex has corners
 module _ (c : tie.Else1) where
@@ -91,38 +72,21 @@ module _ (c : tie.Else2) where
   abbrev start₉ : tie.Start
   start₉ = start₈ passed-8
 
+  whole : fanBroken (vertex start₉) (n start₉) (start₉ .args .v) ≡ false
+  whole = sym (c .before .any-fan-broken .ensures) ∙ c .if2 .left
+
   after-9 : From (rows start₉) (from-10 start₉)
-  unfolding fanBroken
-  after-9 = row-passed (after-8 passed-8) (sym (c .before .any-fan-broken .ensures) ∙ c .if2 .left)
-
--- ---- the vertices of the boundary are marked: what the two tables say of 10
-abbrev passed-9 : tie.After-mark-boundary → tie.Else2
-passed-9 c = c .before .before
-
-module _ (c : tie.After-any-valence-off) where
-  abbrev marks : tie.After-mark-boundary
-  marks = let k : tie.After-valences5 = c .before .before in k .before .before .before
-
-  abbrev start₁₀ : tie.Start
-  start₁₀ = start₉ (passed-9 marks)
-
-  valence : c .any-valence-off .result ≡ valenceOff (vertex start₁₀) (n start₁₀) (start₁₀ .args .v)
-  unfolding valenceOff
-  valence =
-      let k = counted (passed-8 (passed-9 marks) .before) in
-      let b = marks .mark-boundary in
-      c .any-valence-off .ensures
-      ∙ valence-table _ (few start₁₀) (valences k) _ (k .count-corners .ensures) (b .last .1 .1 .1 .0) _ (b .ensures)
+  after-9 = row-passed (after-8 passed-8) whole
 
 -- ---- the answers, in the order of the code
 mul-n : tie.Need-mul-n
-mul-n c = let i = indices (entry c) in omega arith
+mul-n c = let i = entry c .pre .0 .twinned .indices in omega arith
 
 slice-aggregate-count-corners : tie.Need-slice-aggregate-count-corners
 slice-aggregate-count-corners c = search needs
 
 count-corners-requires : tie.Need-count-corners-requires
-count-corners-requires c κs = ((indices (entry (c .before)), omega arith), λ p l. getD-replicate maxVertices p 0 0 l)
+count-corners-requires c κs = ((entry (c .before) .pre .0 .twinned .indices, omega arith), λ p l. getD-replicate maxVertices p 0 0 l)
 
 slice-aggregate-any-unused : tie.Need-slice-aggregate-any-unused
 slice-aggregate-any-unused c = search needs
@@ -131,57 +95,36 @@ any-unused-requires : tie.Need-any-unused-requires
 any-unused-requires c κs = let s = start (c .before .before) in omega arith
 
 returns : tie.Need-returns
-returns c =
-    let s = start (counted (c .before)) in
-    record { first = row-met (all-rows (rows s)) (sym (unused (c .before)) ∙ c .if1 .taken); marked = λ e. absurd (suc-ne-zero _ e) }
+returns c = let s = start (counted (c .before)) in row-met (all-rows (rows s)) (sym (unused (c .before)) ∙ c .if1 .taken)
 
 slice-aggregate-any-fan-broken : tie.Need-slice-aggregate-any-fan-broken
 slice-aggregate-any-fan-broken c = search needs
 
 any-fan-broken-requires : tie.Need-any-fan-broken-requires
 any-fan-broken-requires c κs =
-    let e₁ = c .before in
-    let s = start₈ e₁ in
-    let long = s .pre .1 .0 in
-    let some = unused-false (vertex s) (n s) (s .args .v) (used e₁) in
-    (s .pre .0, ((long .0, omega arith, long .1), (twins-are s, (counted (e₁ .before) .count-corners .ensures, (heads-are s, some)))))
+    let e = c .before in
+    let s = start₈ e in
+    let some = unused-false (vertex s) (n s) (s .args .v) (used e) in
+    (s .pre, ((omega arith, counted (e .before) .count-corners .ensures), some))
 
 returns-2 : tie.Need-returns-2
-unfolding fanBroken
-returns-2 c = record {
-  first = row-met (after-8 (c .before .before .before)) (sym (c .before .any-fan-broken .ensures) ∙ c .if2 .taken);
-  marked = λ e. absurd (suc-ne-zero _ e);
-}
-
-mark-boundary-requires : tie.Need-mark-boundary-requires
-mark-boundary-requires c κs =
-    let s = start₉ (c .before) in
-    let long = s .pre .1 .0 in
-    ((indices s, long .0, long .2), (twins-are s, unmarked s))
+returns-2 c = row-met (after-8 (c .before .before .before)) (sym (c .before .any-fan-broken .ensures) ∙ c .if2 .taken)
 
 slice-aggregate-any-valence-off : tie.Need-slice-aggregate-any-valence-off
 slice-aggregate-any-valence-off c = search needs
 
 any-valence-off-requires : tie.Need-any-valence-off-requires
-any-valence-off-requires c κs = search needs
-
-same-length : tie.Need-same-length
-same-length c = search needs
+any-valence-off-requires c κs =
+    let e = c .before in
+    let s = start₉ e in
+    let fans = fan-false (vertex s) (n s) (s .args .v) (whole e) in
+    (s .pre, ((omega arith, counted (passed-8 e .before) .count-corners .ensures), fans))
 
 returns-3 : tie.Need-returns-3
-returns-3 c = record {
-  first = row-met (after-9 (passed-9 (marks (c .before)))) (sym (valence (c .before)) ∙ c .if3 .taken);
-  marked = λ e. absurd (suc-ne-zero _ e);
-}
-
-same-length-2 : tie.Need-same-length-2
-same-length-2 c = search needs
+returns-3 c = let k = c .before in row-met (after-9 (k .before .before)) (sym (k .any-valence-off .ensures) ∙ c .if3 .taken)
 
 returns-4 : tie.Need-returns-4
-returns-4 c = record {
-  first = row-passed (after-9 (passed-9 (marks (c .before)))) (sym (valence (c .before)) ∙ c .if3 .left) .same;
-  marked = λ e. marks (c .before) .mark-boundary .ensures;
-}
+returns-4 c = let k = c .before in row-passed (after-9 (k .before .before)) (sym (k .any-valence-off .ensures) ∙ c .if3 .left) .same
 
 pub fan-refusal-spec : {M : Type 1} → statement M
 fan-refusal-spec =
@@ -196,10 +139,7 @@ fan-refusal-spec =
     slice-aggregate-any-fan-broken
     any-fan-broken-requires
     returns-2
-    mark-boundary-requires
     slice-aggregate-any-valence-off
     any-valence-off-requires
-    same-length
     returns-3
-    same-length-2
     returns-4)

@@ -2,8 +2,8 @@
 use native.Mathlib.Omega.{arith}
 use borrow.Author.Needs.{needs}
 use Rattle.mesh.proofs.CirculationLaws.{back-read-none, back-read-some}
-use Rattle.mesh.proofs.fan.back_around_from.Statement.{statement}
-use Rattle.mesh.proofs.fan.back_around_from.Tie as tie
+use Rattle.mesh.proofs.walk.back_around_from.Statement.{statement}
+use Rattle.mesh.proofs.walk.back_around_from.Tie as tie
 
 mul-wide : tie.Need-mul-wide
 mul-wide c = omega arith

@@ -2,8 +2,8 @@
 use native.Mathlib.Omega.{arith}
 use borrow.Author.Needs.{needs}
 use Rattle.mesh.proofs.CirculationLaws.{around-read}
-use Rattle.mesh.proofs.fan.around_from.Statement.{statement}
-use Rattle.mesh.proofs.fan.around_from.Tie as tie
+use Rattle.mesh.proofs.walk.around_from.Statement.{statement}
+use Rattle.mesh.proofs.walk.around_from.Tie as tie
 
 prev-corner-requires : tie.Need-prev-corner-requires
 prev-corner-requires c κs = tt

@@ -1,0 +1,84 @@
+-- Counting the corners that circulating meets tells one closed turn or one chain: they are as many as the corners at the vertex exactly when these
+-- form one of the two. `fan` says the same of the vertex.
+use mathlib.Core.Path.{_≡_, sym, ap, _∙_}
+use mathlib.Core.Bool.{true}
+use mathlib.Core.Logic.{_⊎_, inl, inr, ⊎-elim}
+use Prim.Native.Nat.{ℕ, suc, _-_}
+use native.Mathlib.Omega.{arith}
+use borrow.Author.Tests.{eq-eqb, eqb-true}
+use Rattle.mesh.specs.HalfEdge.{twin, Simple}
+use Rattle.mesh.specs.Fan.{valence, around, iterate, fan}
+use Rattle.mesh.specs.Tables.{Corners}
+use Rattle.mesh.specs.Circulation.{backAround, Turn, Circulated, Ordered, ClosedTurn, OneChain}
+use Rattle.mesh.proofs.TurnLaws.{turn-at}
+use Rattle.mesh.proofs.FanLaws.{OneTurn, fan-turning, fan-keeps, fan-means, means-fan, circulated-fan}
+use Rattle.mesh.proofs.BoundaryLaws.{leaves, leaves-back, enters, enters-back}
+
+module _ {n : ℕ} (at : ℕ → ℕ) (k : Corners n) (simple : Simple at n) where
+  abbrev s : ℕ → ℕ
+  s = around (twin at n) n
+
+  abbrev b : ℕ → ℕ
+  b = backAround (twin at n) n
+
+  -- ---- a turn of all the corners, as either of the two
+  ordered : (p : ℕ) (w : OneTurn s b at n p) → Ordered at n p (w .first)
+  ordered p w = record {
+    some = w .turn .some;
+    inside = w .turn .inside;
+    here = λ i l. turn-at (fan-turning at k simple) (w .first) (valence at n p) (w .turn) at (fan-keeps at k simple) i l ∙ w .here;
+    apart = w .turn .apart;
+    all = w .covers;
+  }
+
+  either : (p : ℕ) → OneTurn s b at n p → ClosedTurn at n p ⊎ OneChain at n p
+  unfolding iterate
+  either p w =
+      let t = w .turn in
+      ⊎-elim
+      (λ e. inl (record { first = w .first; corners = ordered p w; back = e }))
+      (λ e. inr (record {
+        first = w .first;
+        corners = ordered p w;
+        leaving = leaves-back at k simple (w .first) (t .inside 0 (t .some)) (e .1);
+        entering = λ i q.
+            enters-back at k simple (iterate s i (w .first)) (t .inside i (omega arith)) (ap (λ (j : ℕ). iterate s j (w .first)) q ∙ e .0);
+      }))
+      (t .ends)
+
+  -- ---- and back
+  closed-turn : (p : ℕ) (w : ClosedTurn at n p) → Turn s b n (w .first) (valence at n p)
+  closed-turn p w = let c = w .corners in record { some = c .some; inside = c .inside; apart = c .apart; ends = inl (w .back) }
+
+  chain-turn : (p : ℕ) (w : OneChain at n p) → Turn s b n (w .first) (valence at n p)
+  unfolding iterate
+  chain-turn p w =
+      let c = w .corners in
+      let last = valence at n p - 1 in
+      let full : suc last ≡ valence at n p = omega (arith, c .some) in
+      let over = enters at k simple (iterate s last (w .first)) (c .inside last (omega (arith, full))) (w .entering last full) in
+      record {
+        some = c .some;
+        inside = c .inside;
+        apart = c .apart;
+        ends = inr (ap (λ (j : ℕ). iterate s j (w .first)) (sym full) ∙ over, leaves at k simple (w .first) (c .inside 0 (c .some)) (w .leaving));
+      }
+
+  -- ---- the corners at p form a fan exactly when they form one closed turn or one chain
+  pub fan-one : (p : ℕ) → fan at n p ≡ true → ClosedTurn at n p ⊎ OneChain at n p
+  fan-one p f = either p (fan-means at k simple p f)
+
+  pub one-fan : (p : ℕ) → ClosedTurn at n p ⊎ OneChain at n p → fan at n p ≡ true
+  unfolding iterate
+  one-fan p =
+      ⊎-elim
+      (λ w. means-fan at k simple p (w .first) (w .corners .here 0 (w .corners .some)) (closed-turn p w))
+      (λ w. means-fan at k simple p (w .first) (w .corners .here 0 (w .corners .some)) (chain-turn p w))
+
+  -- ---- circulating from c meets m corners: they are all the corners at its vertex exactly when these form one closed turn or one chain
+  module _ (c m : ℕ) (w : Circulated (twin at n) n c m) where
+    pub met-all : m ≡ valence at n (at c) → ClosedTurn at n (at c) ⊎ OneChain at n (at c)
+    met-all e = fan-one (at c) (circulated-fan at k simple c m w ∙ eq-eqb m (valence at n (at c)) e)
+
+    pub all-met : ClosedTurn at n (at c) ⊎ OneChain at n (at c) → m ≡ valence at n (at c)
+    all-met o = eqb-true m (valence at n (at c)) (sym (circulated-fan at k simple c m w) ∙ one-fan (at c) o)
