@@ -2,8 +2,8 @@
 
 What is expected is computed here, in meshes.py and in patches.py by the rules of docs/SPECIFICATION.md, of a mesh by sets and
 dictionaries over the whole of it and of control points and samples by fractions, and not as the library does it, so the gate compares
-two readings of the rules. tools/trials.py and tools/mirror_trials.py have the trials. The forms of the sample call and of the line call
-are in sample_forms.py.
+two readings of the rules. tools/trials.py, tools/mirror_trials.py and tools/fan_trials.py have the trials. The forms of the sample call
+and of the line call are in sample_forms.py.
 """
 
 import struct

@@ -3,7 +3,7 @@
 
 What is expected is computed in trial_forms.py and sample_forms.py from an independent reading of the rules. A trial's name says what
 it is, and ends in -refused-N where the call says no. The trials of the mirror call are in mirror_trials.py, those of the line call in
-line_trials.py.
+line_trials.py, and those of circulating, which the mesh check does, in fan_trials.py.
 """
 
 import argparse
@@ -11,6 +11,7 @@ import random
 from itertools import chain, count, product
 from pathlib import Path
 
+import fan_trials
 import line_trials
 import mirror_trials
 from meshes import BOUNDARY_FACES, CONTROL, INNER_VALENCES, STEPS, changed
@@ -540,8 +541,8 @@ def main():
         formatter_class=argparse.RawDescriptionHelpFormatter,
     )
     about.parse_args()
-    mirrors, lines = trials(mirror_trials.GROUPS), trials(line_trials.GROUPS)
-    write(chain(trials(MESHES + SAMPLES + PATCHES), files(), mirrors, mirror_trials.files(), lines, line_trials.files()))
+    mirrors, lines, fans = trials(mirror_trials.GROUPS), trials(line_trials.GROUPS), trials(fan_trials.GROUPS)
+    write(chain(trials(MESHES + SAMPLES + PATCHES), files(), mirrors, mirror_trials.files(), lines, line_trials.files(), fans))
 
 
 if __name__ == "__main__":
