@@ -16,8 +16,8 @@
  * before another has returned, and from several threads at once, as long as none writes a list or a number that another is handed.
  *
  * Stack: have 64 KiB free. Found in two ways, which agree within 100 bytes, on the archive of this version: by the frames and calls
- * in its machine code, and by how much of a painted stack the calls wrote over. rusketja_patches takes fewer than 23,600 bytes,
- * rusketja_mirror fewer than 7,100, rusketja_check fewer than 5,000, the others fewer than 256, whatever the sizes; no call recurses.
+ * in its machine code, and by how much of a painted stack the calls wrote over. rusketja_patches takes fewer than 23,100 bytes,
+ * rusketja_mirror fewer than 6,600, rusketja_check fewer than 4,500, the others fewer than 256, whatever the sizes; no call recurses.
  * The arrays in crates/mesh/src and crates/patch/src make up nearly all of it.
  *
  * Lengths, for V vertices, F faces and n steps:

@@ -48,8 +48,8 @@ module _ {n : ℕ} {s b : ℕ → ℕ} (g : Turning s b n) (at : ℕ → ℕ) (p
   unfolding iterate
   first-at zero c l e r = sym e
   first-at (suc i) c l e r =
-      let live = t .inside i (omega arith) in
-      absurd (omega (arith, live, sym (g .back (iterate s i o) live (t .inside (suc i) l)) ∙ ap b e ∙ r, g .few))
+      let live = t .corners .inside i (omega arith) in
+      absurd (omega (arith, live, sym (g .back (iterate s i o) live (t .corners .inside (suc i) l)) ∙ ap b e ∙ r, g .few))
 
   only-first : (c : ℕ) → c < n → at c ≡ p → b c ≡ noTwin → c ≡ o
   only-first c l h = let w = cover c l h in first-at (w .0) c (w .1) (w .2)
@@ -60,7 +60,7 @@ module _ {n : ℕ} {s b : ℕ → ℕ} (g : Turning s b n) (at : ℕ → ℕ) (p
       let w = cover c l h in
       lt-suc-cases (w .1)
       (λ e. sym (w .2) ∙ ap (λ (j : ℕ). iterate s j o) e)
-      (λ q. absurd (omega (arith, t .inside (suc (w .0)) (omega arith), ap s (w .2) ∙ r, g .few)))
+      (λ q. absurd (omega (arith, t .corners .inside (suc (w .0)) (omega arith), ap s (w .2) ∙ r, g .few)))
 
 module _ {n : ℕ} (at : ℕ → ℕ) (k : Corners n) (simple : Simple at n) where
   abbrev s : ℕ → ℕ
@@ -97,7 +97,7 @@ module _ {n : ℕ} (at : ℕ → ℕ) (k : Corners n) (simple : Simple at n) whe
     first-below = turn-first (fan-turning at k simple) o (suc m) t
 
     last-below : iterate s m o < n
-    last-below = t .inside m (omega arith)
+    last-below = t .corners .inside m (omega arith)
 
     none-before : (c : ℕ) → c < n → at c ≡ p → boundary at n c ≡ true → c ≡ o
     none-before c l h e = only-first (fan-turning at k simple) at p o m t cover c l h (leaves c l e)
@@ -130,7 +130,7 @@ module _ {n : ℕ} (at : ℕ → ℕ) (k : Corners n) (simple : Simple at n) whe
 
   kinds : (p o m : ℕ) → at o ≡ p → Turn s b n o m → Covers s at n p o m → InnerVertex at n p ⊎ BoundaryVertex at n p
   unfolding iterate
-  kinds p o zero here t cover = absurd (not-suc-le-zero (t .some))
+  kinds p o zero here t cover = absurd (not-suc-le-zero (t .corners .some))
   kinds p o (suc m) here t cover =
       ⊎-elim (λ u. inl (inner p o m here t cover u)) (λ u. inr (outer p o m here t cover (u .0) (u .1))) (t .ends)
 
@@ -169,22 +169,22 @@ module _ {n : ℕ} (at : ℕ → ℕ) (k : Corners n) (simple : Simple at n) whe
   run-inner : (c m : ℕ) → fan at n (at c) ≡ true → Run s n c (suc m) c → InnerVertex at n (at c)
   unfolding fan iterate
   run-inner c m f r =
-      let t : Turn s b n c (suc m) = record { some = r .some; inside = r .inside; apart = r .apart; ends = inl (r .ends) } in
+      let t : Turn s b n c (suc m) = record { corners = r .corners; ends = inl (r .ends) } in
       let all = eqb-true (suc m) (valence at n (at c)) (sym (fan-turn (fan-turning at k simple) at (fan-keeps at k simple) c (suc m) t) ∙ f) in
       inner (at c) c m refl t (turn-covers (fan-turning at k simple) c (suc m) t at (fan-keeps at k simple) all) (r .ends)
 
   run-enters : (c m : ℕ) → Run s n c (suc m) noTwin → anyAt at n (at c) (λ d. boundary at n (prev d)) ≡ true
   unfolding iterate
   run-enters c m r =
-      let last = r .inside m (omega arith) in
+      let last = r .corners .inside m (omega arith) in
       any-at-hit at n (at c) (λ d. boundary at n (prev d)) (iterate s m c) last
-      (steps-keep (fan-keeps at k simple) c m (λ j l. r .inside j (omega arith)))
+      (steps-keep (fan-keeps at k simple) c m (λ j l. r .corners .inside j (omega arith)))
       (enters-back (iterate s m c) last (r .ends))
 
   -- the corners at the vertex of c form a fan: it is on the boundary exactly when the walk on from c does not come back to c
   pub run-boundary : (c m : ℕ) (closed : Bool) → fan at n (at c) ≡ true → Run s n c m (cond closed c noTwin) → not closed ≡ onBoundary at n (at c)
   unfolding onBoundary
-  run-boundary c zero closed f r = absurd (not-suc-le-zero (r .some))
+  run-boundary c zero closed f r = absurd (not-suc-le-zero (r .corners .some))
   run-boundary c (suc m) true f r = sym (any-at-none at n (at c) (boundary at n) (run-inner c m f r .leaving))
   run-boundary c (suc m) false f r = sym (boundary-entering (at c) f ∙ run-enters c m r)
 

@@ -123,7 +123,7 @@ module _ {n : ℕ} {s b : ℕ → ℕ} (g : Turning s b n) (at : ℕ → ℕ) (k
         (g .on (iterate s k o) (inside k (omega arith) .0))
 
     places : Turn s b n o (suc k)
-    places = record { some = omega arith; inside = λ i l. inside i l .0; apart = apart; ends = ends }
+    places = record { corners = record { some = omega arith; inside = λ i l. inside i l .0; apart = apart }; ends = ends }
 
   pub covers-turn : (o m : ℕ) → o < n → Covers s at n (at o) o m → m ≡ valence at n (at o) → Turn s b n o m
   covers-turn o zero l cover e = absurd (not-suc-le-zero (cover o l refl .1))

@@ -24,43 +24,39 @@ module _ {n : ℕ} (at : ℕ → ℕ) (k : Corners n) (simple : Simple at n) whe
   -- ---- a turn of all the corners, as either of the two
   ordered : (p : ℕ) (w : OneTurn s b at n p) → Ordered at n p (w .first)
   ordered p w = record {
-    some = w .turn .some;
-    inside = w .turn .inside;
+    corners = w .turn .corners;
     here = λ i l. turn-at (fan-turning at k simple) (w .first) (valence at n p) (w .turn) at (fan-keeps at k simple) i l ∙ w .here;
-    apart = w .turn .apart;
     all = w .covers;
   }
 
   either : (p : ℕ) → OneTurn s b at n p → ClosedTurn at n p ⊎ OneChain at n p
   unfolding iterate
   either p w =
-      let t = w .turn in
+      let c = w .turn .corners in
       ⊎-elim
-      (λ e. inl (record { first = w .first; corners = ordered p w; back = e }))
+      (λ e. inl (record { first = w .first; order = ordered p w; back = e }))
       (λ e. inr (record {
         first = w .first;
-        corners = ordered p w;
-        leaving = leaves-back at k simple (w .first) (t .inside 0 (t .some)) (e .1);
+        order = ordered p w;
+        leaving = leaves-back at k simple (w .first) (c .inside 0 (c .some)) (e .1);
         entering = λ i q.
-            enters-back at k simple (iterate s i (w .first)) (t .inside i (omega arith)) (ap (λ (j : ℕ). iterate s j (w .first)) q ∙ e .0);
+            enters-back at k simple (iterate s i (w .first)) (c .inside i (omega arith)) (ap (λ (j : ℕ). iterate s j (w .first)) q ∙ e .0);
       }))
-      (t .ends)
+      (w .turn .ends)
 
   -- ---- and back
   closed-turn : (p : ℕ) (w : ClosedTurn at n p) → Turn s b n (w .first) (valence at n p)
-  closed-turn p w = let c = w .corners in record { some = c .some; inside = c .inside; apart = c .apart; ends = inl (w .back) }
+  closed-turn p w = record { corners = w .order .corners; ends = inl (w .back) }
 
   chain-turn : (p : ℕ) (w : OneChain at n p) → Turn s b n (w .first) (valence at n p)
   unfolding iterate
   chain-turn p w =
-      let c = w .corners in
+      let c = w .order .corners in
       let last = valence at n p - 1 in
       let full : suc last ≡ valence at n p = omega (arith, c .some) in
       let over = enters at k simple (iterate s last (w .first)) (c .inside last (omega (arith, full))) (w .entering last full) in
       record {
-        some = c .some;
-        inside = c .inside;
-        apart = c .apart;
+        corners = c;
         ends = inr (ap (λ (j : ℕ). iterate s j (w .first)) (sym full) ∙ over, leaves at k simple (w .first) (c .inside 0 (c .some)) (w .leaving));
       }
 
@@ -72,8 +68,8 @@ module _ {n : ℕ} (at : ℕ → ℕ) (k : Corners n) (simple : Simple at n) whe
   unfolding iterate
   one-fan p =
       ⊎-elim
-      (λ w. means-fan at k simple p (w .first) (w .corners .here 0 (w .corners .some)) (closed-turn p w))
-      (λ w. means-fan at k simple p (w .first) (w .corners .here 0 (w .corners .some)) (chain-turn p w))
+      (λ w. means-fan at k simple p (w .first) (w .order .here 0 (w .order .corners .some)) (closed-turn p w))
+      (λ w. means-fan at k simple p (w .first) (w .order .here 0 (w .order .corners .some)) (chain-turn p w))
 
   -- ---- circulating from c meets m corners: they are all the corners at its vertex exactly when these form one closed turn or one chain
   module _ (c m : ℕ) (w : Circulated (twin at n) n c m) where

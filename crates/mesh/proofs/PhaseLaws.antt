@@ -40,7 +40,9 @@ module _ {faces twins : List ℕ} {v f : ℕ} (k : Counted faces twins v f) wher
 
   -- the boundary half-edges are what the edges leave over
   pub edges-left : (e : ℕ) → e ≡ countBelow (λ c. ltb c (twinOf twins c)) (4 * f) → 4 * f + boundaries (vertexOf faces) (4 * f) ≡ 2 * e
-  edges-left e q = edges-twice (vertexOf faces) (indices-corners (k .twinned .indices)) (k .twinned .simple) (k .named) (k .ends) ∙ ap (λ (t : ℕ). 2 * t) (sym (q ∙ edges-table))
+  edges-left e q =
+      edges-twice (vertexOf faces) (indices-corners (k .twinned .indices)) (k .twinned .simple) (k .named) (k .ends)
+      ∙ ap (λ (t : ℕ). 2 * t) (sym (q ∙ edges-table))
 
 -- ---- what the early phases give where they meet no cause
 pub record Passed (M : IndexedMesh) : Type 0 where

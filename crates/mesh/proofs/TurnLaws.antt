@@ -25,7 +25,7 @@ Covers s at n p o m = (d : ℕ) → d < n → at d ≡ p → On s o m d
 module _ {n : ℕ} {s b : ℕ → ℕ} (g : Turning s b n) (o m : ℕ) (t : Turn s b n o m) where
   pub turn-first : o < n
   unfolding iterate
-  turn-first = t .inside 0 (t .some)
+  turn-first = t .corners .inside 0 (t .corners .some)
 
   on-more : (d : ℕ) → On s o m d → s d < n → On s o m (s d)
   unfolding iterate
@@ -33,7 +33,7 @@ module _ {n : ℕ} {s b : ℕ → ℕ} (g : Turning s b n) (o m : ℕ) (t : Turn
       ⊎-elim
       (λ last.
       let here : s d ≡ iterate s m o = ap s (sym (w .2)) ∙ ap (λ (k : ℕ). iterate s k o) last in
-      ⊎-elim (λ q. (0, t .some, sym (here ∙ q))) (λ q. absurd (omega (arith, here ∙ q .0))) (t .ends))
+      ⊎-elim (λ q. (0, t .corners .some, sym (here ∙ q))) (λ q. absurd (omega (arith, here ∙ q .0))) (t .ends))
       (λ l. (suc (w .0), l, ap s (w .2)))
       (eq-or-lt-of-le (w .1))
 
@@ -43,7 +43,7 @@ module _ {n : ℕ} {s b : ℕ → ℕ} (g : Turning s b n) (o m : ℕ) (t : Turn
   on-last k u q =
       let l : k < m = omega arith in
       let r : s (iterate s k o) ≡ o = ap (λ (x : ℕ). iterate s x o) u ∙ q in
-      (k, l, sym (g .back (iterate s k o) (t .inside k l) (rw r turn-first)) ∙ ap b r)
+      (k, l, sym (g .back (iterate s k o) (t .corners .inside k l) (rw r turn-first)) ∙ ap b r)
 
   on-less : (i d : ℕ) → i < m → iterate s i o ≡ d → b d < n → On s o m (b d)
   unfolding iterate
@@ -51,7 +51,7 @@ module _ {n : ℕ} {s b : ℕ → ℕ} (g : Turning s b n) (o m : ℕ) (t : Turn
       rw (← e) (⊎-elim (on-last (m - 1) (omega arith)) (λ q. absurd (omega (arith, ap b (sym e) ∙ q .1))) (t .ends))
   on-less (suc i) d l e h =
       let k : i < m = omega arith in
-      (i, k, sym (g .back (iterate s i o) (t .inside i k) (t .inside (suc i) l)) ∙ ap b e)
+      (i, k, sym (g .back (iterate s i o) (t .corners .inside i k) (t .corners .inside (suc i) l)) ∙ ap b e)
 
   pub on-steps : (j d : ℕ) → d < n → On s o m d → iterate s j d < n → On s o m (iterate s j d)
   unfolding iterate
@@ -62,25 +62,25 @@ module _ {n : ℕ} {s b : ℕ → ℕ} (g : Turning s b n) (o m : ℕ) (t : Turn
   unfolding iterate
   on-from zero d l w = w
   on-from (suc j) d l w =
-      let h : s (iterate s j d) < n = rw (← (w .2)) (t .inside (w .0) (w .1)) in
+      let h : s (iterate s j d) < n = rw (← (w .2)) (t .corners .inside (w .0) (w .1)) in
       let k = before g j d l h in
       let r : b (s (iterate s j d)) ≡ iterate s j d = g .back (iterate s j d) k h in
       on-from j d l (subst (On s o m) r (on-less (w .0) (s (iterate s j d)) (w .1) (w .2) (rw r k)))
 
   module _ (at : ℕ → ℕ) (keeps : Keeps s at n) where
     pub turn-at : (i : ℕ) → i < m → at (iterate s i o) ≡ at o
-    turn-at i l = steps-keep keeps o i (λ j h. t .inside j (omega arith))
+    turn-at i l = steps-keep keeps o i (λ j h. t .corners .inside j (omega arith))
 
     has : (i : ℕ) → i < m → eqb (at (iterate s i o)) (at o) ≡ true
     has i l = eq-eqb (at (iterate s i o)) (at o) (turn-at i l)
 
     pub turn-le : m ≤ valence at n (at o)
-    turn-le = rw valence-count (at-least (λ d. eqb (at d) (at o)) n m (λ i. iterate s i o) (t .inside) has (t .apart))
+    turn-le = rw valence-count (at-least (λ d. eqb (at d) (at o)) n m (λ i. iterate s i o) (t .corners .inside) has (t .corners .apart))
 
     -- where it has as many, it has them all
     pub turn-covers : m ≡ valence at n (at o) → Covers s at n (at o) o m
     turn-covers e d l q =
-        pigeons (λ d. eqb (at d) (at o)) n m (λ i. iterate s i o) (t .inside) has (t .apart)
+        pigeons (λ d. eqb (at d) (at o)) n m (λ i. iterate s i o) (t .corners .inside) has (t .corners .apart)
         (sym (e ∙ valence-count at n (at o))) d l (eq-eqb (at d) (at o) q)
 
     -- where any steps from one corner cover the vertex, the turn has as many
@@ -88,7 +88,7 @@ module _ {n : ℕ} {s b : ℕ → ℕ} (g : Turning s b n) (o m : ℕ) (t : Turn
     unfolding iterate
     turn-full c k lc cover =
         let first = cover o turn-first refl in
-        let start = on-from (first .0) c lc (0, t .some, sym (first .2)) in
+        let start = on-from (first .0) c lc (0, t .corners .some, sym (first .2)) in
         let most =
         at-most (λ d. eqb (at d) (at o)) n m (λ i. iterate s i o) (λ d l q.
         let w = cover d l (eqb-true (at d) (at o) q) in

@@ -85,7 +85,7 @@ module _ {n : ℕ} {s b : ℕ → ℕ} (g : Turning s b n) where
   walk-short o m w = short n m (λ i. iterate s i o) (w .inside) (walk-apart o m w)
 
   walk-run : (o m z : ℕ) → Walk s n o m → iterate s m o ≡ z → Run s n o m z
-  walk-run o m z w e = record { some = w .some; inside = w .inside; apart = walk-apart o m w; ends = e }
+  walk-run o m z w e = record { corners = record { some = w .some; inside = w .inside; apart = walk-apart o m w }; ends = e }
 
   -- ---- back
   chain-more : (start o m : ℕ) → Chain s n start o m → b o < n → Chain s n start (b o) (suc m)
@@ -118,7 +118,7 @@ module _ {n : ℕ} {s b : ℕ → ℕ} (g : Turning s b n) where
 
   chain-turn : (start o m : ℕ) → Chain s n start o m → b o ≡ noTwin → Turn s b n o m
   chain-turn start o m c e =
-      record { some = c .some; inside = c .inside; apart = chain-apart start o m c; ends = inr (c .over, e) }
+      record { corners = record { some = c .some; inside = c .inside; apart = chain-apart start o m c }; ends = inr (c .over, e) }
 
 -- ---- the two loops
 pub record Onward (tw : ℕ → ℕ) (n start met on : ℕ) : Type 0 where
@@ -163,9 +163,9 @@ module _ {n : ℕ} {tw : ℕ → ℕ} (k : Corners n) (p : Paired tw n) (start :
   unfolding iterate
   run-closed met closed r e = record {
     first = start;
-    turn = record { some = r .some; inside = r .inside; apart = r .apart; ends = inl (rw e at (r .ends)) };
+    turn = record { corners = r .corners; ends = inl (rw e at (r .ends)) };
     steps = 0;
-    few = r .some;
+    few = r .corners .some;
     through = refl;
   }
 
@@ -174,12 +174,14 @@ module _ {n : ℕ} {tw : ℕ → ℕ} (k : Corners n) (p : Paired tw n) (start :
 
   pub backward-start : (met back : ℕ) → Run (around tw n) n start met noTwin → back ≡ backAround tw n start → Backward tw n start met back
   unfolding iterate
-  backward-start met back r e = record {
-    first = start;
-    chain = record { some = r .some; inside = r .inside; over = r .ends; through = (0, r .some, refl) };
-    here = e;
-    short = short n met (λ i. iterate (around tw n) i start) (r .inside) (r .apart);
-  }
+  backward-start met back r e =
+      let c = r .corners in
+      record {
+        first = start;
+        chain = record { some = c .some; inside = c .inside; over = r .ends; through = (0, c .some, refl) };
+        here = e;
+        short = short n met (λ i. iterate (around tw n) i start) (c .inside) (c .apart);
+      }
 
   pub backward-in : (met back : ℕ) → Backward tw n start met back → (back ≡ noTwin → ⊥) → back < n
   unfolding iterate

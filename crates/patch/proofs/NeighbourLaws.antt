@@ -114,7 +114,9 @@ module _ (S : View) (k : Corners (S .shape .n)) (simple : Simple (S .shape .at) 
       ap (S .value) (sym (ap (λ (d : ℕ). at (next d)) (around-in (twin at n) n c l) ∙ twin-ends at n (prev c) k t .1))
 
   along : (g : ℕ → ℤ) → sumAt (S .shape) p g ≡ sumBelowℤ (λ i. g (iterate s i o)) m
-  along g = gather-along sumℤ-monoid n m at (λ i. iterate s i o) p (turn .inside) turn-here (turn .apart) (fan-means at k simple p f .covers) g
+  along g =
+      let c = turn .corners in
+      gather-along sumℤ-monoid n m at (λ i. iterate s i o) p (c .inside) turn-here (c .apart) (fan-means at k simple p f .covers) g
 
   -- four times the edge neighbours and the vertices across (rule B9): each edge neighbour is the next of one corner at p
   pub ring-neighbours : ringSum S p ≡ sumAt (S .shape) p (λ c. pos 4 *ℤ x S (next c) +ℤ x S (across c))
@@ -124,6 +126,6 @@ module _ (S : View) (k : Corners (S .shape .n)) (simple : Simple (S .shape .at) 
       let A : ℕ → ℤ = λ i. x S (across (iterate s i o)) in
       along _
       ∙ fold-ext (pos 0) _+ℤ_ m (λ i l.
-      ap (λ (z : ℤ). pos 2 *ℤ N i +ℤ pos 2 *ℤ z +ℤ A i) (prev-next-around (iterate s i o) (turn .inside i l) (turn-here i l)))
+      ap (λ (z : ℤ). pos 2 *ℤ N i +ℤ pos 2 *ℤ z +ℤ A i) (prev-next-around (iterate s i o) (turn .corners .inside i l) (turn-here i l)))
       ∙ +ℤ-cancel _ _ _ _ (turned N A m) (ap (λ (c : ℕ). pos 2 *ℤ x S (next c)) closed)
       ∙ sym (along _)

@@ -30,13 +30,14 @@ module _ {n : ℕ} {s b : ℕ → ℕ} (g : Turning s b n) (at : ℕ → ℕ) (k
   retraced o m t (suc i) j l =
       ap (λ (k : ℕ). iterate b (suc i) (iterate s k o)) (suc-add i j)
       ∙ iterate-in b i (s (iterate s (i + j) o))
-      ∙ ap (iterate b i) (g .back (iterate s (i + j) o) (t .inside (i + j) (omega arith)) (t .inside (suc (i + j)) (omega arith)))
+      ∙ ap (iterate b i) (g .back (iterate s (i + j) o) (t .corners .inside (i + j) (omega arith)) (t .corners .inside (suc (i + j)) (omega arith)))
       ∙ retraced o m t i j (omega arith)
 
   -- the last corner of a turn begins the same turn the other way
   turn-back : (o k : ℕ) → Turn s b n o (suc k) → Turn b s n (iterate s k o) (suc k)
   unfolding iterate
-  turn-back o k t = record { some = omega arith; inside = λ i l. rw (place i l) (t .inside (k - i) (omega arith)); apart = apart; ends = ends }
+  turn-back o k t =
+      record { corners = record { some = omega arith; inside = λ i l. rw (place i l) (t .corners .inside (k - i) (omega arith)); apart = apart }; ends = ends }
     where
       place : (i : ℕ) → i < suc k → iterate b i (iterate s k o) ≡ iterate s (k - i) o
       place i l =
@@ -44,7 +45,7 @@ module _ {n : ℕ} {s b : ℕ → ℕ} (g : Turning s b n) (at : ℕ → ℕ) (k
           subst (λ (x : ℕ). iterate b i (iterate s x o) ≡ iterate s (k - i) o) e (retraced o (suc k) t i (k - i) (omega arith))
 
       apart : (i j : ℕ) → i < suc k → j < suc k → iterate b i (iterate s k o) ≡ iterate b j (iterate s k o) → i ≡ j
-      apart i j a c e = let q : k - i ≡ k - j = t .apart (k - i) (k - j) (omega arith) (omega arith) (sym (place i a) ∙ e ∙ place j c) in omega arith
+      apart i j a c e = let q : k - i ≡ k - j = t .corners .apart (k - i) (k - j) (omega arith) (omega arith) (sym (place i a) ∙ e ∙ place j c) in omega arith
 
       first : iterate b k (iterate s k o) ≡ o
       first = place k (omega arith) ∙ ap (λ (x : ℕ). iterate s x o) (let e : k - k ≡ 0 = omega arith in e)
@@ -54,14 +55,14 @@ module _ {n : ℕ} {s b : ℕ → ℕ} (g : Turning s b n) (at : ℕ → ℕ) (k
 
       ends : (b (iterate b k (iterate s k o)) ≡ iterate s k o) ⊎ ((b (iterate b k (iterate s k o)) ≡ noTwin) × (s (iterate s k o) ≡ noTwin))
       ends =
-          ⊎-elim (λ e. inl (ap b (first ∙ sym e) ∙ g .back (iterate s k o) (t .inside k last) (rw e (t .inside 0 (t .some)))))
+          ⊎-elim (λ e. inl (ap b (first ∙ sym e) ∙ g .back (iterate s k o) (t .corners .inside k last) (rw e (t .corners .inside 0 (t .corners .some)))))
           (λ e. inr (ap b first ∙ e .1, e .0)) (t .ends)
 
   fan-other : (p : ℕ) → fanBy s at n p ≡ true → fanBy b at n p ≡ true
   fan-other p f = let w = fanBy-means g at keeps p f in go (w .first) (w .here) (valence at n p) refl (w .turn)
     where
       go : (o : ℕ) → at o ≡ p → (m : ℕ) → valence at n p ≡ m → Turn s b n o m → fanBy b at n p ≡ true
-      go o q zero e t = absurd (not-suc-le-zero (t .some))
+      go o q zero e t = absurd (not-suc-le-zero (t .corners .some))
       go o q (suc k) e t =
           let last : k < suc k = omega arith in
           means-fanBy (turning-back g) at keeps-back p (iterate s k o) (turn-at g o (suc k) t at keeps k last ∙ q)

@@ -21,10 +21,13 @@ Inv-loop faces n v twins tags head p₀ p = (p ≤ v) × (anyBelow (λ q. eqb (g
 abbrev μ-loop : tie.MeasureT-loop
 μ-loop faces n v twins tags head p₀ p = v - p
 
+abbrev entry : tie.After-shared-slice-known4 Inv-loop μ-loop → tie.Start Inv-loop μ-loop
+entry c = c .before .before .before .before
+
 -- ---- in the loop
 module _ (i : tie.In-loop Inv-loop μ-loop) where
   abbrev start : tie.Start Inv-loop μ-loop
-  start = i .before .before .before .before .before .before
+  start = entry (i .before .before)
 
 loop-holds : tie.Need-loop-holds Inv-loop μ-loop
 loop-holds c = search (any-start, needs)
