@@ -1,18 +1,20 @@
 -- Counting the corners that circulating meets tells one closed turn or one chain: they are as many as the corners at the vertex exactly when these
--- form one of the two. `fan` says the same of the vertex.
+-- form one of the two. `fan` says the same of one vertex, and row 9 of all.
 use mathlib.Core.Path.{_≡_, sym, ap, _∙_}
-use mathlib.Core.Bool.{true}
+use mathlib.Core.Bool.{true, false}
 use mathlib.Core.Logic.{_⊎_, inl, inr, ⊎-elim}
-use Prim.Native.Nat.{ℕ, suc, _-_}
+use Prim.Native.Nat.{ℕ, suc, _-_, _<_}
 use native.Mathlib.Omega.{arith}
 use borrow.Author.Tests.{eq-eqb, eqb-true}
 use Rattle.mesh.specs.HalfEdge.{twin, Simple}
 use Rattle.mesh.specs.Fan.{valence, around, iterate, fan}
+use Rattle.mesh.specs.Refusal.{fanBroken}
 use Rattle.mesh.specs.Tables.{Corners}
 use Rattle.mesh.specs.Circulation.{backAround, Turn, Circulated, Ordered, ClosedTurn, OneChain}
 use Rattle.mesh.proofs.TurnLaws.{turn-at}
 use Rattle.mesh.proofs.FanLaws.{OneTurn, fan-turning, fan-keeps, fan-means, means-fan, circulated-fan}
 use Rattle.mesh.proofs.BoundaryLaws.{leaves, leaves-back, enters, enters-back}
+use Rattle.mesh.proofs.AcceptedLaws.{fan-false, fan-none}
 
 module _ {n : ℕ} (at : ℕ → ℕ) (k : Corners n) (simple : Simple at n) where
   abbrev s : ℕ → ℕ
@@ -70,6 +72,13 @@ module _ {n : ℕ} (at : ℕ → ℕ) (k : Corners n) (simple : Simple at n) whe
       ⊎-elim
       (λ w. means-fan at k simple p (w .first) (w .order .here 0 (w .order .corners .some)) (closed-turn p w))
       (λ w. means-fan at k simple p (w .first) (w .order .here 0 (w .order .corners .some)) (chain-turn p w))
+
+  -- ---- so 9 is met by no vertex below v exactly when the corners at each of them do
+  pub whole-ones : (v : ℕ) → fanBroken at n v ≡ false → (p : ℕ) → p < v → ClosedTurn at n p ⊎ OneChain at n p
+  whole-ones v e p l = fan-one p (fan-false at n v e p l)
+
+  pub ones-whole : (v : ℕ) → ((p : ℕ) → p < v → ClosedTurn at n p ⊎ OneChain at n p) → fanBroken at n v ≡ false
+  ones-whole v h = fan-none at n v (λ p l. one-fan p (h p l))
 
   -- ---- circulating from c meets m corners: they are all the corners at its vertex exactly when these form one closed turn or one chain
   module _ (c m : ℕ) (w : Circulated (twin at n) n c m) where

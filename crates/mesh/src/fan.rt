@@ -53,8 +53,8 @@ fn on_boundary(faces: &[u16], n: usize, twins: &[u16], head: &[u16], p: usize) -
     !on.closed
 }
 
-// Whether `valence` corners at vertex p, which form a fan, are too few or too many. Whether p is on the boundary is asked only of a valence
-// that is in one of the two ranges.
+// Whether `valence` corners at vertex p, which form a fan, are too few or too many. Whether p is on the boundary is asked only where the
+// two ranges differ.
 fn valence_off(
     faces: &[u16],
     n: usize,
