@@ -123,8 +123,8 @@ int main(void)
     expect("patches", rusketja_patches(4, 1, positions, 12, tags, 4, indices, 4, twins, 5, patches, 49, &v, &f, &e, &b), 0);
     expect_size("E", e, 4);
     expect("b(1,0) x", patches[3 * 1], 1792);
-    expect("b(1,1) y", patches[3 * 5 + 1], 2304);
-    expect("b(2,1) x", patches[3 * 6], 3072);
+    expect("b(1,1) y", patches[3 * 5 + 1], 1792);
+    expect("b(2,1) x", patches[3 * 6], 3584);
     expect("patches beyond 48F", patches[48], 7);
 
     expect("sample (1,1), N = 2", rusketja_sample(patches, 49, 0, 2, 1, 1, &x, &y, &z), 0);

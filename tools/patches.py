@@ -32,8 +32,11 @@ class Surface:
         return {q for q in self.joined[p] if len(self.beside[frozenset((p, q))]) == 1}
 
     def weight(self, p):
-        """The weight w of rule B4: the number of faces, doubled on the rim."""
-        return len(self.about[p]) * (2 if self.rim_neighbours(p) else 1)
+        """The weight w of rule B4: the number of faces; on the rim twice that, or 4 where there is one."""
+        n = len(self.about[p])
+        if not self.rim_neighbours(p):
+            return n
+        return 4 if n == 1 else 2 * n
 
     @staticmethod
     def across(face, p):

@@ -57,6 +57,11 @@ def grid(n, m):
     return Shape([tuple(a + (n + 1) * b for a, b in corners(i, j)) for j in range(m) for i in range(n)])
 
 
+def notched(n, m):
+    """n by m faces without the last one, so that three are left about the vertex before it."""
+    return Shape(grid(n, m).faces[:-1])
+
+
 def torus(n, m):
     """n by m faces, joined left to right and top to bottom."""
     corners = lambda i, j: ((i, j), (i + 1, j), (i + 1, j + 1), (i, j + 1))

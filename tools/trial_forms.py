@@ -11,7 +11,7 @@ from dataclasses import dataclass
 
 from meshes import MESH_FAULTS, NO_MATE, Mesh, MeshReading, PatchReading, changed, mirrored, numbered, spoiled
 from patches import PATCH, mirrored_patch, mirrored_samples, mirrored_side, rounded, shuffled
-from shapes import Shape, cube, square
+from shapes import Shape, cube, notched, square
 
 # What the program fills the lent lists with, the places that it has for a list and for that of patches, and how many of a list of
 # control values or positions it prints in clear.
@@ -135,6 +135,11 @@ def the_strip(n=2):
     """The strip of rule X6."""
     at = [(0, 0, 0), (9, 0, 0), (18, 0, 9), (18, 9, 0), (9, 9, 0), (0, 9, 0)]
     return placed(Shape([(0, 1, 4, 5), (1, 2, 3, 4)]), at, n)
+
+
+def the_reentrant(n=2):
+    """The three faces about a vertex of rule X14."""
+    return placed(notched(2, 2), [(99 * x, 99 * y, 0) for y in range(3) for x in range(3)][:8], n)
 
 
 # ---- Mirror trials: the arguments of the mirror call; the lent twins, the patches and N are for the image.

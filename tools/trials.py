@@ -30,6 +30,7 @@ from shapes import (
     isolated,
     join,
     moebius,
+    notched,
     open_fan,
     pillow,
     renumbered,
@@ -53,6 +54,7 @@ from trial_forms import (
     shuffled_trial,
     tagged,
     the_cube,
+    the_reentrant,
     the_square,
     the_strip,
     with_faults,
@@ -471,6 +473,18 @@ def patch_refused():
     yield "patch-twins-short-and-every-cause-from-3-refused-2", patched(with_faults(later | {2}))
 
 
+def patch_boundary():
+    """Boundary vertices with one face, alone and beside those with two and three, whose weights are 4, 4 and 6; and renumbered."""
+    yield from with_renumbered("patch-square-3-steps", the_square(3))
+    for n in (1, 2, 3):
+        yield from with_renumbered(f"patch-reentrant-{n}-steps", the_reentrant(n))
+    for p in (0, 1, 4):
+        yield f"patch-reentrant-tag-at-{p}", tagged(the_reentrant(), p)
+    yield from with_renumbered("patch-strip-of-five", varied(strip(5), 5))
+    yield from with_renumbered("patch-squares-apart", varied(join(square(), square(), square()), 6))
+    yield from with_renumbered("patch-grid-3-by-3-notched", varied(notched(3, 3), 7))
+
+
 # ---- Files that are no trial.
 
 
@@ -504,7 +518,7 @@ def files():
 
 MESHES = (accepted, sizes, lent, entries, half_edges, vertices, pairs)
 SAMPLES = (sample_faces, sample_controls, sample_places, sample_pairs, sample_rounding, sample_random, sample_limits)
-PATCHES = (patch_twice, patch_largest, patch_lent, patch_refused)
+PATCHES = (patch_twice, patch_largest, patch_lent, patch_refused, patch_boundary)
 
 
 def trials(groups):

@@ -41,6 +41,7 @@ from shapes import (
     isolated,
     join,
     moebius,
+    notched,
     open_fan,
     pillow,
     ring,
@@ -145,6 +146,11 @@ def the_cube():
     return placed(cube(), at)
 
 
+def the_reentrant():
+    """The three faces about a vertex of rule X14."""
+    return placed(notched(2, 2), [(99 * x, 99 * y, 0) for y in range(3) for x in range(3)][:8])
+
+
 def with_halves(content):
     """A file with samples halfway between whole numbers, of either sign, above an even number and above an odd one."""
     samples = [x for exact in FileReading(content).reading.exact for sample in exact.values() for x in sample]
@@ -156,11 +162,12 @@ def with_halves(content):
 
 
 def examples():
-    """The meshes of rules X1, X3 and X5."""
-    for n in (1, 2, 32):
+    """The meshes of rules X1, X3, X5 and X14."""
+    for n in (1, 2, 3, 32):
         yield f"square-{n}-steps", file(the_square(), n)
     for n in (1, 2, 16, 32):
         yield f"cube-{n}-steps", file(the_cube(), n)
+    yield "reentrant-3-steps", file(the_reentrant(), 3)
     yield "pillow-refused-10", file(numbered(pillow()))
     yield "same-face-twice-refused-7", file(numbered(Shape(square().faces * 2)))
     yield "bow-tie-refused-9", file(numbered(bow_tie()))

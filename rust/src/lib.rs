@@ -153,8 +153,8 @@ pub fn check(mesh: &Mesh, twins: &mut [u16]) -> Result<Counts, Refusal> {
 /// patches(&square, &mut [0; 4], &mut controls)?;
 /// // b(1,0), b(1,1) and b(2,1)
 /// assert_eq!(controls[3..6], [1792, 0, 0]);
-/// assert_eq!(controls[15..18], [2304, 2304, 0]);
-/// assert_eq!(controls[18..21], [3072, 2304, 0]);
+/// assert_eq!(controls[15..18], [1792, 1792, 0]);
+/// assert_eq!(controls[18..21], [3584, 1792, 0]);
 /// # Ok::<(), rusketja::Refusal>(())
 /// ```
 pub fn patches(mesh: &Mesh, twins: &mut [u16], patches: &mut [i32]) -> Result<Counts, Refusal> {

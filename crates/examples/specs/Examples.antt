@@ -19,12 +19,12 @@ use Rattle.sample.specs.Bernstein.{bernstein, numerator, rounded}
 use Rattle.sample.specs.Refusal.{faceOff, controlOff, placeOff}
 use Rattle.sample.specs.declared.model.Point as Sample
 use Rattle.sample.specs.Answer.{sampleAnswer}
-use Rattle.mask.specs.Mask.{innerMask, edgeMask, boundaryEdgeMask, smoothCornerMask, boundaryCornerMask, vertexMask}
+use Rattle.mask.specs.Mask.{cornerWeight, innerMask, edgeMask, boundaryEdgeMask, smoothCornerMask, boundaryCornerMask, vertexMask}
 use Rattle.patch.specs.Point.{weight, sharp, sharpSum, ringSum, fixed, cornerPoint, innerPoint, edgePoint, alongPoint, beforePoint, point}
 use Rattle.patch.specs.Patch.{owner, kind, patchPoint, patchNumber, patchesAfter}
 use Rattle.sample.specs.Line.{lineShort, lineAnswer, lineAfter}
 use Rattle.edit.specs.Mirror.{mirrored, mirrorAnswer}
-use Rattle.examples.specs.Meshes.{square, cube, pillow, doubledFace, bowTie, strip, tagged, openFanOfEight, openFanOfNine}
+use Rattle.examples.specs.Meshes.{square, cube, pillow, doubledFace, bowTie, strip, reentrant, tagged, openFanOfEight, openFanOfNine}
 
 -- an example: what is computed, and what is stated
 pub record Example : Type 0 where
@@ -91,18 +91,20 @@ naturals (n ∷ ns) = pos n ∷ naturals ns
 
 -- The square's control points and samples (rules X1 and X2); the cube's counts, corner point, inner point and edge point at (24,24,24) (rule X3);
 -- the roundings of 1/2, 3/2, 5/2, -1/2, -3/2 (rule X4); a face and its own back, so that every n is 2, one face named twice, and two faces
--- that share a vertex but no half-edge (rule X5); two faces side by side with boundary vertices of two faces (rule X6); the square as an accepted
+-- that share a vertex but no half-edge (rule X5); two faces side by side, with boundary vertices of one face and of two (rule X6); the square as an accepted
 -- mesh (rule X1); the strip with a boundary vertex tagged 1 and 2, and the cube with a tagged vertex (rule X7); open fans of eight and nine faces
 -- (rule X8); the mirror image of the strip: its lists, counts, control points and a sample, beside that of the strip, and the mirror call on lists that
 -- fit, that are too long and too short, and on a refused mesh with a list that is too long (rule X12); the line call on the second face of the strip,
--- with a list that fits, one that is longer, one that is too short, and refusals that come before that one (rule X13).
+-- with a list that fits, one that is longer, one that is too short, and refusals that come before that one (rule X13); three faces about a vertex, beside
+-- vertices of one face and of two (rule X14).
 pub examples : List Example
 examples =
     example (controlPoint square 0 1 0) (xyz 1792 0 0)
-    ∷ example (controlPoint square 0 1 1) (xyz 2304 2304 0)
-    ∷ example (controlPoint square 0 2 1) (xyz 3072 2304 0)
+    ∷ example (controlPoint square 0 1 1) (xyz 1792 1792 0)
+    ∷ example (controlPoint square 0 2 1) (xyz 3584 1792 0)
     ∷ example (sampled square 2 0 1 0) (xyz 2688 0 0)
     ∷ example (sampled square 2 0 1 1) (xyz 2688 2688 0)
+    ∷ example (sampled square 3 0 1 1) (xyz 1792 1792 0)
     ∷ example (checked cube) (pos 8 ∷ pos 6 ∷ pos 12 ∷ pos 0 ∷ [])
     ∷ example (controlPoint cube 0 0 0) (xyz 3072 3072 3072)
     ∷ example (controlPoint cube 0 1 1) (xyz 1536 1536 6144)
@@ -116,10 +118,13 @@ examples =
     ∷ example (checked doubledFace) (pos 7 ∷ [])
     ∷ example (checked bowTie) (pos 9 ∷ [])
     ∷ example (checked strip) (pos 6 ∷ pos 2 ∷ pos 7 ∷ pos 6 ∷ [])
+    ∷ example (controlPoint strip 0 1 1) (xyz 768 768 0)
     ∷ example (controlPoint strip 0 2 1) (xyz 1536 768 0)
     ∷ example (controlPoint strip 0 3 1) (xyz 2304 768 256)
     ∷ example (controlPoint strip 0 3 0) (xyz 2304 0 384)
     ∷ example (controlPoint strip 1 1 1) (xyz 3072 768 512)
+    ∷ example (controlPoint strip 1 2 1) (xyz 3840 768 1024)
+    ∷ example (controlPoint strip 1 3 0) (xyz 4608 0 2304)
     ∷ example (checked square) (pos 4 ∷ pos 1 ∷ pos 4 ∷ pos 4 ∷ [])
     ∷ example (checked (tagged strip (0 ∷ 1 ∷ 0 ∷ 0 ∷ 0 ∷ 0 ∷ []))) (pos 6 ∷ pos 2 ∷ pos 7 ∷ pos 6 ∷ [])
     ∷ example (controlPoint (tagged strip (0 ∷ 1 ∷ 0 ∷ 0 ∷ 0 ∷ 0 ∷ [])) 0 3 0) (xyz 2304 0 0)
@@ -142,18 +147,23 @@ examples =
     ∷ example (mirroring strip 18 6 7) (pos 16 ∷ [])
     ∷ example (mirroring (tagged cube (0 ∷ 0 ∷ 0 ∷ 0 ∷ 0 ∷ 0 ∷ 0 ∷ 1 ∷ [])) 25 8 24) (pos 11 ∷ [])
     ∷ example (lined strip 2 1 0 9) (xyz 2304 0 384 ++ xyz 3456 0 1200 ++ xyz 4608 0 2304)
-    ∷ example (lined strip 2 1 1 10) (xyz 2304 1152 192 ++ xyz 3394 1152 569 ++ xyz 4608 1152 1152 ++ (pos 7 ∷ []))
+    ∷ example (lined strip 2 1 1 10) (xyz 2304 1152 192 ++ xyz 3456 1152 600 ++ xyz 4608 1152 1152 ++ (pos 7 ∷ []))
     ∷ example (lined strip 2 1 1 8) (pos 17 ∷ replicate 8 (pos 7))
     ∷ example (lined strip 2 1 3 8) (pos 14 ∷ replicate 8 (pos 7))
     ∷ example (lined strip 33 1 3 102) (pos 14 ∷ replicate 102 (pos 7))
     ∷ example (lined strip 0 2 1 0) (pos 12 ∷ [])
+    ∷ example (checked reentrant) (pos 8 ∷ pos 3 ∷ pos 10 ∷ pos 8 ∷ [])
+    ∷ example (controlPoint reentrant 0 1 1) (xyz 8448 8448 0)
+    ∷ example (controlPoint reentrant 0 2 1) (xyz 16896 8448 0)
+    ∷ example (controlPoint reentrant 0 2 2) (xyz 18432 18432 0)
+    ∷ example (controlPoint reentrant 0 3 3) (xyz 29568 29568 0)
     ∷ []
 
 pub examples-hold : computedAll examples ≡ statedAll examples
 unfolding examples halfEven nearestℕ nearest foldBelow listBelow filled
     isTwin twin boundary sameWay doubled joins edges boundaries valence onBoundary around iterate fanBy fan
     sizesOff coordinateOff tagOff vertexOff vertexTwice halfEdgeTwice vertexUnused fanBroken valenceOff innerTagged meshRefusal
-    innerMask edgeMask boundaryEdgeMask smoothCornerMask boundaryCornerMask vertexMask weight sharp sharpSum ringSum fixed
+    cornerWeight innerMask edgeMask boundaryEdgeMask smoothCornerMask boundaryCornerMask vertexMask weight sharp sharpSum ringSum fixed
     cornerPoint innerPoint edgePoint alongPoint beforePoint point owner kind patchPoint patchNumber
     bernstein numerator rounded faceOff controlOff placeOff sampleAnswer lineShort
 examples-hold = refl

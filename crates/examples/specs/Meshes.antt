@@ -49,6 +49,14 @@ strip =
     ∷ pos 18 ∷ pos 9 ∷ pos 0 ∷ pos 9 ∷ pos 9 ∷ pos 0 ∷ pos 0 ∷ pos 9 ∷ pos 0 ∷ [])
     (replicate 6 0) (0 ∷ 1 ∷ 4 ∷ 5 ∷ 1 ∷ 2 ∷ 3 ∷ 4 ∷ [])
 
+-- three of the four squares about vertex 4, which has a reentrant corner there: vertices 1 and 3 have two faces, the others one
+abbrev pub reentrant : IndexedMesh
+reentrant =
+    indexed 8 3
+    (pos 0 ∷ pos 0 ∷ pos 0 ∷ pos 99 ∷ pos 0 ∷ pos 0 ∷ pos 198 ∷ pos 0 ∷ pos 0 ∷ pos 0 ∷ pos 99 ∷ pos 0
+    ∷ pos 99 ∷ pos 99 ∷ pos 0 ∷ pos 198 ∷ pos 99 ∷ pos 0 ∷ pos 0 ∷ pos 198 ∷ pos 0 ∷ pos 99 ∷ pos 198 ∷ pos 0 ∷ [])
+    (replicate 8 0) (0 ∷ 1 ∷ 4 ∷ 3 ∷ 1 ∷ 2 ∷ 5 ∷ 4 ∷ 3 ∷ 4 ∷ 7 ∷ 6 ∷ [])
+
 -- a mesh with tags of its own
 abbrev pub tagged : IndexedMesh → List ℕ → IndexedMesh
 tagged M tags = indexed (M .vertices) (M .faces) (M .positions) tags (M .indices)

@@ -1,6 +1,8 @@
 -- The masks, as functions of numbers: of one coordinate of each vertex that a mask names (rule B2).
 -- Each gives a fraction, numerator and divisor; its weights are non-negative and sum to its divisor.
 --
+--   cornerWeight inside m   w at a corner of a vertex with m faces: m inside; on the boundary 2m, but 4 where m is 1 (rule B4; Kovacs and others,
+--                           section 3; Loop and Schaefer, figure 21b)
 --   innerMask w p e e' f    (w p + 2e + 2e' + f) / (w + 5): e and e' are the neighbours of p in the face, f the vertex across (rule B6; Loop and
 --                           Schaefer, figure 4a)
 --   edgeMask w p q a a' c c'   (2w p + 4q + 2a + 2a' + c + c') / (2w + 10): in the two faces of the edge p q, a and a' are the neighbours of p
@@ -13,12 +15,17 @@
 --                           others, section 3)
 --   vertexMask p            p itself: for a boundary vertex with tag 1, or with k = 1 (rule B11; Kovacs and others, section 4; Loop and Schaefer,
 --                           figure 20)
+use mathlib.Core.Bool.{Bool, cond}
 use Prim.Native.Nat.{ℕ, _+_, _*_}
+use lib.Dec.{eqb}
 use lib.IntN.{ℤ, pos, _+ℤ_, _*ℤ_}
 
 pub record Fraction : Type 0 where
   pub num : ℤ
   pub den : ℕ
+
+unfoldable pub cornerWeight : Bool → ℕ → ℕ
+cornerWeight inside m = cond inside m (cond (eqb m 1) 4 (2 * m))
 
 unfoldable pub innerMask : ℕ → ℤ → ℤ → ℤ → ℤ → Fraction
 innerMask w p e e' f = record { num = pos w *ℤ p +ℤ pos 2 *ℤ e +ℤ pos 2 *ℤ e' +ℤ f; den = w + 5 }

@@ -5,12 +5,11 @@ use crate::model::FaceValues;
 use crate::model::Fraction;
 use limits::model::Mesh;
 ghost use mathlib.Core.Path.{_≡_};
-ghost use mathlib.Core.Bool.{cond, _||_};
-ghost use Prim.Native.Nat.{_*_};
+ghost use mathlib.Core.Bool.{_||_};
 ghost use lib.Dec.{eqb};
 ghost use lib.IntN.{pos, _+ℤ_, _*ℤ_};
 ghost use Rattle.limits.specs.Limits.{cornerTag};
-ghost use Rattle.mask.specs.Mask.{innerMask, edgeMask, boundaryEdgeMask, smoothCornerMask, boundaryCornerMask, vertexMask};
+ghost use Rattle.mask.specs.Mask.{cornerWeight, innerMask, edgeMask, boundaryEdgeMask, smoothCornerMask, boundaryCornerMask, vertexMask};
 ghost use Rattle.mask.specs.FractionOf.{fractionOf};
 
 // The inner point at a corner of weight w. Writes: nothing. Refuses: nothing.
@@ -93,11 +92,14 @@ pub fn fixed(tag: u8, faces: u16) -> bool
 
 // The weight of a corner of a vertex, inside or not, with so many faces. Writes: nothing. Refuses: nothing.
 pub fn corner_weight(inside: bool, valence: u16) -> u32
-    ensures { λ r. ⌜ r ≡ cond inside valence (2 * valence) ⌝ }
+    ensures { λ r. ⌜ r ≡ cornerWeight inside valence ⌝ }
 {
     let n = valence as u32;
     if inside {
         return n;
+    }
+    if n == 1 {
+        return 4;
     }
     n + n
 }

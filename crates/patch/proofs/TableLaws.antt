@@ -22,6 +22,7 @@ use Rattle.mesh.proofs.BoundaryLaws.{boundary-vertex}
 use Rattle.mesh.proofs.SizeLaws.{sized-indices}
 use Rattle.mesh.proofs.AcceptedLaws.{accepted-corners}
 use Rattle.mesh.specs.Tables.{Corners, Holds, Indices}
+use Rattle.mask.specs.Mask.{cornerWeight}
 use Rattle.mask.proofs.LinearLaws.{bounds, ring}
 use Rattle.patch.specs.Point.{Shape, View, x, ringTerm, sharpTerm, faces, inside, weight, sharp, sharpSum, ringSum, fixed, cornerPoint}
 use Rattle.patch.specs.Patch.{shape, view}
@@ -124,12 +125,13 @@ module _ {M : IndexedMesh} (a : WellFormed M) where
         (omega (arith, abs-+ (x (view M k) (next n)) (x (view M k) (prev m)), corner-size 1 n (w .leaving .below), corner-size 3 m (w .entering .below)))
 
 -- ---- the weight of a corner and the corner point, from the entries of the tables
--- a number or twice a number
-pub twice-most : (b : Bool) (m n : ℕ) → m ≤ n → cond b m (2 * m) ≤ 2 * n
-twice-most true m n l = omega arith
-twice-most false m n l = omega arith
+-- 4, or at most twice the faces
+pub weight-most : (i : Bool) (m n : ℕ) → m ≤ n → cornerWeight i m ≤ 2 * n + 4
+unfolding cornerWeight
+weight-most true m n l = omega arith
+weight-most false m n l = bool-cases (eqb m 1) (λ e. rw e (omega arith)) (λ e. rw e (omega arith))
 
-pub weight-entries : (G : Shape) (c p : ℕ) (i : Bool) (m : ℕ) → p ≡ G .at c → i ≡ inside G p → m ≡ faces G p → cond i m (2 * m) ≡ weight G c
+pub weight-entries : (G : Shape) (c p : ℕ) (i : Bool) (m : ℕ) → p ≡ G .at c → i ≡ inside G p → m ≡ faces G p → cornerWeight i m ≡ weight G c
 unfolding weight
 weight-entries G c p i m hp hi hm = rw (hi, hm, hp)
 

@@ -2,8 +2,7 @@
 --
 --   Shape           what no coordinate tells: n corners, the vertex `at c` of each, a tag of each vertex
 --   View            what the points are read from: a shape, and a coordinate of each vertex
---   weight G c      w of the vertex of corner c: n of an inner vertex and 2k of a boundary vertex, k = 1 included (rule B4; Kovacs and others,
---                   section 3)
+--   weight G c      w at corner c: that of its vertex, inside or on the boundary, with so many faces (rule B4)
 --   sharp G c       half-edge c takes the boundary rule: it has no twin
 --   sharpSum S p    the far ends of the sharp half-edges at p: of a boundary vertex its two boundary neighbours (rule B10)
 --   ringSum S p     four times the edge neighbours of p and the vertices across: each edge neighbour is the next of one corner at p
@@ -15,7 +14,7 @@
 --   beforePoint S c    the edge point on the half-edge before c near its end, which is the vertex of c (rules B5, B7 and B8)
 --   innerPoint S c     the inner point at corner c, which the user calls the interior point (rule B6)
 use mathlib.Core.Bool.{Bool, not, cond, _||_}
-use Prim.Native.Nat.{ℕ, _*_}
+use Prim.Native.Nat.{ℕ}
 use lib.Dec.{eqb}
 use lib.IntN.{ℤ, pos, _+ℤ_, _*ℤ_}
 use Rattle.finite.specs.Fold.{gather}
@@ -23,7 +22,7 @@ use Rattle.limits.specs.Limits.{cornerTag}
 use Rattle.corner.specs.Corner.{next, across, prev}
 use Rattle.mesh.specs.HalfEdge.{twin, boundary}
 use Rattle.mesh.specs.Fan.{valence, onBoundary}
-use Rattle.mask.specs.Mask.{Fraction, innerMask, edgeMask, boundaryEdgeMask, smoothCornerMask, boundaryCornerMask, vertexMask}
+use Rattle.mask.specs.Mask.{Fraction, cornerWeight, innerMask, edgeMask, boundaryEdgeMask, smoothCornerMask, boundaryCornerMask, vertexMask}
 
 pub record Shape : Type 0 where
   pub n : ℕ
@@ -46,7 +45,7 @@ abbrev pub inside : Shape → ℕ → Bool
 inside G p = not (onBoundary (G .at) (G .n) p)
 
 unfoldable pub weight : Shape → ℕ → ℕ
-weight G c = cond (inside G (G .at c)) (faces G (G .at c)) (2 * faces G (G .at c))
+weight G c = cornerWeight (inside G (G .at c)) (faces G (G .at c))
 
 unfoldable pub sharp : Shape → ℕ → Bool
 sharp G c = boundary (G .at) (G .n) c

@@ -16,7 +16,7 @@ struct Tables<'a> {
     positions: &'a [i32],
     indices: &'a [u16],
     twins: &'a [u16],
-    /// n at an inner vertex, 2k at a boundary vertex.
+    /// n at an inner vertex; at a boundary vertex 2k, but 4 for k = 1.
     weights: [u16; MAX_VERTICES],
     /// The corner point of each vertex.
     points: [i32; 3 * MAX_VERTICES],
@@ -104,17 +104,21 @@ impl Tables<'_> {
         let valences = self.scatter::<A>(|_| 1);
         for p in 0..tags.len() {
             let valence = A::get(&valences, p) as u16;
-            *A::at(&mut self.weights, p) = if A::get(&leaving, p) == 0 { valence } else { 2 * valence };
+            *A::at(&mut self.weights, p) = match (A::get(&leaving, p), valence) {
+                (0, n) => n,
+                (_, 1) => 4,
+                (_, k) => 2 * k,
+            };
         }
         for k in 0..3 {
             let ring = self.scatter::<A>(|c| self.ring_term::<A>(k, c));
             let sharp = self.scatter::<A>(|c| self.sharp_term::<A>(k, c));
             for p in 0..tags.len() {
                 let x = i64::from(A::get(self.positions, 3 * p + k));
-                let weight = u32::from(A::get(&self.weights, p));
+                let valence = A::get(&valences, p) as u32;
                 *A::at(&mut self.points, 3 * p + k) = if A::get(&leaving, p) == 0 {
-                    in_units(i64::from(weight * weight) * x + A::get(&ring, p), weight * (weight + 5))
-                } else if A::get(tags, p) == CORNER_TAG || weight == 2 {
+                    in_units(i64::from(valence * valence) * x + A::get(&ring, p), valence * (valence + 5))
+                } else if A::get(tags, p) == CORNER_TAG || valence == 1 {
                     in_units(x, 1)
                 } else {
                     in_units(4 * x + A::get(&sharp, p), 6)

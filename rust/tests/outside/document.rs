@@ -106,10 +106,11 @@ impl<'a> Surface<'a> {
         [self.mesh.vertices, self.mesh.faces, pairs.len(), rim]
     }
 
-    /// The weight w of rule B4: the number of faces, doubled on the rim.
+    /// The weight w of rule B4: the number of faces, doubled on the rim; a lone face there counts as two.
     fn w(&self, p: usize) -> i128 {
         match self.ring(p) {
             Ring::Turn(n) => n as i128,
+            Ring::Chain(1) => 4,
             Ring::Chain(k) => 2 * k as i128,
             Ring::Neither => panic!("no w at a vertex that is neither inner nor on the rim"),
         }

@@ -1,4 +1,4 @@
-//! The worked meshes of rules X1 to X6 and the limits of rule X9, with the numbers that stand there, and mirror images by hand.
+//! The worked meshes of rules X1 to X6 and X14 and the limits of rule X9, with the numbers that stand there, and mirror images by hand.
 
 use crate::compare::{self, Lent};
 use crate::model::Model;
@@ -43,13 +43,19 @@ fn square() -> Model {
 fn square_and_its_samples() {
     let patches = claim::library_patches(&square());
     assert_eq!(at(&patches, 1, 0), [1792, 0, 0]);
-    assert_eq!(at(&patches, 1, 1), [2304, 2304, 0]);
-    assert_eq!(at(&patches, 2, 1), [3072, 2304, 0]);
+    assert_eq!(at(&patches, 1, 1), [1792, 1792, 0]);
+    assert_eq!(at(&patches, 2, 1), [3584, 1792, 0]);
     assert_eq!(rusketja::sample(&patches, 0, 2, 1, 0).ok(), Some([2688, 0, 0]));
     assert_eq!(rusketja::sample(&patches, 0, 2, 1, 1).ok(), Some([2688, 2688, 0]));
     assert_eq!(rusketja::reading(&patches, 0, 2, 1, 1).ok(), Some([10.5, 10.5, 0.0]));
-    for (a, b) in [(0, 0), (1, 0), (0, 1), (1, 1)] {
-        assert_eq!(rusketja::sample(&patches, 0, 1, a, b).ok(), Some([5376 * a as i32, 5376 * b as i32, 0]));
+    // A flat square is divided evenly, by control points as by samples.
+    for (i, j) in (0..4).flat_map(|j| (0..4).map(move |i| (i, j))) {
+        assert_eq!(at(&patches, i, j), [1792 * i as i32, 1792 * j as i32, 0]);
+    }
+    for n in (1..=32).filter(|n| 5376 % n == 0) {
+        for (a, b) in (0..=n).flat_map(|b| (0..=n).map(move |a| (a, b))) {
+            assert_eq!(sample(&patches, 0, n, a, b), [(5376 / n * a) as i32, (5376 / n * b) as i32, 0]);
+        }
     }
 }
 
@@ -72,14 +78,36 @@ fn strip() -> Model {
     model(&positions, &[[0, 1, 4, 5], [1, 2, 3, 4]])
 }
 
+/// One face and two side by side: the inner points at vertices 0, 1 and 2 have w = 4 each, and of these the corner point is the vertex at 0 and 2
+/// alone.
+#[test]
+fn one_face_beside_two() {
+    let patches = claim::library_patches(&strip());
+    assert_eq!([at(&patches, 1, 1), at(&patches, 2, 1)], [[768, 768, 0], [1536, 768, 0]]);
+    assert_eq!([at(&patches, 0, 0), at(&patches, 3, 0)], [[0, 0, 0], [2304, 0, 384]]);
+    assert_eq!([at(&patches[48..], 1, 1), at(&patches[48..], 2, 1)], [[3072, 768, 512], [3840, 768, 1024]]);
+    assert_eq!([at(&patches[48..], 0, 0), at(&patches[48..], 3, 0)], [[2304, 0, 384], [4608, 0, 2304]]);
+}
+
+/// Three of the four squares about a vertex: in the first, w is 4 at its outer corner, 4 beside that and 6 at the vertex with three faces.
+#[test]
+fn one_two_and_three_faces() {
+    let positions = [[0, 0, 0], [99, 0, 0], [198, 0, 0], [0, 99, 0], [99, 99, 0], [198, 99, 0], [0, 198, 0], [99, 198, 0]];
+    let mesh = model(&positions, &[[0, 1, 4, 3], [1, 2, 5, 4], [3, 4, 7, 6]]);
+    let patches = claim::library_patches(&mesh);
+    assert_eq!([at(&patches, 1, 1), at(&patches, 2, 1)], [[8448, 8448, 0], [16896, 8448, 0]]);
+    assert_eq!([at(&patches, 2, 2), at(&patches, 1, 2)], [[18432, 18432, 0], [8448, 16896, 0]]);
+    assert_eq!([at(&patches, 0, 0), at(&patches, 3, 3)], [[0, 0, 0], [29568, 29568, 0]]);
+}
+
 #[test]
 fn mirrored_square() {
     let image = claim::library_image(&square());
     assert!(image == model(&[[0, 0, 0], [-21, 0, 0], [-21, 21, 0], [0, 21, 0]], &[[0, 3, 2, 1]]));
     let patches = claim::library_patches(&image);
     assert_eq!(at(&patches, 0, 1), [-1792, 0, 0]);
-    assert_eq!(at(&patches, 1, 1), [-2304, 2304, 0]);
-    assert_eq!(at(&patches, 1, 2), [-3072, 2304, 0]);
+    assert_eq!(at(&patches, 1, 1), [-1792, 1792, 0]);
+    assert_eq!(at(&patches, 1, 2), [-3584, 1792, 0]);
     assert_eq!(sample(&patches, 0, 2, 0, 1), [-2688, 0, 0]);
     assert_eq!(sample(&patches, 0, 2, 1, 1), [-2688, 2688, 0]);
     for (a, b) in [(0, 0), (1, 0), (0, 1), (1, 1)] {
@@ -124,8 +152,8 @@ fn lines_of_square_and_strip() {
     }
     let patches = claim::library_patches(&strip());
     let [left, right] = [0, 1].map(|face| line(&patches, face, 2, 1));
-    assert_eq!([left[0], left[2]], [[0, 1152, 0], [2304, 1152, 192]]);
-    assert_eq!([right[0], right[2]], [[2304, 1152, 192], [4608, 1152, 1152]]);
+    assert_eq!(left, [[0, 1152, 0], [1152, 1152, 24], [2304, 1152, 192]]);
+    assert_eq!(right, [[2304, 1152, 192], [3456, 1152, 600], [4608, 1152, 1152]]);
 }
 
 #[test]

@@ -13,7 +13,7 @@ use Rattle.mesh.specs.Tables.{vertexOf}
 use Rattle.patch.specs.Point.{Shape, weight}
 use Rattle.patch.specs.Lists.{shapeOf}
 use Rattle.patch.proofs.SumLaws.{valence-few}
-use Rattle.patch.proofs.TableLaws.{twice-most, weight-entries}
+use Rattle.patch.proofs.TableLaws.{weight-most, weight-entries}
 use Rattle.patch.proofs.counts.fill_weights.Statement.{statement}
 use Rattle.patch.proofs.counts.fill_weights.Tie as tie
 
@@ -75,7 +75,7 @@ corner-weight-requires c κs = search needs
 abbrev placed : tie.After-corner-weight Inv-loop μ-loop → tie.After-wide Inv-loop μ-loop
 placed c = c .before .before .before
 
--- a weight is at most twice as many as there are corners
+-- a weight is 4, or at most twice as many as there are corners
 cast-weights : tie.Need-cast-weights Inv-loop μ-loop
 cast-weights c =
     let w = placed c in
@@ -84,7 +84,7 @@ cast-weights c =
     let few : getD (s .args .valences .now) (p w) 0 ≤ n =
     rw (s .pre .0 .1 .valences-are (p w) (named w)) (valence-few (vertexOf (s .args .faces .now)) (p w) n) in
     rw (c .corner-weight .ensures)
-    (omega (arith, twice-most (eqb (getD (s .args .leaving .now) (p w) 0) 0) (getD (s .args .valences .now) (p w) 0) n few, s .pre .0 .0 .few))
+    (omega (arith, weight-most (eqb (getD (s .args .leaving .now) (p w) 0) 0) (getD (s .args .valences .now) (p w) 0) n few, s .pre .0 .0 .few))
 
 mul-weights : tie.Need-mul-weights Inv-loop μ-loop
 mul-weights c = let w = placed c in omega (arith, below w, start w .pre .0 .0 .few)
