@@ -1,8 +1,8 @@
--- The masks, as functions of numbers: of one coordinate of each vertex that a mask names (rule B2).
--- Each gives a fraction, numerator and divisor; its weights are non-negative and sum to its divisor.
+-- The masks, as functions of numbers: of one coordinate of each vertex that a mask names (rule B2); and the weight w that two of them are given.
+-- Each mask gives a fraction, numerator and divisor; its weights are non-negative and sum to its divisor.
 --
---   cornerWeight inside m   w at a corner of a vertex with m faces: m inside; on the boundary 2m, but 4 where m is 1 (rule B4; Kovacs and others,
---                           section 3; Loop and Schaefer, figure 21b)
+--   cornerWeight inside m   w at a corner of a vertex with m faces: m inside; on the boundary 2m, but 4 where m is 1 (rule B4; Loop and Schaefer,
+--                           figure 21; Kovacs and others, section 3)
 --   innerMask w p e e' f    (w p + 2e + 2e' + f) / (w + 5): e and e' are the neighbours of p in the face, f the vertex across (rule B6; Loop and
 --                           Schaefer, figure 4a)
 --   edgeMask w p q a a' c c'   (2w p + 4q + 2a + 2a' + c + c') / (2w + 10): in the two faces of the edge p q, a and a' are the neighbours of p
