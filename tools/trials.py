@@ -479,7 +479,7 @@ def patch_boundary():
     for n in (1, 2, 3):
         yield from with_renumbered(f"patch-reentrant-{n}-steps", the_reentrant(n))
     for p in (0, 1, 4):
-        yield f"patch-reentrant-tag-at-{p}", tagged(the_reentrant(), p)
+        yield from with_renumbered(f"patch-reentrant-tag-at-{p}", tagged(the_reentrant(), p))
     yield from with_renumbered("patch-strip-of-five", varied(strip(5), 5))
     yield from with_renumbered("patch-squares-apart", varied(join(square(), square(), square()), 6))
     yield from with_renumbered("patch-grid-3-by-3-notched", varied(notched(3, 3), 7))

@@ -22,7 +22,7 @@ CORNERS = ((0, 0), (1, 0), (1, 1), (0, 1))
 
 
 def mixed(divisor, *terms):
-    """The points, each a weight and a list of them, summed and divided."""
+    """The sum of the terms, each a weight and the points that have it, over the divisor."""
     assert divisor == sum(weight * len(points) for weight, points in terms)
     return [sum(weight * point[k] for weight, points in terms for point in points) / Fraction(divisor) for k in range(3)]
 
@@ -50,7 +50,7 @@ class Level:
         return self.at(face[(face.index(p) + 2) % 4] for face in self.about[p])
 
     def vertex_rule(self, p, inner, boundary):
-        """The rule of an inner vertex or a boundary vertex, which a vertex with one face has not: it stays."""
+        """A rule for inner vertices, by n, and one for boundary vertices, by the weight of p; a vertex with one face stays."""
         rim, n = self.neighbours(p, True), len(self.about[p])
         if rim and n == 1:
             return self.points[p]
@@ -79,7 +79,8 @@ class Level:
         for face, (root, a, b) in self.faces:
             edges = [frozenset((face[s], face[(s + 1) % 4])) for s in range(4)]
             points[face] = self.face_point(face)
-            points.update({edge: self.edge_point(edge) for edge in edges} | {(p,): self.moved(p) for p in face})
+            points.update({edge: self.edge_point(edge) for edge in edges})
+            points.update({(p,): self.moved(p) for p in face})
             q, e = [(p,) for p in face], edges
             parts = ((q[0], e[0], face, e[3]), (e[0], q[1], e[1], face), (face, e[1], q[2], e[2]), (e[3], face, e[2], q[3]))
             faces += [(part, (root, 2 * a + i, 2 * b + j)) for part, (i, j) in zip(parts, CORNERS)]
