@@ -1,0 +1,7 @@
+-- The laws that other crates use.
+pub mod CosineLaws
+pub mod UniqueLaws
+pub mod RootLaws
+pub mod ChainLaws
+pub mod WeightLaws
+pub mod SizeLaws

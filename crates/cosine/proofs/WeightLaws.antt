@@ -1,0 +1,68 @@
+-- The weights by number of faces and place: where there is one and where not, and where each stands in its table.
+use mathlib.Core.Path.{_≡_, refl, sym, ap, ap₂, _∙_, subst}
+use mathlib.Core.List.{List}
+use mathlib.Core.Bool.{true, false, cond, _&&_}
+use Prim.Native.Nat.{ℕ, zero, suc, _+_, _-_, _*_, _/_, _%_, _^_, _≤_, _<_}
+use native.Mathlib.Omega.{arith}
+use lib.Dec.{leb, ltb}
+use lib.IntN.{ℤ, pos, natAbs, _+ℤ_, _*ℤ_}
+use lib.ListN.{getD}
+use borrow.Author.Tests.{leb-true, ltb-true}
+use Rattle.integer.specs.Nearest.{nearest}
+use Rattle.finite.specs.Filled.{listBelow}
+use Rattle.finite.proofs.FilledLaws.{listBelow-at}
+use Rattle.finite.proofs.AnyAll.{and-true}
+use Rattle.cosine.specs.Cosine.{scale}
+use Rattle.cosine.specs.Weight.{multipleCosine, halfCosine, hypotenuse, weighed, edgeWeight, faceWeight, edgeWeights, faceWeights}
+
+-- ---- there is a weight, or there is none
+pub record Weighed (n i : ℕ) : Type 0 where
+  pub least : 3 ≤ n
+  pub most : n ≤ 16
+  pub place : i < n
+
+pub weighed-is : (n i : ℕ) → weighed n i ≡ true → Weighed n i
+weighed-is n i t =
+    let a = and-true _ _ t in
+    let b = and-true _ _ (a .1) in
+    record { least = leb-true 3 n (a .0); most = leb-true n 16 (b .0); place = ltb-true i n (b .1) }
+
+pub edge-weighed : (n i : ℕ) → weighed n i ≡ true
+    → edgeWeight n i ≡ nearest ((pos (hypotenuse n) +ℤ halfCosine n) *ℤ multipleCosine n i) (n * hypotenuse n)
+unfolding edgeWeight
+edge-weighed n i t = rw t
+
+pub face-weighed : (n i : ℕ) → weighed n i ≡ true
+    → faceWeight n i ≡ nearest (pos scale *ℤ multipleCosine (2 * n) (2 * i + 1)) (n * hypotenuse n)
+unfolding faceWeight
+face-weighed n i t = rw t
+
+pub edge-off : (n i : ℕ) → weighed n i ≡ false → pos 0 ≡ edgeWeight n i
+unfolding edgeWeight
+edge-off n i t = rw t
+
+pub face-off : (n i : ℕ) → weighed n i ≡ false → pos 0 ≡ faceWeight n i
+unfolding faceWeight
+face-off n i t = rw t
+
+-- ---- the tables by place
+place-faces : (n i : ℕ) → 3 ≤ n → i < 16 → 3 + (16 * (n - 3) + i) / 16 ≡ n
+place-faces n i a l = omega arith
+
+place-rest : (n i : ℕ) → 3 ≤ n → i < 16 → (16 * (n - 3) + i) % 16 ≡ i
+place-rest n i a l = omega arith
+
+-- a table of the values f
+at-place : (f : ℕ → ℕ → ℤ) (n i : ℕ) → Weighed n i
+    → getD (listBelow (λ k. f (3 + k / 16) (k % 16)) 224) (16 * (n - 3) + i) (pos 0) ≡ f n i
+at-place f n i w =
+    listBelow-at (λ k. f (3 + k / 16) (k % 16)) 224 (16 * (n - 3) + i) (pos 0) (omega (arith, w .place, w .most))
+    ∙ ap₂ f (place-faces n i (w .least) (omega (arith, w .place, w .most))) (place-rest n i (w .least) (omega (arith, w .place, w .most)))
+
+pub edge-at : (n i : ℕ) → Weighed n i → getD edgeWeights (16 * (n - 3) + i) (pos 0) ≡ edgeWeight n i
+unfolding edgeWeights
+edge-at = at-place edgeWeight
+
+pub face-at : (n i : ℕ) → Weighed n i → getD faceWeights (16 * (n - 3) + i) (pos 0) ≡ faceWeight n i
+unfolding faceWeights
+face-at = at-place faceWeight

@@ -1,0 +1,31 @@
+-- `cosine` meets its contract: the code's table is that of the definitions, whose entries meet the rule, and past its end there is 0.
+use mathlib.Core.Path.{_≡_, sym, subst}
+use native.Mathlib.Omega.{arith}
+use lib.IntN.{ℤ, pos}
+use lib.ListN.{getD}
+use mir.Syntax.{w32}
+use mir.Facts.{toZ-ofZ}
+use Rattle.cosine.specs.Cosine.{cosines, cosine, Entry}
+use Rattle.cosine.proofs.CosineLaws.{cosine-entry, cosine-past}
+use Rattle.cosine.proofs.cosine.Statement.{statement}
+use Rattle.cosine.proofs.cosine.Tie as tie
+
+mul-result : tie.Need-mul-result
+mul-result c = omega arith
+
+array-copy-out-result : tie.Need-array-copy-out-result
+array-copy-out-result c = omega arith
+
+returns : tie.Need-returns
+unfolding cosine cosines
+returns c =
+    let m = c .before .before .args .m in
+    subst (λ (z : ℤ). Entry m z) (sym (toZ-ofZ {w = w32} {z = getD cosines m (pos 0)} (record { sfits = c .result .given }))) (cosine-entry m)
+
+returns-2 : tie.Need-returns-2
+returns-2 c =
+    let m = c .before .args .m in
+    subst (λ (z : ℤ). Entry m z) (cosine-past m (omega arith)) (cosine-entry m)
+
+pub cosine-spec : {M : Type 1} → statement M
+cosine-spec = tie.close (tie.spec mul-result array-copy-out-result returns returns-2)

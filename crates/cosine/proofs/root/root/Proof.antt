@@ -1,0 +1,54 @@
+-- `root` meets its contract: after k turns the root lies from r to below r + b, and b is the value of the last digit found.
+use mathlib.Core.Path.{_≡_, refl, sym, ap, subst}
+use Prim.Native.Nat.{ℕ, _+_, _-_, _*_, _/_, _^_, _≤_, _<_}
+use native.Mathlib.Omega.{arith}
+use Rattle.cosine.specs.Root.{RootFrom}
+use Rattle.cosine.proofs.RootLaws.{digit-value, last-digit}
+use Rattle.cosine.proofs.root.root.Statement.{statement}
+use Rattle.cosine.proofs.root.root.Tie as tie
+
+abbrev Inv-loop : tie.InvT-loop
+Inv-loop x r₀ b₀ k₀ r b k = (k ≤ 22) × (b ≡ 2 ^ (22 - k)) × (r + b ≤ 2 ^ 22) × RootFrom x r b
+
+abbrev μ-loop : tie.MeasureT-loop
+μ-loop x r₀ b₀ k₀ r b k = 22 - k
+
+-- ---- in the loop: the value of the next digit
+module _ (c : tie.In-loop Inv-loop μ-loop) where
+  abbrev head : tie.At-loop Inv-loop μ-loop
+  head = c .before
+
+  next : (2 * (head .loop .b / 2) ≡ head .loop .b) × (head .loop .b / 2 ≡ 2 ^ (22 - (head .loop .k + 1)))
+  next = digit-value (head .loop .k) (head .loop .b) (c .loop-test .taken) (head .loop .inv .1)
+
+-- ---- the answers, in the order of the code
+loop-holds : tie.Need-loop-holds Inv-loop μ-loop
+loop-holds c = (omega arith, refl, omega arith, record { low = omega arith; high = c .pre })
+
+with-digit-requires : tie.Need-with-digit-requires Inv-loop μ-loop
+with-digit-requires c κs =
+    let l = head c .loop in
+    (subst (λ (b : ℕ). RootFrom (head c .before .args .x) (l .r) b) (sym (next c .0)) (l .inv .3), omega (arith, l .inv .2))
+
+add-k : tie.Need-add-k Inv-loop μ-loop
+add-k c = omega arith
+
+loop-less : tie.Need-loop-less Inv-loop μ-loop
+loop-less c = omega arith
+
+loop-again : tie.Need-loop-again Inv-loop μ-loop
+loop-again c =
+    let i = c .before in
+    let l = head i .loop in
+    (omega arith, next i .1, omega (arith, next i .0, c .with-digit .ensures .1, l .inv .2), c .with-digit .ensures .0)
+
+returns : tie.Need-returns Inv-loop μ-loop
+returns c =
+    let l = c .before .loop in
+    let e : l .b ≡ 1 = last-digit (l .k) (l .b) (l .inv .0) (c .loop-test .left) (l .inv .1) in
+    subst (λ (b : ℕ). RootFrom (c .before .before .args .x) (l .r) b) e (l .inv .3)
+
+pub root-spec : {M : Type 1} → statement M
+root-spec =
+    tie.close
+    (tie.spec Inv-loop μ-loop loop-holds with-digit-requires add-k loop-less loop-again returns)

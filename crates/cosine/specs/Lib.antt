@@ -1,0 +1,4 @@
+-- What the contracts cite.
+pub mod Cosine
+pub mod Root
+pub mod Weight
