@@ -12,7 +12,7 @@ use Rattle.finite.specs.Fold.{foldBelow, allBelow}
 use Rattle.finite.proofs.AnyAll.{and-true, all-true}
 use Rattle.cosine.specs.Cosine.{scale, cosines, cosine}
 use Rattle.cosine.specs.Root.{IsRoot, root}
-use Rattle.cosine.specs.Weight.{chain, multipleCosine, halfCosine, hypotenuse}
+use Rattle.cosine.specs.Weight.{chain, multipleCosine, halfCosine, hypotenuse, divisor, edgeNumerator, halfAngles, faceNumerator}
 use Rattle.cosine.proofs.CosineLaws.{cosine-size}
 use Rattle.cosine.proofs.ChainLaws.{chain-size}
 use Rattle.cosine.proofs.RootLaws.{root-meets, root-unique}
@@ -29,7 +29,7 @@ pub hypotenuse-is : (n h r : ℕ) → n ≤ 16 → h ≡ natAbs (halfCosine n) �
 unfolding hypotenuse
 hypotenuse-is n h r l e w =
     let v : IsRoot (2 ^ 42 + natAbs (halfCosine n) * natAbs (halfCosine n)) r = subst (λ (k : ℕ). IsRoot (2 ^ 42 + k * k) r) e w in
-    root-unique _ r _ v (root-meets 22 _ (radicand-size (natAbs (halfCosine n)) (half-size n l)))
+    root-unique _ r _ v (root-meets _ _ (omega (arith, radicand-size (natAbs (halfCosine n)) (half-size n l))))
 
 hypotenuses : allBelow (λ n. leb (2 ^ 21) (hypotenuse n) && ltb (hypotenuse n) (2 ^ 22)) 17 ≡ true
 unfolding foldBelow cosines cosine root hypotenuse
@@ -40,7 +40,7 @@ hypotenuse-size n l =
     let w = and-true _ _ (all-true (λ n. leb (2 ^ 21) (hypotenuse n) && ltb (hypotenuse n) (2 ^ 22)) 17 hypotenuses n (omega arith)) in
     (leb-true _ _ (w .0), ltb-true _ _ (w .1))
 
-pub divisor-size : (n : ℕ) → 3 ≤ n → n ≤ 16 → (3 * 2 ^ 21 ≤ n * hypotenuse n) × (n * hypotenuse n ≤ 2 ^ 26)
+pub divisor-size : (n : ℕ) → 3 ≤ n → n ≤ 16 → (3 * 2 ^ 21 ≤ divisor n) × (divisor n ≤ 2 ^ 26)
 divisor-size n a b =
     let w = hypotenuse-size n b in
     let h : hypotenuse n ≤ 2 ^ 22 = omega (arith, w .1) in
@@ -54,11 +54,11 @@ multiple-size m i h l = chain-size m (min i (m - i)) h (omega arith)
 pub sum-size : (n : ℕ) → n ≤ 16 → natAbs (pos (hypotenuse n) +ℤ halfCosine n) ≤ 2 ^ 23
 sum-size n l = omega (arith, abs-+ (pos (hypotenuse n)) (halfCosine n), hypotenuse-size n l .1, half-size n l)
 
-pub edge-numerator-size : (n i : ℕ) → n ≤ 16 → i ≤ n → natAbs ((pos (hypotenuse n) +ℤ halfCosine n) *ℤ multipleCosine n i) ≤ 2 ^ 44
+pub edge-numerator-size : (n i : ℕ) → n ≤ 16 → i ≤ n → natAbs (edgeNumerator n i) ≤ 2 ^ 44
 edge-numerator-size n i l h =
     abs-*-≤ (pos (hypotenuse n) +ℤ halfCosine n) (multipleCosine n i) (sum-size n l) (multiple-size n i (omega arith) h)
 
-pub face-numerator-size : (n i : ℕ) → n ≤ 16 → i < n → natAbs (pos scale *ℤ multipleCosine (2 * n) (2 * i + 1)) ≤ 2 ^ 44
+pub face-numerator-size : (n i : ℕ) → n ≤ 16 → i < n → natAbs (faceNumerator n i) ≤ 2 ^ 44
 face-numerator-size n i l h =
     let s : natAbs (pos scale) ≤ 2 ^ 20 = omega arith in
-    omega (arith, abs-*-≤ (pos scale) (multipleCosine (2 * n) (2 * i + 1)) s (multiple-size (2 * n) (2 * i + 1) (omega arith) (omega arith)))
+    omega (arith, abs-*-≤ (pos scale) (multipleCosine (2 * n) (halfAngles i)) s (multiple-size (2 * n) (halfAngles i) (omega arith) (omega arith)))

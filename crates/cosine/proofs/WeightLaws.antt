@@ -1,19 +1,16 @@
 -- The weights by number of faces and place: where there is one and where not, and where each stands in its table.
-use mathlib.Core.Path.{_≡_, refl, sym, ap, ap₂, _∙_, subst}
-use mathlib.Core.List.{List}
-use mathlib.Core.Bool.{true, false, cond, _&&_}
-use Prim.Native.Nat.{ℕ, zero, suc, _+_, _-_, _*_, _/_, _%_, _^_, _≤_, _<_}
+use mathlib.Core.Path.{_≡_, refl, ap₂, _∙_}
+use mathlib.Core.Bool.{true, false}
+use Prim.Native.Nat.{ℕ, _+_, _-_, _*_, _/_, _%_, _≤_, _<_}
 use native.Mathlib.Omega.{arith}
-use lib.Dec.{leb, ltb}
-use lib.IntN.{ℤ, pos, natAbs, _+ℤ_, _*ℤ_}
+use lib.IntN.{ℤ, pos}
 use lib.ListN.{getD}
 use borrow.Author.Tests.{leb-true, ltb-true}
 use Rattle.integer.specs.Nearest.{nearest}
 use Rattle.finite.specs.Filled.{listBelow}
 use Rattle.finite.proofs.FilledLaws.{listBelow-at}
 use Rattle.finite.proofs.AnyAll.{and-true}
-use Rattle.cosine.specs.Cosine.{scale}
-use Rattle.cosine.specs.Weight.{multipleCosine, halfCosine, hypotenuse, weighed, edgeWeight, faceWeight, edgeWeights, faceWeights}
+use Rattle.cosine.specs.Weight.{divisor, edgeNumerator, faceNumerator, weighed, edgeWeight, faceWeight, edgeWeights, faceWeights}
 
 -- ---- there is a weight, or there is none
 pub record Weighed (n i : ℕ) : Type 0 where
@@ -27,13 +24,11 @@ weighed-is n i t =
     let b = and-true _ _ (a .1) in
     record { least = leb-true 3 n (a .0); most = leb-true n 16 (b .0); place = ltb-true i n (b .1) }
 
-pub edge-weighed : (n i : ℕ) → weighed n i ≡ true
-    → edgeWeight n i ≡ nearest ((pos (hypotenuse n) +ℤ halfCosine n) *ℤ multipleCosine n i) (n * hypotenuse n)
+pub edge-weighed : (n i : ℕ) → weighed n i ≡ true → edgeWeight n i ≡ nearest (edgeNumerator n i) (divisor n)
 unfolding edgeWeight
 edge-weighed n i t = rw t
 
-pub face-weighed : (n i : ℕ) → weighed n i ≡ true
-    → faceWeight n i ≡ nearest (pos scale *ℤ multipleCosine (2 * n) (2 * i + 1)) (n * hypotenuse n)
+pub face-weighed : (n i : ℕ) → weighed n i ≡ true → faceWeight n i ≡ nearest (faceNumerator n i) (divisor n)
 unfolding faceWeight
 face-weighed n i t = rw t
 

@@ -6,8 +6,9 @@
 --   halfCosine n         H, c(2n) (rule W3)
 --   hypotenuse n         R, the whole part of the root of 2^42 + H^2 (rule W3)
 --   weighed n i          there are weights of n faces, n from 3 to 16, and i is below n
---   edgeWeight n i       A(n, i) = (R + H) C(n, i) / (n R), rounded once (rule W4); 0 where there is no such weight
---   faceWeight n i       B(n, i) = 2^20 C(2n, 2i + 1) / (n R), likewise
+--   edgeWeight n i       A(n, i) = (R + H) C(n, i) / (n R), rounded once (rule W4); 0 where there is no such weight. Its numerator: edgeNumerator
+--   faceWeight n i       B(n, i) = 2^20 C(2n, 2i + 1) / (n R), likewise. Its numerator: faceNumerator; the divisor of both: divisor
+--   halfAngles i         how many half angles between two edges face i, behind edge i, is on from edge 0: 2i + 1
 --   edgeWeights, faceWeights   all of them (rule W6): the weight of n and i at place 16 (n - 3) + i
 --   allWeights           the two lists as the code has them
 use mathlib.Core.Bool.{Bool, cond, _&&_}
@@ -35,14 +36,26 @@ halfCosine n = cosine (2 * n)
 unfoldable pub hypotenuse : ℕ → ℕ
 hypotenuse n = root 22 (2 ^ 42 + natAbs (halfCosine n) * natAbs (halfCosine n))
 
+abbrev pub divisor : ℕ → ℕ
+divisor n = n * hypotenuse n
+
+abbrev pub edgeNumerator : ℕ → ℕ → ℤ
+edgeNumerator n i = (pos (hypotenuse n) +ℤ halfCosine n) *ℤ multipleCosine n i
+
+abbrev pub halfAngles : ℕ → ℕ
+halfAngles i = 2 * i + 1
+
+abbrev pub faceNumerator : ℕ → ℕ → ℤ
+faceNumerator n i = pos scale *ℤ multipleCosine (2 * n) (halfAngles i)
+
 abbrev pub weighed : ℕ → ℕ → Bool
 weighed n i = leb 3 n && (leb n 16 && ltb i n)
 
 unfoldable pub edgeWeight : ℕ → ℕ → ℤ
-edgeWeight n i = cond (weighed n i) (nearest ((pos (hypotenuse n) +ℤ halfCosine n) *ℤ multipleCosine n i) (n * hypotenuse n)) (pos 0)
+edgeWeight n i = cond (weighed n i) (nearest (edgeNumerator n i) (divisor n)) (pos 0)
 
 unfoldable pub faceWeight : ℕ → ℕ → ℤ
-faceWeight n i = cond (weighed n i) (nearest (pos scale *ℤ multipleCosine (2 * n) (2 * i + 1)) (n * hypotenuse n)) (pos 0)
+faceWeight n i = cond (weighed n i) (nearest (faceNumerator n i) (divisor n)) (pos 0)
 
 unfoldable pub edgeWeights : List ℤ
 edgeWeights = listBelow (λ k. edgeWeight (3 + k / 16) (k % 16)) 224

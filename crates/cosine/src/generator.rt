@@ -8,7 +8,7 @@ ghost use lib.IntN.{pos, natAbs, _+ℤ_, _-ℤ_, _*ℤ_};
 ghost use lib.ListN.{length};
 ghost use Rattle.integer.specs.Nearest.{nearest};
 ghost use Rattle.cosine.specs.Cosine.{scale, cosine as cosineOf};
-ghost use Rattle.cosine.specs.Weight.{chain, multipleCosine, halfCosine, hypotenuse as hypotenuseOf, edgeWeight, faceWeight, edgeWeights, faceWeights};
+ghost use Rattle.cosine.specs.Weight.{chain, multipleCosine, halfCosine, hypotenuse as hypotenuseOf, divisor, edgeWeight, faceWeight, edgeWeights, faceWeights};
 
 // c(m) with 64 bits.
 fn wide_cosine(m: usize) -> i64
@@ -62,13 +62,13 @@ fn hypotenuse(n: usize) -> u64
     root(4398046511104 + h * h)
 }
 
-// A number over n R, rounded.
+// A numerator over n R, rounded.
 fn over_divisor(num: i64, n: usize) -> i32
     requires { ⌜ (natAbs num ≤ 2 ^ 44) × (3 ≤ n) × (n ≤ 16) ⌝ }
-    ensures { λ r. ⌜ r ≡ nearest num (n * hypotenuseOf n) ⌝ }
+    ensures { λ r. ⌜ r ≡ nearest num (divisor n) ⌝ }
 {
-    let divisor = n as u64 * hypotenuse(n);
-    integer::round(num, divisor as u32) as i32
+    let over = n as u64 * hypotenuse(n);
+    integer::round(num, over as u32) as i32
 }
 
 // R + H for n faces.

@@ -1,13 +1,14 @@
 -- `chained` meets its contract: after i turns a and b are numbers i and i + 1 of the recurrence.
-use mathlib.Core.Path.{_≡_, refl, sym, ap, ap₂, _∙_}
-use Prim.Native.Nat.{ℕ, suc, _+_, _-_, _≤_, _<_}
+use mathlib.Core.Path.{_≡_, sym, ap, ap₂, _∙_}
+use Prim.Native.Nat.{ℕ, _+_, _-_, _≤_}
 use native.Mathlib.Nat.{le-antisymm}
 use native.Mathlib.Omega.{arith}
-use lib.IntN.{ℤ, pos, natAbs, _-ℤ_, _*ℤ_}
+use lib.IntN.{ℤ, pos, _-ℤ_, _*ℤ_}
 use mir.Syntax.{w64}
 use mir.Val.{toZ, ofZ}
 use mir.Facts.{toZ-ofZ}
 use Rattle.integer.specs.Nearest.{nearest}
+use Rattle.integer.proofs.Laws.{read-back}
 use Rattle.cosine.specs.Cosine.{scale, cosine}
 use Rattle.cosine.specs.Weight.{chain}
 use Rattle.cosine.proofs.CosineLaws.{cosine-size}
@@ -21,28 +22,43 @@ Inv-loop m j c a₀ b₀ i₀ a b i = (i ≤ j) × (a ≡ ofZ w64 (chain (cosine
 abbrev μ-loop : tie.MeasureT-loop
 μ-loop m j c a₀ b₀ i₀ a b i = j - i
 
+-- ---- the loop's head: a is the number that its place says
+module _ (c : tie.At-loop Inv-loop μ-loop) where
+  abbrev start : tie.Start Inv-loop μ-loop
+  start = c .before .before
+
+  abbrev m : ℕ
+  m = start .args .m
+
+  a-is : toZ w64 (c .loop .a) ≡ chain (cosine m) (c .loop .i)
+  a-is = ap (toZ w64) (c .loop .inv .1) ∙ toZ-ofZ (chain-fits m (c .loop .i) (omega arith) (omega arith))
+
+-- ---- in the loop: so is b, and c is c(m)
+module _ (c : tie.In-loop Inv-loop μ-loop) where
+  abbrev head : tie.At-loop Inv-loop μ-loop
+  head = c .before
+
+  b-is : toZ w64 (head .loop .b) ≡ chain (cosine (m head)) (head .loop .i + 1)
+  b-is = ap (toZ w64) (head .loop .inv .2) ∙ toZ-ofZ (chain-fits (m head) (head .loop .i + 1) (omega arith) (omega arith))
+
+  c-is : toZ w64 (ofZ w64 (head .before .wide-cosine .result)) ≡ cosine (m head)
+  c-is = read-back w64 (head .before .wide-cosine .ok) (head .before .wide-cosine .ensures)
+
+-- ---- the answers, in the order of the code
 wide-cosine-requires : tie.Need-wide-cosine-requires Inv-loop μ-loop
 wide-cosine-requires c κs = tt
 
 loop-holds : tie.Need-loop-holds Inv-loop μ-loop
-loop-holds c = (omega arith, ap (ofZ w64) (sym (chain-zero (cosine (c .before .args .m)))), ap (ofZ w64) (c .wide-cosine .ensures ∙ sym (chain-one (cosine (c .before .args .m)))))
-
--- the two values at the loop's head
-a-is : (c : tie.At-loop Inv-loop μ-loop) → toZ w64 (c .loop .a) ≡ chain (cosine (c .before .before .args .m)) (c .loop .i)
-a-is c = ap (toZ w64) (c .loop .inv .1) ∙ toZ-ofZ (chain-fits (c .before .before .args .m) (c .loop .i) (omega arith) (omega arith))
-
-b-is : (c : tie.In-loop Inv-loop μ-loop) → toZ w64 (c .before .loop .b) ≡ chain (cosine (c .before .before .before .args .m)) (c .before .loop .i + 1)
-b-is c = ap (toZ w64) (c .before .loop .inv .2) ∙ toZ-ofZ (chain-fits (c .before .before .before .args .m) (c .before .loop .i + 1) (omega arith) (omega arith))
-
-c-is : (c : tie.In-loop Inv-loop μ-loop) → toZ w64 (ofZ w64 (c .before .before .wide-cosine .result)) ≡ cosine (c .before .before .before .args .m)
-c-is c = toZ-ofZ {w = w64} (record { sfits = c .before .before .wide-cosine .ok }) ∙ c .before .before .wide-cosine .ensures
+loop-holds c =
+    let z = cosine (c .before .args .m) in
+    (omega arith, ap (ofZ w64) (sym (chain-zero z)), ap (ofZ w64) (c .wide-cosine .ensures ∙ sym (chain-one z)))
 
 following-requires : tie.Need-following-requires Inv-loop μ-loop
 following-requires c κs =
-    let s = c .before .before .before in (
-      rw (c-is c) (cosine-size (s .args .m) (omega arith)),
-      rw (b-is c) (chain-size (s .args .m) (c .before .loop .i + 1) (omega arith) (omega arith)),
-      rw (a-is (c .before)) (chain-size (s .args .m) (c .before .loop .i) (omega arith) (omega arith)),
+    let h = head c in (
+      rw (c-is c) (cosine-size (m h) (omega arith)),
+      rw (b-is c) (chain-size (m h) (h .loop .i + 1) (omega arith) (omega arith)),
+      rw (a-is h) (chain-size (m h) (h .loop .i) (omega arith) (omega arith)),
     )
 
 add-i : tie.Need-add-i Inv-loop μ-loop
@@ -53,17 +69,17 @@ loop-less c = omega arith
 
 loop-again : tie.Need-loop-again Inv-loop μ-loop
 loop-again c =
-    let l = c .before .before in
-    let s = l .before .before in (
+    let i = c .before in
+    let h = head i in (
       omega arith,
-      l .loop .inv .2,
+      h .loop .inv .2,
       ap (ofZ w64) (c .following .ensures
-          ∙ ap₂ (λ (x y : ℤ). nearest x scale -ℤ y) (ap₂ (λ (x y : ℤ). pos 2 *ℤ x *ℤ y) (c-is (c .before)) (b-is (c .before))) (a-is l)
-          ∙ sym (chain-next (cosine (s .args .m)) (l .loop .i))),
+          ∙ ap₂ (λ (x y : ℤ). nearest x scale -ℤ y) (ap₂ (λ (x y : ℤ). pos 2 *ℤ x *ℤ y) (c-is i) (b-is i)) (a-is h)
+          ∙ sym (chain-next (cosine (m h)) (h .loop .i))),
     )
 
 returns : tie.Need-returns Inv-loop μ-loop
-returns c = a-is (c .before) ∙ ap (chain (cosine (c .before .before .before .args .m))) (le-antisymm (c .before .loop .inv .0) (c .loop-test .left))
+returns c = a-is (c .before) ∙ ap (chain (cosine (m (c .before)))) (le-antisymm (c .before .loop .inv .0) (c .loop-test .left))
 
 pub chained-spec : {M : Type 1} → statement M
 chained-spec =

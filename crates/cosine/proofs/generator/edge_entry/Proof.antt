@@ -8,7 +8,7 @@ use mir.Val.{SFits, toZ, ofZ}
 use mir.Facts.{toZ-ofZ}
 use Rattle.integer.specs.Nearest.{nearest}
 use Rattle.integer.proofs.Laws.{sfits-abs, read-back}
-use Rattle.cosine.specs.Weight.{halfCosine, multipleCosine, hypotenuse}
+use Rattle.cosine.specs.Weight.{edgeNumerator, divisor}
 use Rattle.cosine.proofs.WeightLaws.{Weighed, weighed-is, edge-weighed, edge-off}
 use Rattle.cosine.proofs.SizeLaws.{edge-numerator-size}
 use Rattle.cosine.proofs.generator.edge_entry.Statement.{statement}
@@ -26,7 +26,7 @@ module _ (c : tie.Then1) where
   range = weighed-is n i (sym (c .before .weighed .ensures) ∙ c .if1 .taken)
 
   abbrev numerator : ℤ
-  numerator = (pos (hypotenuse n) +ℤ halfCosine n) *ℤ multipleCosine n i
+  numerator = edgeNumerator n i
 
   numerator-size : natAbs numerator ≤ 2 ^ 44
   numerator-size = edge-numerator-size n i (range .most) (omega (arith, range .place))
@@ -68,7 +68,7 @@ returns c =
     let t = there (c .before) in
     read-back w32 (c .over-divisor .ok)
     (c .over-divisor .ensures
-    ∙ ap (λ (z : ℤ). nearest z (n t * hypotenuse (n t))) (passed-is (c .before))
+    ∙ ap (λ (z : ℤ). nearest z (divisor (n t))) (passed-is (c .before))
     ∙ sym (edge-weighed (n t) (i t) (sym (t .before .weighed .ensures) ∙ t .if1 .taken)))
 
 returns-2 : tie.Need-returns-2

@@ -9,7 +9,7 @@ use mir.Facts.{toZ-ofZ}
 use Rattle.integer.specs.Nearest.{nearest}
 use Rattle.integer.proofs.Laws.{sfits-abs, read-back}
 use Rattle.cosine.specs.Cosine.{scale}
-use Rattle.cosine.specs.Weight.{multipleCosine, hypotenuse}
+use Rattle.cosine.specs.Weight.{faceNumerator, divisor}
 use Rattle.cosine.proofs.WeightLaws.{Weighed, weighed-is, face-weighed, face-off}
 use Rattle.cosine.proofs.SizeLaws.{face-numerator-size}
 use Rattle.cosine.proofs.generator.face_entry.Statement.{statement}
@@ -27,7 +27,7 @@ module _ (c : tie.Then1) where
   range = weighed-is n i (sym (c .before .weighed .ensures) ∙ c .if1 .taken)
 
   abbrev numerator : ℤ
-  numerator = pos scale *ℤ multipleCosine (2 * n) (2 * i + 1)
+  numerator = faceNumerator n i
 
   numerator-size : natAbs numerator ≤ 2 ^ 44
   numerator-size = face-numerator-size n i (range .most) (range .place)
@@ -70,7 +70,7 @@ returns c =
     let t = c .before .before in
     read-back w32 (c .over-divisor .ok)
     (c .over-divisor .ensures
-    ∙ ap (λ (z : ℤ). nearest z (n t * hypotenuse (n t))) (passed-is (c .before))
+    ∙ ap (λ (z : ℤ). nearest z (divisor (n t))) (passed-is (c .before))
     ∙ sym (face-weighed (n t) (i t) (sym (t .before .weighed .ensures) ∙ t .if1 .taken)))
 
 returns-2 : tie.Need-returns-2

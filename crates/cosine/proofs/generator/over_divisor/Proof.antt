@@ -9,7 +9,7 @@ use mir.Facts.{toZ-ofZ}
 use Rattle.integer.specs.Nearest.{nearest}
 use Rattle.integer.proofs.Laws.{sfits-abs, read-back}
 use Rattle.integer.proofs.NearestLaws.{nearest-bounded}
-use Rattle.cosine.specs.Weight.{hypotenuse}
+use Rattle.cosine.specs.Weight.{divisor}
 use Rattle.cosine.proofs.SizeLaws.{divisor-size}
 use Rattle.cosine.proofs.generator.over_divisor.Statement.{statement}
 use Rattle.cosine.proofs.generator.over_divisor.Tie as tie
@@ -19,7 +19,7 @@ module _ (c : tie.After-hypotenuse) where
   abbrev n : ℕ
   n = c .before .args .n
 
-  divisor-is : n * c .hypotenuse .result ≡ n * hypotenuse n
+  divisor-is : n * c .hypotenuse .result ≡ divisor n
   divisor-is = ap (λ (r : ℕ). n * r) (c .hypotenuse .ensures)
 
   divisor-small : n * c .hypotenuse .result ≤ 2 ^ 26
@@ -31,7 +31,7 @@ module _ (c : tie.After-round) where
   start = c .before .before
 
   abbrev quotient : ℤ
-  quotient = nearest (start .args .num) (start .args .n * hypotenuse (start .args .n))
+  quotient = nearest (start .args .num) (divisor (start .args .n))
 
   value : toZ w64 (ofZ w64 (c .round .result)) ≡ quotient
   value = read-back w64 (c .round .ok) (c .round .ensures ∙ ap₂ nearest (toZ-ofZ (start .fits .num)) (divisor-is (c .before)))
@@ -39,15 +39,15 @@ module _ (c : tie.After-round) where
   small : SFits w32 quotient
   small =
       let d = divisor-size (start .args .n) (start .pre .1) (start .pre .2) in
-      let p : 0 < start .args .n * hypotenuse (start .args .n) = omega (arith, d .0) in
+      let p : 0 < divisor (start .args .n) = omega (arith, d .0) in
       sfits-abs quotient (omega (arith, nearest-bounded (start .args .num) _ (2 ^ 30) p (omega (arith, d .0, start .pre .0))))
 
 -- ---- the answers, in the order of the code
 hypotenuse-requires : tie.Need-hypotenuse-requires
 hypotenuse-requires c κs = c .pre .2
 
-mul-divisor : tie.Need-mul-divisor
-mul-divisor c = omega (arith, divisor-small c)
+mul-over : tie.Need-mul-over
+mul-over c = omega (arith, divisor-small c)
 
 cast-round : tie.Need-cast-round
 cast-round c = omega (arith, divisor-small c)
@@ -64,4 +64,4 @@ returns c = ap (λ (z : ℤ). toZ w32 (ofZ w32 z)) (value c) ∙ toZ-ofZ (small 
 pub over-divisor-spec : {M : Type 1} → statement M
 over-divisor-spec =
     tie.close
-    (tie.spec hypotenuse-requires mul-divisor cast-round round-requires cast-result returns)
+    (tie.spec hypotenuse-requires mul-over cast-round round-requires cast-result returns)

@@ -19,7 +19,7 @@ module _ (c : tie.In-loop Inv-loop μ-loop) where
   head = c .before
 
   next : (2 * (head .loop .b / 2) ≡ head .loop .b) × (head .loop .b / 2 ≡ 2 ^ (22 - (head .loop .k + 1)))
-  next = digit-value (head .loop .k) (head .loop .b) (c .loop-test .taken) (head .loop .inv .1)
+  next = digit-value (head .loop .k) (head .loop .b) (omega (arith, c .loop-test .taken)) (head .loop .inv .1)
 
 -- ---- the answers, in the order of the code
 loop-holds : tie.Need-loop-holds Inv-loop μ-loop
@@ -45,7 +45,7 @@ loop-again c =
 returns : tie.Need-returns Inv-loop μ-loop
 returns c =
     let l = c .before .loop in
-    let e : l .b ≡ 1 = last-digit (l .k) (l .b) (l .inv .0) (c .loop-test .left) (l .inv .1) in
+    let e : l .b ≡ 1 = last-digit (l .k) (l .b) (l .inv .0) (omega (arith, c .loop-test .left)) (l .inv .1) in
     subst (λ (b : ℕ). RootFrom (c .before .before .args .x) (l .r) b) e (l .inv .3)
 
 pub root-spec : {M : Type 1} → statement M
