@@ -1,7 +1,7 @@
 // Runs the calls on each trial that an argument names (a file, see reading.rt), and prints one line for it, which begins with the
-// name; a patch trial, a mirror trial and a line trial have more lines. mesh_trial.rt, patch_trial.rt, mirror_trial.rt, sample_trial.rt
-// and line_trial.rt say what follows the name. `no file` says that none has that name, `not whole` that the file is longer or shorter
-// than its sizes and lists, and `too long` that a list has more places than reading.rt has for it.
+// name; a patch trial, a mirror trial, a line trial and a weight trial have more lines. mesh_trial.rt, patch_trial.rt, mirror_trial.rt,
+// sample_trial.rt, line_trial.rt and weight_trial.rt say what follows the name. `no file` says that none has that name, `not whole` that
+// the file is longer or shorter than its sizes and lists, and `too long` that a list has more places than reading.rt has for it.
 mod line_trial;
 mod mesh_trial;
 mod mirror_trial;
@@ -10,6 +10,7 @@ mod printing;
 mod reading;
 mod sample_trial;
 mod sums;
+mod weight_trial;
 
 use crate::printing::print_text;
 use crate::reading::head_length;
@@ -21,6 +22,9 @@ const SAMPLE: usize = 65535;
 // What that of a line trial has there.
 const LINE: usize = 65529;
 
+// What that of a weight trial has there.
+const WEIGHTS: usize = 65527;
+
 // The trial in a file's bytes.
 fn run(b: &[u8]) {
     let mark = u16_at(b, 0);
@@ -28,6 +32,8 @@ fn run(b: &[u8]) {
         sample_trial::run(b);
     } else if mark == LINE {
         line_trial::run(b);
+    } else if mark == WEIGHTS {
+        weight_trial::run(b);
     } else {
         let at = head_length(b);
         mesh_trial::run(&b[0..at], &b[at..]);

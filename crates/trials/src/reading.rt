@@ -15,6 +15,9 @@
 //
 // Of the line call: 65529 as a 16-bit number; f, N and b as 64-bit numbers; the length of the lent list as a 16-bit number; then the
 // control values as in a file of the sample call.
+//
+// Of the cosines and weights: 65527 as a 16-bit number; n as a 64-bit number; then further places i as 64-bit numbers, to the end of the
+// file.
 use crate::printing::print_text;
 ghost use mathlib.Core.Path.{_≡_};
 ghost use Prim.Native.Nat.{_+_, _^_, _≤_, _<_};
