@@ -92,7 +92,8 @@ fn one_face_beside_two() {
 /// Three of the four squares about a vertex: in the first, w is 4 at its outer corner, 4 beside that and 6 at the vertex with three faces.
 #[test]
 fn one_two_and_three_faces() {
-    let positions = [[0, 0, 0], [99, 0, 0], [198, 0, 0], [0, 99, 0], [99, 99, 0], [198, 99, 0], [0, 198, 0], [99, 198, 0]];
+    let positions =
+        [[0, 0, 0], [99, 0, 0], [198, 0, 0], [0, 99, 0], [99, 99, 0], [198, 99, 0], [0, 198, 0], [99, 198, 0]];
     let mesh = model(&positions, &[[0, 1, 4, 3], [1, 2, 5, 4], [3, 4, 7, 6]]);
     let patches = claim::library_patches(&mesh);
     assert_eq!([at(&patches, 1, 1), at(&patches, 2, 1)], [[8448, 8448, 0], [16896, 8448, 0]]);
