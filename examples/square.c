@@ -1,5 +1,5 @@
-/* The square of rule X1 (docs/SPECIFICATION.md), by every call of rusketja.h: prints what the library gives, and returns 0 where it
- * is right.
+/* The square of rule X1 (docs/SPECIFICATION.md), by every call of rusketja.h that takes a mesh or patches, and some entries of the tables
+ * for tangents, by the others: prints what the library gives, and returns 0 where it is right.
  *
  *     rt staticlib capi
  *     cc -std=c99 -Wall -Wextra -Wconversion -Werror -Iinclude examples/square.c target/staticlib/libcapi.a -o target/square
@@ -98,6 +98,25 @@ static void mirror(void)
     expect("z", z, 0);
 }
 
+/* Some cosines, and the weights at a vertex of four faces: thirds and twelfths. 0 where the tables have no such entry. */
+static void tables(void)
+{
+    expect("cosine of a third", rusketja_cosine(3), -524288);
+    expect("cosine of a fifth", rusketja_cosine(5), 324028);
+    expect("cosine, m = 33", rusketja_cosine(33), 0);
+
+    expect("weight of edge 0 of 4", rusketja_edge_weight(4, 0), 349525);
+    expect("weight of edge 1 of 4", rusketja_edge_weight(4, 1), 0);
+    expect("weight of edge 2 of 4", rusketja_edge_weight(4, 2), -349525);
+    expect("weight of edge 4 of 4", rusketja_edge_weight(4, 4), 0);
+    expect("weight of edge 0 of 17", rusketja_edge_weight(17, 0), 0);
+
+    expect("weight of face 0 of 4", rusketja_face_weight(4, 0), 87381);
+    expect("weight of face 1 of 4", rusketja_face_weight(4, 1), -87381);
+    expect("weight of face 3 of 4", rusketja_face_weight(4, 3), 87381);
+    expect("weight of face 0 of 2", rusketja_face_weight(2, 0), 0);
+}
+
 int main(void)
 {
     uint16_t twins[5] = {7, 7, 7, 7, 7};
@@ -149,5 +168,6 @@ int main(void)
     expect_size("first corner's place", first, 0);
 
     mirror();
+    tables();
     return wrong;
 }

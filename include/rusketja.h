@@ -17,8 +17,9 @@
  *
  * Stack: have 64 KiB free. Found in two ways, which agree within 100 bytes, on the archive of this version: by the frames and calls
  * in its machine code, and by how much of a painted stack the calls wrote over. rusketja_patches takes fewer than 23,100 bytes,
- * rusketja_mirror fewer than 6,600, rusketja_check fewer than 4,500, the others fewer than 256, whatever the sizes; no call recurses.
- * The arrays in crates/mesh/src and crates/patch/src make up nearly all of it.
+ * rusketja_mirror fewer than 6,600, rusketja_check fewer than 4,500, rusketja_edge_weight and rusketja_face_weight fewer than 1,000, the
+ * others fewer than 256, whatever the sizes; no call recurses. The arrays in crates/mesh/src and crates/patch/src and the tables in
+ * crates/cosine/src make up nearly all of it.
  *
  * Lengths, for V vertices, F faces and n steps:
  *
@@ -34,7 +35,8 @@
  * Names, with those of the user's document: half-edge (side), twin (mate), boundary (rim), control value (patch number). Rules are
  * those of docs/SPECIFICATION.md.
  *
- * A call returns 0, or the number of the first cause of refusal that is met, in this order:
+ * A call that returns uint8_t returns 0, or the number of the first cause of refusal that is met, in this order; the others refuse
+ * nothing:
  *
  *      1  V is not from 4 to 512, F is not from 1 to 256, or positions, tags or indices has another length than 3V, V, 4F
  *      2  twins is shorter than 4F, or patches, where the call writes it, than 48F
@@ -200,6 +202,32 @@ size_t rusketja_face_corners(
     const uint16_t *indices, size_t indices_len,
     size_t f,
     size_t *first);
+
+/* The cosine of an m-th of the full turn, 2 pi / m, as a whole number: of all whole numbers the nearest to 1048576 times it.
+ *
+ * Returns: that number, from -524288 (m = 3) to 1028428 (m = 32); 0 where m is below 3 or above 32, and for m = 4, whose cosine is 0.
+ * Writes: nothing.
+ * Refuses: nothing.
+ * Units: 1/2^20, so that 1048576 stands for the cosine 1. */
+int32_t rusketja_cosine(size_t m);
+
+/* The weight of an edge in the tangent at an inner vertex of n faces. Number the n edges of the vertex around it, beginning with the
+ * one that the tangent runs along, 0: this is the weight of the far end of edge i (A of rule W4).
+ *
+ * Returns: the weight, from i = 1 on the same for i and n - i; 0 where n is below 3 or above 16, or i is n or above.
+ * Writes: nothing.
+ * Refuses: nothing.
+ * Units: 1/2^20. Each weight is within one unit of the exact one, equation (2) of [LS] (tested for all of them, not proved). */
+int32_t rusketja_edge_weight(size_t n, size_t i);
+
+/* The weight of a face in the same tangent: of the vertex across the face that lies between edges i and i + 1, and for i = n - 1
+ * between the last edge and edge 0 (B of rule W4).
+ *
+ * Returns: the weight, the same for i and n - 1 - i; 0 where n is below 3 or above 16, or i is n or above.
+ * Writes: nothing.
+ * Refuses: nothing.
+ * Units: as rusketja_edge_weight. */
+int32_t rusketja_face_weight(size_t n, size_t i);
 
 #ifdef __cplusplus
 }

@@ -89,4 +89,10 @@ extern "C" {
     ) -> u8;
 
     pub fn rusketja_face_corners(indices: *const u16, indices_len: usize, f: usize, first: &mut usize) -> usize;
+
+    pub fn rusketja_cosine(m: usize) -> i32;
+
+    pub fn rusketja_edge_weight(n: usize, i: usize) -> i32;
+
+    pub fn rusketja_face_weight(n: usize, i: usize) -> i32;
 }

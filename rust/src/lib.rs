@@ -1,8 +1,8 @@
 //! Bicubic patches of a quad mesh and their exact samples, by a library that is proved in Rattle.
 //!
 //! Each function here calls the one of its name in the static library (`rt staticlib capi`), whose contract, for every input, is
-//! in `crates/capi/src/lib.rt`. These wrappers pass the lists and turn the returned number into a `Result`; nothing proves the
-//! wrappers themselves, and no input is refused by them.
+//! in `crates/capi/src/lib.rt`. These wrappers pass the lists and turn a returned number that may be a refusal into a `Result`; nothing
+//! proves the wrappers themselves, and no input is refused by them.
 //!
 //! Names, with those of the user's document: half-edge (side), twin (mate), boundary (rim), control value (patch number). Half-edge
 //! 4f + s runs from corner s of face f to the next corner. Rules are those of `docs/SPECIFICATION.md`.
@@ -368,6 +368,61 @@ pub fn face_corners(indices: &[u16], face: usize) -> &[u16] {
     &indices[first..first + count]
 }
 
+/// The cosine of 2 pi / m in 1/2^20: of all whole numbers the nearest to 1,048,576 times it.
+///
+/// - Returns that number where m is at least 3 and at most 32, and 0 for another m.
+/// - Refuses nothing.
+///
+/// ```
+/// use rusketja::cosine;
+///
+/// assert_eq!([3, 4, 5, 6].map(cosine), [-524_288, 0, 324_028, 524_288]);
+/// assert_eq!([2, 33].map(cosine), [0, 0]);
+/// ```
+pub fn cosine(m: usize) -> i32 {
+    // SAFETY: the call is passed a number and nothing else.
+    unsafe { ffi::rusketja_cosine(m) }
+}
+
+/// The weight of an edge in the tangent at an inner vertex of n faces, in 1/2^20.
+///
+/// The n edges of the vertex are numbered around it, from 0, the one that the tangent runs along; the weight is that of the far end of
+/// edge i. Each weight, also those of [`face_weight`], is within one unit of the exact one, equation (2) of Loop and Schaefer
+/// (`docs/SPECIFICATION.md`).
+///
+/// - Returns the weight for n from 3 to 16 and i below n, and 0 for others.
+/// - Refuses nothing.
+///
+/// ```
+/// use rusketja::edge_weight;
+///
+/// // Of four faces: a third of the edge itself, less a third of the one that leaves the other way.
+/// assert_eq!([0, 1, 2, 3].map(|i| edge_weight(4, i)), [349_525, 0, -349_525, 0]);
+/// assert_eq!([edge_weight(4, 4), edge_weight(2, 0), edge_weight(17, 0)], [0, 0, 0]);
+/// ```
+pub fn edge_weight(n: usize, i: usize) -> i32 {
+    // SAFETY: the call is passed two numbers and nothing else.
+    unsafe { ffi::rusketja_edge_weight(n, i) }
+}
+
+/// The weight of a face in the tangent at an inner vertex of n faces, in 1/2^20: of the vertex across the face between edges i and
+/// i + 1, numbered as for [`edge_weight`]; behind the last edge comes edge 0.
+///
+/// - Returns the weight for n from 3 to 16 and i below n, and 0 for others.
+/// - Refuses nothing.
+///
+/// ```
+/// use rusketja::face_weight;
+///
+/// // Of four faces: a twelfth of the two beside the edge, less a twelfth of the two others.
+/// assert_eq!([0, 1, 2, 3].map(|i| face_weight(4, i)), [87_381, -87_381, -87_381, 87_381]);
+/// assert_eq!([face_weight(4, 4), face_weight(2, 0), face_weight(17, 0)], [0, 0, 0]);
+/// ```
+pub fn face_weight(n: usize, i: usize) -> i32 {
+    // SAFETY: the call is passed two numbers and nothing else.
+    unsafe { ffi::rusketja_face_weight(n, i) }
+}
+
 #[cfg(test)]
 mod tests {
     use super::*;
@@ -514,6 +569,18 @@ mod tests {
         assert_eq!(mirror(&tagged, &mut positions, &mut tags, &mut indices), Ok(()));
         assert_eq!(positions, [9, 8, 7, -6, -5, 4, -3, 2, 1, 0, 1, 2]);
         assert_eq!((tags, indices), ([0, 1, 0, 1], [0, 3, 2, 1]));
+    }
+
+    #[test]
+    fn numbers_without_a_cosine_or_a_weight_give_0() {
+        assert_eq!([0, 1, 2, 33, 64, usize::MAX].map(cosine), [0; 6]);
+        assert!([3, 5, 32].iter().all(|&m| cosine(m) != 0));
+        for (n, i) in [(0, 0), (2, 0), (2, 1), (3, 3), (16, 16), (17, 0), (4, usize::MAX), (usize::MAX, 0)] {
+            assert_eq!((edge_weight(n, i), face_weight(n, i)), (0, 0));
+        }
+        for (n, i) in [(3, 0), (3, 2), (16, 0), (16, 15)] {
+            assert!(edge_weight(n, i) != 0 && face_weight(n, i) != 0);
+        }
     }
 
     #[test]

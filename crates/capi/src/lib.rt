@@ -9,6 +9,8 @@ ghost use Rattle.finite.specs.Table.{outcome};
 ghost use Rattle.mesh.specs.IndexedMesh.{indexed};
 ghost use Rattle.mesh.specs.Answer.{checked};
 ghost use Rattle.sample.specs.Answer.{sampleAnswer};
+ghost use Rattle.cosine.specs.Cosine.{Entry};
+ghost use Rattle.cosine.specs.Weight.{edgeWeight, faceWeight};
 ghost use Rattle.capi.specs.Answer.{code, CornersTold, CountsStored, CheckStored, PatchesStored, SampleStored, ReadingStored, LineStored, MirrorStored};
 
 // The corners of face f: `corner::face_corners`, whose part of the face list C is told by its first place and its length.
@@ -224,4 +226,34 @@ pub extern "C" fn rusketja_mirror(
         out_indices,
     );
     outcome_code(answer)
+}
+
+// The cosine of 2 pi / m (rules W1 and W5): `cosine::cosine`.
+// Returns: as `cosine::cosine`, 0 for an m without a cosine there.
+// Writes: nothing. Refuses: nothing. Units: 1/2^20.
+#[no_mangle]
+pub extern "C" fn rusketja_cosine(m: usize) -> i32
+    ensures { λ r. ⌜ Entry m r ⌝ }
+{
+    cosine::cosine(m)
+}
+
+// The weight of the far end of edge i in the tangent along edge 0 of a vertex of n faces (rules W4 and W5): `cosine::edge_weight`.
+// Returns: as `cosine::edge_weight`, 0 for n and i without a weight.
+// Writes: nothing. Refuses: nothing. Units: 1/2^20.
+#[no_mangle]
+pub extern "C" fn rusketja_edge_weight(n: usize, i: usize) -> i32
+    ensures { λ r. ⌜ r ≡ edgeWeight n i ⌝ }
+{
+    cosine::edge_weight(n, i)
+}
+
+// The weight, in the same tangent, of the vertex across the face between edges i and i + 1 (rules W4 and W5): `cosine::face_weight`.
+// Returns: as `cosine::face_weight`, 0 for n and i without a weight.
+// Writes: nothing. Refuses: nothing. Units: 1/2^20.
+#[no_mangle]
+pub extern "C" fn rusketja_face_weight(n: usize, i: usize) -> i32
+    ensures { λ r. ⌜ r ≡ faceWeight n i ⌝ }
+{
+    cosine::face_weight(n, i)
 }

@@ -1,4 +1,4 @@
-//! The library held against an independent reading of docs/SPECIFICATION.md's rules, on random meshes and patch lists.
+//! The library held against an independent reading of docs/SPECIFICATION.md's rules, on random meshes and patch lists and on whole tables.
 //!
 //! RUSKETJA_SEED sets the seed, RUSKETJA_MESHES the number of accepted meshes, RUSKETJA_CASE runs one case alone.
 
@@ -6,11 +6,13 @@ mod claim;
 mod compare;
 mod damage;
 mod document;
+mod interval;
 mod lines;
 mod model;
 mod random;
 mod shapes;
 mod tally;
+mod weights;
 mod worked;
 
 use compare::Lent;
