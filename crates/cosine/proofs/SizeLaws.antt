@@ -5,14 +5,14 @@ use Prim.Native.Nat.{ℕ, _+_, _-_, _*_, _^_, _≤_, _<_, min}
 use native.Mathlib.Nat.{mul-le-mul}
 use native.Mathlib.Omega.{arith}
 use lib.Dec.{leb, ltb}
-use lib.IntN.{ℤ, pos, natAbs, _+ℤ_, _*ℤ_}
+use lib.IntN.{ℤ, pos, natAbs, _+ℤ_}
 use borrow.Author.Tests.{leb-true, ltb-true}
-use Rattle.integer.proofs.Laws.{abs-+, abs-*-≤}
+use Rattle.integer.proofs.Laws.{abs-+}
 use Rattle.finite.specs.Fold.{foldBelow, allBelow}
 use Rattle.finite.proofs.AnyAll.{and-true, all-true}
-use Rattle.cosine.specs.Cosine.{scale, cosines, cosine}
+use Rattle.cosine.specs.Cosine.{cosines, cosine}
 use Rattle.cosine.specs.Root.{IsRoot, root}
-use Rattle.cosine.specs.Weight.{chain, multipleCosine, halfCosine, hypotenuse, divisor, edgeNumerator, halfAngles, faceNumerator}
+use Rattle.cosine.specs.Weight.{chain, multipleCosine, halfCosine, radicand, hypotenuse, divisor}
 use Rattle.cosine.proofs.CosineLaws.{cosine-size}
 use Rattle.cosine.proofs.ChainLaws.{chain-size}
 use Rattle.cosine.proofs.RootLaws.{root-meets, root-unique}
@@ -24,12 +24,13 @@ half-size n l = cosine-size (2 * n) (omega arith)
 pub radicand-size : (h : ℕ) → h ≤ 2 ^ 20 → 2 ^ 42 + h * h < 2 ^ 44
 radicand-size h l = omega (arith, mul-le-mul l l)
 
--- what the code finds is R
-pub hypotenuse-is : (n h r : ℕ) → n ≤ 16 → h ≡ natAbs (halfCosine n) → IsRoot (2 ^ 42 + h * h) r → r ≡ hypotenuse n
+-- R is the whole part of the root, and what the code finds is R
+pub hypotenuse-meets : (n : ℕ) → n ≤ 16 → IsRoot (radicand n) (hypotenuse n)
 unfolding hypotenuse
-hypotenuse-is n h r l e w =
-    let v : IsRoot (2 ^ 42 + natAbs (halfCosine n) * natAbs (halfCosine n)) r = subst (λ (k : ℕ). IsRoot (2 ^ 42 + k * k) r) e w in
-    root-unique _ r _ v (root-meets _ _ (omega (arith, radicand-size (natAbs (halfCosine n)) (half-size n l))))
+hypotenuse-meets n l = root-meets _ (radicand n) (omega (arith, radicand-size (natAbs (halfCosine n)) (half-size n l)))
+
+pub hypotenuse-is : (n h r : ℕ) → n ≤ 16 → h ≡ natAbs (halfCosine n) → IsRoot (2 ^ 42 + h * h) r → r ≡ hypotenuse n
+hypotenuse-is n h r l e w = root-unique (radicand n) r (hypotenuse n) (subst (λ (k : ℕ). IsRoot (2 ^ 42 + k * k) r) e w) (hypotenuse-meets n l)
 
 hypotenuses : allBelow (λ n. leb (2 ^ 21) (hypotenuse n) && ltb (hypotenuse n) (2 ^ 22)) 17 ≡ true
 unfolding foldBelow cosines cosine root hypotenuse
@@ -46,19 +47,10 @@ divisor-size n a b =
     let h : hypotenuse n ≤ 2 ^ 22 = omega (arith, w .1) in
     (mul-le-mul a (w .0), mul-le-mul b h)
 
--- ---- the numerators
+-- ---- the factors of the numerators, which are 3.53e12 at most
 pub multiple-size : (m i : ℕ) → m ≤ 32 → i ≤ m → natAbs (multipleCosine m i) ≤ 2 ^ 21
 unfolding multipleCosine
 multiple-size m i h l = chain-size m (min i (m - i)) h (omega arith)
 
 pub sum-size : (n : ℕ) → n ≤ 16 → natAbs (pos (hypotenuse n) +ℤ halfCosine n) ≤ 2 ^ 23
 sum-size n l = omega (arith, abs-+ (pos (hypotenuse n)) (halfCosine n), hypotenuse-size n l .1, half-size n l)
-
-pub edge-numerator-size : (n i : ℕ) → n ≤ 16 → i ≤ n → natAbs (edgeNumerator n i) ≤ 2 ^ 44
-edge-numerator-size n i l h =
-    abs-*-≤ (pos (hypotenuse n) +ℤ halfCosine n) (multipleCosine n i) (sum-size n l) (multiple-size n i (omega arith) h)
-
-pub face-numerator-size : (n i : ℕ) → n ≤ 16 → i < n → natAbs (faceNumerator n i) ≤ 2 ^ 44
-face-numerator-size n i l h =
-    let s : natAbs (pos scale) ≤ 2 ^ 20 = omega arith in
-    omega (arith, abs-*-≤ (pos scale) (multipleCosine (2 * n) (halfAngles i)) s (multiple-size (2 * n) (halfAngles i) (omega arith) (omega arith)))

@@ -1,7 +1,7 @@
--- The cosines c(m), m from 3 to 32: each is the whole number nearest to 2^20 cos(2 pi / m), and the rule that says so without a cosine (rule W1).
+-- The cosines: c(m), for every m from 3 to 32, is the whole number nearest to cos(2 pi / m) times 2^20. Their rule says so without a cosine (rule W1).
 --
---   term k m j     term j of the rule at t = k / 2^21, times 2^(20 j), which makes it a whole number. The terms are 1, then 2t, to which an odd m
---                  adds 1, and each further one is 2t times the last less the one before
+--   term k m j     term j of the rule at t = k / 2^21, times 2^(20 j), which makes it a whole number. The terms are 1, then 2t, with 1 added where
+--                  m is odd, and from there on the last term multiplied by 2t, minus the one before it
 --   above k m      t is above cos(2 pi / m), for t between -1 and 1: every term up to the last place, (m - 1) / 2 for an odd m and m / 2 - 1 for
 --                  an even one, is above 0. Both places are the whole part of (m - 1) / 2
 --   IsCosine m e   the half below the entry e is not above the cosine, and the half above it is; both halves lie between -1 and 1

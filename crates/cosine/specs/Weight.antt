@@ -1,15 +1,20 @@
--- The weights of the tangent along an edge that leaves an inner vertex of n faces: of the far ends of the vertex's edges and of the vertices
--- across its faces, both counted from that edge on. In fractions they are those of [LS], equation (2), times 2^20.
+-- The weights of the tangent along an edge of an inner vertex of n faces. Its edges are numbered around it from that one, 0, on; face i lies between
+-- edges i and i + 1. The far end of each edge and the vertex across each face has a weight, 2^20 times that of [LS], equation (2), but for roundings.
 --
---   chain c i            the recurrence of rule W2 for c = c(m): 2^20, c, then 2 c / 2^20 times the last, rounded, less the one before
---   multipleCosine m i   C(m, i) (rule W2): the recurrence up to the whole part of m / 2, and from there on the same backwards
+--   chain c i            the recurrence of rule W2 for c = c(m): 2^20, c, and then 2 c / 2^20 times the last number, rounded, minus the one before it
+--   multipleCosine m i   C(m, i) (rule W2), of the two places i and m - i the one that comes first in the recurrence
 --   halfCosine n         H, c(2n) (rule W3)
---   hypotenuse n         R, the whole part of the root of 2^42 + H^2 (rule W3)
---   weighed n i          there are weights of n faces, n from 3 to 16, and i is below n
---   edgeWeight n i       A(n, i) = (R + H) C(n, i) / (n R), rounded once (rule W4); 0 where there is no such weight. Its numerator: edgeNumerator
---   faceWeight n i       B(n, i) = 2^20 C(2n, 2i + 1) / (n R), likewise. Its numerator: faceNumerator; the divisor of both: divisor
---   halfAngles i         how many half angles between two edges face i, behind edge i, is on from edge 0: 2i + 1
---   edgeWeights, faceWeights   all of them (rule W6): the weight of n and i at place 16 (n - 3) + i
+--   radicand n           2^42 + H^2
+--   hypotenuse n         R, its root without the fraction behind it (rule W3; `hypotenuse-meets`, proofs/SizeLaws.antt)
+--   divisor n            n R
+--   edgeNumerator n i    (R + H) C(n, i)
+--   halfAngles i         face i lies so many half angles on from edge 0, where an angle is that between two edges
+--   faceNumerator n i    2^20 C(2n, 2i + 1)
+--   weighed n i          there is such a weight: n is from 3 to 16, and i below n
+--   edgeWeight n i       A(n, i) (rule W4): the quotient, rounded once; 0 where there is no such weight (rule W5)
+--   faceWeight n i       B(n, i), likewise
+--   place n i            where the weight of n and i stands in its list: there are 16 places for each n
+--   edgeWeights, faceWeights   all the weights, each at its place, and 0 where there is none (rule W6)
 --   allWeights           the two lists as the code has them
 use mathlib.Core.Bool.{Bool, cond, _&&_}
 use mathlib.Core.List.{List}
@@ -33,8 +38,11 @@ multipleCosine m i = chain (cosine m) (min i (m - i))
 abbrev pub halfCosine : ℕ → ℤ
 halfCosine n = cosine (2 * n)
 
+abbrev pub radicand : ℕ → ℕ
+radicand n = 2 ^ 42 + natAbs (halfCosine n) * natAbs (halfCosine n)
+
 unfoldable pub hypotenuse : ℕ → ℕ
-hypotenuse n = root 22 (2 ^ 42 + natAbs (halfCosine n) * natAbs (halfCosine n))
+hypotenuse n = root 22 (radicand n)
 
 abbrev pub divisor : ℕ → ℕ
 divisor n = n * hypotenuse n
@@ -56,6 +64,9 @@ edgeWeight n i = cond (weighed n i) (nearest (edgeNumerator n i) (divisor n)) (p
 
 unfoldable pub faceWeight : ℕ → ℕ → ℤ
 faceWeight n i = cond (weighed n i) (nearest (faceNumerator n i) (divisor n)) (pos 0)
+
+abbrev pub place : ℕ → ℕ → ℕ
+place n i = 16 * (n - 3) + i
 
 unfoldable pub edgeWeights : List ℤ
 edgeWeights = listBelow (λ k. edgeWeight (3 + k / 16) (k % 16)) 224

@@ -62,13 +62,13 @@ fn hypotenuse(n: usize) -> u64
     root(4398046511104 + h * h)
 }
 
-// A numerator over n R, rounded.
-fn over_divisor(num: i64, n: usize) -> i32
-    requires { ⌜ (natAbs num ≤ 2 ^ 44) × (3 ≤ n) × (n ≤ 16) ⌝ }
-    ensures { λ r. ⌜ r ≡ nearest num (divisor n) ⌝ }
+// The product of two numbers over n R, rounded once.
+fn over_divisor(factor: i64, value: i64, n: usize) -> i32
+    requires { ⌜ (natAbs factor ≤ 2 ^ 23) × (natAbs value ≤ 2 ^ 21) × (3 ≤ n) × (n ≤ 16) ⌝ }
+    ensures { λ r. ⌜ r ≡ nearest (factor *ℤ value) (divisor n) ⌝ }
 {
     let over = n as u64 * hypotenuse(n);
-    integer::round(num, over as u32) as i32
+    integer::round(factor * value, over as u32) as i32
 }
 
 // R + H for n faces.
@@ -84,7 +84,7 @@ fn edge_entry(n: usize, i: usize) -> i32
     ensures { λ r. ⌜ r ≡ edgeWeight n i ⌝ }
 {
     if weighed(n, i) {
-        over_divisor(edge_factor(n) * multiple_cosine(n, i), n)
+        over_divisor(edge_factor(n), multiple_cosine(n, i), n)
     } else {
         0
     }
@@ -95,7 +95,7 @@ fn face_entry(n: usize, i: usize) -> i32
     ensures { λ r. ⌜ r ≡ faceWeight n i ⌝ }
 {
     if weighed(n, i) {
-        over_divisor(1048576 * multiple_cosine(2 * n, 2 * i + 1), n)
+        over_divisor(1048576, multiple_cosine(2 * n, 2 * i + 1), n)
     } else {
         0
     }

@@ -12,10 +12,12 @@ use crate::face_table::FACE_WEIGHTS;
 use crate::generator::fill;
 use crate::model::Weights;
 ghost use mathlib.Core.Path.{_≡_};
+ghost use mathlib.Core.Bool.{true};
+ghost use Prim.Native.Nat.{_<_};
 ghost use Rattle.cosine.specs.Cosine.{Entry};
-ghost use Rattle.cosine.specs.Weight.{weighed as weighedOf, edgeWeight, faceWeight, allWeights};
+ghost use Rattle.cosine.specs.Weight.{weighed as weighedOf, place as placeOf, edgeWeight, faceWeight, allWeights};
 
-// The whole number nearest to 2^20 cos(2 pi / m), for m from 3 to 32.
+// The whole number that is nearest to 2^20 times the cosine of 2 pi / m, m from 3 to 32.
 // Returns: that number, or 0 for another m. Refuses: nothing.
 pub fn cosine(m: usize) -> i32
     ensures { λ r. ⌜ Entry m r ⌝ }
@@ -36,13 +38,21 @@ pub(crate) fn weighed(n: usize, i: usize) -> bool
     i < n
 }
 
+// Where the weight of n and i stands in its table.
+fn place(n: usize, i: usize) -> usize
+    requires { ⌜ weighedOf n i ≡ true ⌝ }
+    ensures { λ r. ⌜ (r ≡ placeOf n i) × (r < 224) ⌝ }
+{
+    16 * (n - 3) + i
+}
+
 // The weight, in the tangent along an edge of a vertex of n faces, of the far end of the edge that is i edges on.
 // Returns: 2^20 times the weight, for n from 3 to 16 and i below n, or 0 for other numbers. Refuses: nothing.
 pub fn edge_weight(n: usize, i: usize) -> i32
     ensures { λ r. ⌜ r ≡ edgeWeight n i ⌝ }
 {
     if weighed(n, i) {
-        EDGE_WEIGHTS[16 * (n - 3) + i]
+        EDGE_WEIGHTS[place(n, i)]
     } else {
         0
     }
@@ -54,7 +64,7 @@ pub fn face_weight(n: usize, i: usize) -> i32
     ensures { λ r. ⌜ r ≡ faceWeight n i ⌝ }
 {
     if weighed(n, i) {
-        FACE_WEIGHTS[16 * (n - 3) + i]
+        FACE_WEIGHTS[place(n, i)]
     } else {
         0
     }

@@ -1,17 +1,16 @@
--- `face_entry` meets its contract: 2^20 times C(2n, 2i + 1) fits 64 bits, so it is exact, and it is rounded once.
+-- `face_entry` meets its contract: 2^20 and C(2n, 2i + 1) are small enough for the product and its quotient.
 use mathlib.Core.Path.{_≡_, sym, ap, _∙_}
-use Prim.Native.Nat.{ℕ, _+_, _*_, _^_, _≤_, _<_}
+use Prim.Native.Nat.{ℕ, _*_}
 use native.Mathlib.Omega.{arith}
-use lib.IntN.{ℤ, pos, natAbs, _*ℤ_}
+use lib.IntN.{ℤ, pos, _*ℤ_}
 use mir.Syntax.{w32, w64}
-use mir.Val.{SFits, toZ, ofZ}
-use mir.Facts.{toZ-ofZ}
+use mir.Val.{toZ, ofZ}
 use Rattle.integer.specs.Nearest.{nearest}
-use Rattle.integer.proofs.Laws.{sfits-abs, read-back}
+use Rattle.integer.proofs.Laws.{read-back}
 use Rattle.cosine.specs.Cosine.{scale}
-use Rattle.cosine.specs.Weight.{faceNumerator, divisor}
-use Rattle.cosine.proofs.WeightLaws.{Weighed, weighed-is, face-weighed, face-off}
-use Rattle.cosine.proofs.SizeLaws.{face-numerator-size}
+use Rattle.cosine.specs.Weight.{multipleCosine, divisor, halfAngles}
+use Rattle.cosine.proofs.WeightLaws.{Weighed, weighed-by, face-weighed, face-off}
+use Rattle.cosine.proofs.SizeLaws.{multiple-size}
 use Rattle.cosine.proofs.generator.face_entry.Statement.{statement}
 use Rattle.cosine.proofs.generator.face_entry.Tie as tie
 
@@ -24,24 +23,12 @@ module _ (c : tie.Then1) where
   i = c .before .before .args .i
 
   range : Weighed n i
-  range = weighed-is n i (sym (c .before .weighed .ensures) ∙ c .if1 .taken)
+  range = weighed-by n i (c .before .weighed .ensures) (c .if1 .taken)
 
-  abbrev numerator : ℤ
-  numerator = faceNumerator n i
-
-  numerator-size : natAbs numerator ≤ 2 ^ 44
-  numerator-size = face-numerator-size n i (range .most) (range .place)
-
-  numerator-fits : SFits w64 numerator
-  numerator-fits = sfits-abs numerator (omega (arith, numerator-size))
-
--- ---- C(2n, 2i + 1) is known
-module _ (c : tie.After-multiple-cosine) where
-  product-is : pos scale *ℤ toZ w64 (ofZ w64 (c .multiple-cosine .result)) ≡ numerator (c .before)
-  product-is = ap (λ (z : ℤ). pos scale *ℤ z) (read-back w64 (c .multiple-cosine .ok) (c .multiple-cosine .ensures))
-
-  passed-is : toZ w64 (ofZ w64 (pos scale *ℤ toZ w64 (ofZ w64 (c .multiple-cosine .result)))) ≡ numerator (c .before)
-  passed-is = ap (λ (z : ℤ). toZ w64 (ofZ w64 z)) product-is ∙ toZ-ofZ (numerator-fits (c .before))
+-- ---- the cosine is known
+value-is : (c : tie.After-multiple-cosine)
+    → toZ w64 (ofZ w64 (c .multiple-cosine .result)) ≡ multipleCosine (2 * n (c .before)) (halfAngles (i (c .before)))
+value-is c = read-back w64 (c .multiple-cosine .ok) (c .multiple-cosine .ensures)
 
 -- ---- the answers, in the order of the code
 weighed-requires : tie.Need-weighed-requires
@@ -59,18 +46,22 @@ add-multiple-cosine c = omega (arith, range c .most, range c .place)
 multiple-cosine-requires : tie.Need-multiple-cosine-requires
 multiple-cosine-requires c κs = (omega (arith, range c .most), omega (arith, range c .place))
 
-mul-over-divisor : tie.Need-mul-over-divisor
-mul-over-divisor c = rw (product-is c) (numerator-fits (c .before))
-
 over-divisor-requires : tie.Need-over-divisor-requires
-over-divisor-requires c κs = let w = range (c .before) in (rw (passed-is c) (numerator-size (c .before)), w .least, w .most)
+over-divisor-requires c κs =
+    let t = c .before in
+    let w = range t in (
+      omega arith,
+      rw (value-is c) (multiple-size (2 * n t) (halfAngles (i t)) (omega (arith, w .most)) (omega (arith, w .place))),
+      w .least,
+      w .most,
+    )
 
 returns : tie.Need-returns
 returns c =
     let t = c .before .before in
     read-back w32 (c .over-divisor .ok)
     (c .over-divisor .ensures
-    ∙ ap (λ (z : ℤ). nearest z (divisor (n t))) (passed-is (c .before))
+    ∙ ap (λ (z : ℤ). nearest (pos scale *ℤ z) (divisor (n t))) (value-is (c .before))
     ∙ sym (face-weighed (n t) (i t) (sym (t .before .weighed .ensures) ∙ t .if1 .taken)))
 
 returns-2 : tie.Need-returns-2
@@ -85,7 +76,6 @@ face-entry-spec =
     mul-multiple-cosine-2
     add-multiple-cosine
     multiple-cosine-requires
-    mul-over-divisor
     over-divisor-requires
     returns
     returns-2)

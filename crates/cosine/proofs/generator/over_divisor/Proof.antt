@@ -1,18 +1,32 @@
--- `over_divisor` meets its contract: the divisor fits 32 bits, and is so large that the quotient fits them too.
-use mathlib.Core.Path.{_≡_, sym, ap, ap₂, _∙_}
+-- `over_divisor` meets its contract: the product is exact, the divisor fits 32 bits and is so large that the quotient fits them too.
+use mathlib.Core.Path.{_≡_, ap, ap₂, _∙_}
 use Prim.Native.Nat.{ℕ, _*_, _^_, _≤_, _<_}
 use native.Mathlib.Omega.{arith}
-use lib.IntN.{ℤ, natAbs}
+use lib.IntN.{ℤ, natAbs, _*ℤ_}
 use mir.Syntax.{w32, w64}
 use mir.Val.{SFits, toZ, ofZ}
 use mir.Facts.{toZ-ofZ}
 use Rattle.integer.specs.Nearest.{nearest}
-use Rattle.integer.proofs.Laws.{sfits-abs, read-back}
+use Rattle.integer.proofs.Laws.{abs-*-≤, sfits-abs, read-back}
 use Rattle.integer.proofs.NearestLaws.{nearest-bounded}
 use Rattle.cosine.specs.Weight.{divisor}
 use Rattle.cosine.proofs.SizeLaws.{divisor-size}
 use Rattle.cosine.proofs.generator.over_divisor.Statement.{statement}
 use Rattle.cosine.proofs.generator.over_divisor.Tie as tie
+
+-- ---- at the start: the product
+module _ (c : tie.Start) where
+  abbrev product : ℤ
+  product = c .args .factor *ℤ c .args .value
+
+  product-size : natAbs product ≤ 2 ^ 44
+  product-size = abs-*-≤ (c .args .factor) (c .args .value) (c .pre .0) (c .pre .1)
+
+  product-is : toZ w64 (ofZ w64 (c .args .factor)) *ℤ toZ w64 (ofZ w64 (c .args .value)) ≡ product
+  product-is = ap₂ _*ℤ_ (toZ-ofZ (c .fits .factor)) (toZ-ofZ (c .fits .value))
+
+  product-fits : SFits w64 product
+  product-fits = sfits-abs product (omega (arith, product-size))
 
 -- ---- R is known
 module _ (c : tie.After-hypotenuse) where
@@ -23,7 +37,7 @@ module _ (c : tie.After-hypotenuse) where
   divisor-is = ap (λ (r : ℕ). n * r) (c .hypotenuse .ensures)
 
   divisor-small : n * c .hypotenuse .result ≤ 2 ^ 26
-  divisor-small = omega (arith, divisor-is, divisor-size n (c .before .pre .1) (c .before .pre .2) .1)
+  divisor-small = omega (arith, divisor-is, divisor-size n (c .before .pre .2) (c .before .pre .3) .1)
 
 -- ---- the quotient
 module _ (c : tie.After-round) where
@@ -31,23 +45,29 @@ module _ (c : tie.After-round) where
   start = c .before .before
 
   abbrev quotient : ℤ
-  quotient = nearest (start .args .num) (divisor (start .args .n))
+  quotient = nearest (product start) (divisor (start .args .n))
 
   value : toZ w64 (ofZ w64 (c .round .result)) ≡ quotient
-  value = read-back w64 (c .round .ok) (c .round .ensures ∙ ap₂ nearest (toZ-ofZ (start .fits .num)) (divisor-is (c .before)))
+  value =
+      read-back w64 (c .round .ok)
+      (c .round .ensures
+      ∙ ap₂ nearest (ap (λ (z : ℤ). toZ w64 (ofZ w64 z)) (product-is start) ∙ toZ-ofZ (product-fits start)) (divisor-is (c .before)))
 
   small : SFits w32 quotient
   small =
-      let d = divisor-size (start .args .n) (start .pre .1) (start .pre .2) in
+      let d = divisor-size (start .args .n) (start .pre .2) (start .pre .3) in
       let p : 0 < divisor (start .args .n) = omega (arith, d .0) in
-      sfits-abs quotient (omega (arith, nearest-bounded (start .args .num) _ (2 ^ 30) p (omega (arith, d .0, start .pre .0))))
+      sfits-abs quotient (omega (arith, nearest-bounded (product start) _ (2 ^ 30) p (omega (arith, d .0, product-size start))))
 
 -- ---- the answers, in the order of the code
 hypotenuse-requires : tie.Need-hypotenuse-requires
-hypotenuse-requires c κs = c .pre .2
+hypotenuse-requires c κs = c .pre .3
 
 mul-over : tie.Need-mul-over
 mul-over c = omega (arith, divisor-small c)
+
+mul-round : tie.Need-mul-round
+mul-round c = rw (product-is (c .before)) (product-fits (c .before))
 
 cast-round : tie.Need-cast-round
 cast-round c = omega (arith, divisor-small c)
@@ -64,4 +84,4 @@ returns c = ap (λ (z : ℤ). toZ w32 (ofZ w32 z)) (value c) ∙ toZ-ofZ (small 
 pub over-divisor-spec : {M : Type 1} → statement M
 over-divisor-spec =
     tie.close
-    (tie.spec hypotenuse-requires mul-over cast-round round-requires cast-result returns)
+    (tie.spec hypotenuse-requires mul-over mul-round cast-round round-requires cast-result returns)
