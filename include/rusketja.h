@@ -212,7 +212,7 @@ size_t rusketja_face_corners(
 int32_t rusketja_cosine(size_t m);
 
 /* The weight of an edge in the tangent at an inner vertex of n faces. Number the n edges of the vertex around it, beginning with the
- * one that the tangent runs along, 0: this is the weight of the far end of edge i (A of rule W4).
+ * one that the tangent runs along, 0: this is the weight of the far end of edge i (A of rule D4).
  *
  * Returns: the weight, from i = 1 on the same for i and n - i; 0 where n is below 3 or above 16, or i is n or above.
  * Writes: nothing.
@@ -221,7 +221,7 @@ int32_t rusketja_cosine(size_t m);
 int32_t rusketja_edge_weight(size_t n, size_t i);
 
 /* The weight of a face in the same tangent: of the vertex across the face that lies between edges i and i + 1, and for i = n - 1
- * between the last edge and edge 0 (B of rule W4).
+ * between the last edge and edge 0 (B of rule D4).
  *
  * Returns: the weight, the same for i and n - 1 - i; 0 where n is below 3 or above 16, or i is n or above.
  * Writes: nothing.

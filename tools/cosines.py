@@ -1,6 +1,6 @@
-"""The cosines c(m) and the weights of the tangents (rules W1 to W5 of docs/SPECIFICATION.md), computed once more.
+"""The cosines c(m) and the weights of the tangents (rules D1 to D5 of docs/SPECIFICATION.md), computed once more.
 
-c comes from the series of the cosine in decimals, and not from the terms of rule W1. The weights come from c in fractions that are
+c comes from the series of the cosine in decimals, and not from the terms of rule D1. The weights come from c in fractions that are
 rounded once, halves to the even number. Beside them stand the weights that they are to approach, equation (2) of Loop and Schaefer, in decimals.
 tools/weight_trials.py and tools/tests/test_cosines.py use it.
 """

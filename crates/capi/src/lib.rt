@@ -228,7 +228,7 @@ pub extern "C" fn rusketja_mirror(
     outcome_code(answer)
 }
 
-// The cosine of 2 pi / m (rules W1 and W5): `cosine::cosine`.
+// The cosine of 2 pi / m (rules D1 and D5): `cosine::cosine`.
 // Returns: as `cosine::cosine`, 0 for an m without a cosine there.
 // Writes: nothing. Refuses: nothing. Units: 1/2^20.
 #[no_mangle]
@@ -238,7 +238,7 @@ pub extern "C" fn rusketja_cosine(m: usize) -> i32
     cosine::cosine(m)
 }
 
-// The weight of the far end of edge i in the tangent along edge 0 of a vertex of n faces (rules W4 and W5): `cosine::edge_weight`.
+// The weight of the far end of edge i in the tangent along edge 0 of a vertex of n faces (rules D4 and D5): `cosine::edge_weight`.
 // Returns: as `cosine::edge_weight`, 0 for n and i without a weight.
 // Writes: nothing. Refuses: nothing. Units: 1/2^20.
 #[no_mangle]
@@ -248,7 +248,7 @@ pub extern "C" fn rusketja_edge_weight(n: usize, i: usize) -> i32
     cosine::edge_weight(n, i)
 }
 
-// The weight, in the same tangent, of the vertex across the face between edges i and i + 1 (rules W4 and W5): `cosine::face_weight`.
+// The weight, in the same tangent, of the vertex across the face between edges i and i + 1 (rules D4 and D5): `cosine::face_weight`.
 // Returns: as `cosine::face_weight`, 0 for n and i without a weight.
 // Writes: nothing. Refuses: nothing. Units: 1/2^20.
 #[no_mangle]

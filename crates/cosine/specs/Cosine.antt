@@ -1,4 +1,4 @@
--- The cosines: c(m), for every m from 3 to 32, is the whole number nearest to cos(2 pi / m) times 2^20. Their rule says so without a cosine (rule W1).
+-- The cosines: c(m), for every m from 3 to 32, is the whole number nearest to cos(2 pi / m) times 2^20. Their rule says so without a cosine (rule D1).
 --
 --   term k m j     term j of the rule at t = k / 2^21, times 2^(20 j), which makes it a whole number. The terms are 1, then 2t, with 1 added where
 --                  m is odd, and from there on the last term multiplied by 2t, minus the one before it
@@ -7,7 +7,7 @@
 --   IsCosine m e   the half below the entry e is not above the cosine, and the half above it is; both halves lie between -1 and 1
 --   cosine m       c(m) for m from 3 to 32, 0 for another m, read off `cosines` (`proofs/CosineLaws.antt`: each entry meets the rule;
 --                  `proofs/UniqueLaws.antt`: no other number does)
---   Entry m r      what the call returns, without the table (rule W5)
+--   Entry m r      what the call returns, without the table (rule D5)
 use mathlib.Core.Path.{_≡_}
 use mathlib.Core.Bool.{Bool, true, false}
 use mathlib.Core.List.{List, [], _∷_}

@@ -1,4 +1,4 @@
--- The whole part of a square root (rule W3).
+-- The whole part of a square root (rule D3).
 --
 --   RootFrom x r b   the root of x is r or more, and below r + b
 --   IsRoot x r       its whole part is r

@@ -1,20 +1,20 @@
 -- The weights of the tangent along an edge of an inner vertex of n faces. Its edges are numbered around it from that one, 0, on; face i lies between
 -- edges i and i + 1. The far end of each edge and the vertex across each face has a weight, 2^20 times that of [LS], equation (2), but for roundings.
 --
---   chain c i            the recurrence of rule W2 for c = c(m): 2^20, c, and then 2 c / 2^20 times the last number, rounded, minus the one before it
---   multipleCosine m i   C(m, i) (rule W2), of the two places i and m - i the one that comes first in the recurrence
---   halfCosine n         H, c(2n) (rule W3)
+--   chain c i            the recurrence of rule D2 for c = c(m): 2^20, c, and then 2 c / 2^20 times the last number, rounded, minus the one before it
+--   multipleCosine m i   C(m, i) (rule D2), of the two places i and m - i the one that comes first in the recurrence
+--   halfCosine n         H, c(2n) (rule D3)
 --   radicand n           2^42 + H^2
---   hypotenuse n         R, its root without the fraction behind it (rule W3; `hypotenuse-meets`, proofs/SizeLaws.antt)
+--   hypotenuse n         R, its root without the fraction behind it (rule D3; `hypotenuse-meets`, proofs/SizeLaws.antt)
 --   divisor n            n R
 --   edgeNumerator n i    (R + H) C(n, i)
 --   halfAngles i         face i lies so many half angles on from edge 0, where an angle is that between two edges
 --   faceNumerator n i    2^20 C(2n, 2i + 1)
 --   weighed n i          there is such a weight: n is from 3 to 16, and i below n
---   edgeWeight n i       A(n, i) (rule W4): the quotient, rounded once; 0 where there is no such weight (rule W5)
+--   edgeWeight n i       A(n, i) (rule D4): the quotient, rounded once; 0 where there is no such weight (rule D5)
 --   faceWeight n i       B(n, i), likewise
 --   place n i            where the weight of n and i stands in its list: there are 16 places for each n
---   edgeWeights, faceWeights   all the weights, each at its place, and 0 where there is none (rule W6)
+--   edgeWeights, faceWeights   all the weights, each at its place, and 0 where there is none (rule D6)
 --   allWeights           the two lists as the code has them
 use mathlib.Core.Bool.{Bool, cond, _&&_}
 use mathlib.Core.List.{List}
