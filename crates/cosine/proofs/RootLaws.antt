@@ -1,14 +1,13 @@
 -- The root by its binary digits is the whole part of the root, for every number below 4^k, and there is no other; and what a loop shows that
 -- finds the digits one by one.
-use mathlib.Core.Path.{_≡_, refl, sym, ap, _∙_, subst}
-use mathlib.Core.Bool.{cond}
+use mathlib.Core.Path.{_≡_, ap, _∙_}
 use Prim.Native.Nat.{ℕ, zero, suc, _+_, _-_, _*_, _/_, _^_, _≤_, _<_}
 use native.Mathlib.Nat.{mul-le-mul, le-antisymm, lt-of-not-le}
 use native.Mathlib.Decide.{decLe}
 use native.Mathlib.Omega.{arith}
 use lib.Dec.{leb, leb→le, nleb→lt}
 use Rattle.integer.proofs.Cases.{cond-cases}
-use Rattle.cosine.specs.Root.{RootFrom, IsRoot, withDigit, root}
+use Rattle.cosine.specs.Root.{IsRoot, withDigit, root}
 
 -- ---- the definition
 digit-meets : (x r : ℕ) → IsRoot (x / 4) r → IsRoot x (withDigit x r)

@@ -1,5 +1,5 @@
 -- The sizes of what goes into a weight: R, the divisor n R, and the numerators.
-use mathlib.Core.Path.{_≡_, refl, sym, ap, subst}
+use mathlib.Core.Path.{_≡_, refl, subst}
 use mathlib.Core.Bool.{true, _&&_}
 use Prim.Native.Nat.{ℕ, _+_, _-_, _*_, _^_, _≤_, _<_, min}
 use native.Mathlib.Nat.{mul-le-mul}
@@ -12,7 +12,7 @@ use Rattle.finite.specs.Fold.{foldBelow, allBelow}
 use Rattle.finite.proofs.AnyAll.{and-true, all-true}
 use Rattle.cosine.specs.Cosine.{cosines, cosine}
 use Rattle.cosine.specs.Root.{IsRoot, root}
-use Rattle.cosine.specs.Weight.{chain, multipleCosine, halfCosine, radicand, hypotenuse, divisor}
+use Rattle.cosine.specs.Weight.{multipleCosine, halfCosine, radicand, hypotenuse, divisor}
 use Rattle.cosine.proofs.CosineLaws.{cosine-size}
 use Rattle.cosine.proofs.ChainLaws.{chain-size}
 use Rattle.cosine.proofs.RootLaws.{root-meets, root-unique}

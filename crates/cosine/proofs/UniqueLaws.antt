@@ -1,6 +1,6 @@
 -- The rule names one number: what is above the cosine stays above when it grows, so no two entries meet the rule for one m.
-use mathlib.Core.Path.{_≡_, refl, sym, ap, _∙_, subst}
-use mathlib.Core.Bool.{Bool, true, false, true≢false}
+use mathlib.Core.Path.{_≡_, refl, sym, _∙_, subst}
+use mathlib.Core.Bool.{true, false, true≢false}
 use mathlib.Core.List.{[], _∷_}
 use Prim.Native.Nat.{ℕ, zero, suc, _+_, _-_, _*_, _/_, _%_, _^_, _≤_, _<_}
 use native.Mathlib.Nat.{mul-pos, zero-lt-suc, lt-of-not-le}
@@ -9,11 +9,10 @@ use native.Mathlib.Omega.{arith}
 use lib.Dec.{T, ltb, lt→ltb}
 use lib.IntN.{ℤ, pos, negsuc, _+ℤ_, _-ℤ_, _*ℤ_}
 use lib.Signed.{_≤ℤ_, _<ℤ_, ltZ}
-use borrow.Author.Tests.{ltb-true, lt-ltb}
+use borrow.Author.Tests.{lt-ltb}
 use Rattle.integer.proofs.Difference.{int, nat, _⊕_, _⊝_, _⊛_, prove-le, read-le, lt-is, lt-by, eq-by, posPart, negPart}
 use Rattle.integer.proofs.Laws.{order, ≤ℤ-+ℤ, *ℤ-nonneg}
-use Rattle.integer.proofs.Ring.{var, con, _:+_, _:-_, _:*_, ring}
-use Rattle.finite.specs.Fold.{allBelow}
+use Rattle.integer.proofs.Ring.{var, _:+_, _:-_, _:*_, ring}
 use Rattle.finite.proofs.AnyAll.{all-hit, all-true}
 use Rattle.cosine.specs.Cosine.{cosine, term, above, IsCosine, Entry}
 use Rattle.cosine.proofs.CosineLaws.{cosine-entry}

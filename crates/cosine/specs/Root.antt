@@ -15,7 +15,7 @@ pub record RootFrom (x r b : ℕ) : Type 0 where
 abbrev pub IsRoot : ℕ → ℕ → Type 0
 IsRoot x r = RootFrom x r 1
 
--- the number of digits r and one digit more
+-- the digits r and one digit more
 abbrev pub withDigit : ℕ → ℕ → ℕ
 withDigit x r = cond (leb ((2 * r + 1) * (2 * r + 1)) x) (2 * r + 1) (2 * r)
 

@@ -10,6 +10,12 @@ ghost use Rattle.integer.specs.Nearest.{nearest};
 ghost use Rattle.cosine.specs.Cosine.{scale, cosine as cosineOf};
 ghost use Rattle.cosine.specs.Weight.{chain, multipleCosine, halfCosine, hypotenuse as hypotenuseOf, divisor, edgeWeight, faceWeight, edgeWeights, faceWeights};
 
+// The cosine 1 as an entry of the table, 2^20.
+const ONE: i64 = 1_048_576;
+
+// The square of twice that, 2^42.
+const TWICE_SQUARED: u64 = 4_398_046_511_104;
+
 // c(m) with 64 bits.
 fn wide_cosine(m: usize) -> i64
     ensures { λ r. ⌜ r ≡ cosineOf m ⌝ }
@@ -22,7 +28,7 @@ fn following(c: i64, last: i64, before: i64) -> i64
     requires { ⌜ (natAbs c ≤ 2 ^ 20) × (natAbs last ≤ 2 ^ 21) × (natAbs before ≤ 2 ^ 21) ⌝ }
     ensures { λ r. ⌜ r ≡ nearest (pos 2 *ℤ c *ℤ last) scale -ℤ before ⌝ }
 {
-    integer::round(2 * c * last, 1048576) - before
+    integer::round(2 * c * last, ONE as u32) - before
 }
 
 // Number j of the recurrence for m.
@@ -31,7 +37,7 @@ fn chained(m: usize, j: usize) -> i64
     ensures { λ r. ⌜ r ≡ chain (cosineOf m) j ⌝ }
 {
     let c = wide_cosine(m);
-    let mut a = 1048576i64;
+    let mut a = ONE;
     let mut b = c;
     for i in 0..j {
         let t = following(c, b, a);
@@ -53,13 +59,13 @@ fn multiple_cosine(m: usize, i: usize) -> i64
     }
 }
 
-// R for n faces.
+// R for n faces: the hypotenuse over twice the cosine 1 and H.
 fn hypotenuse(n: usize) -> u64
     requires { ⌜ n ≤ 16 ⌝ }
     ensures { λ r. ⌜ r ≡ hypotenuseOf n ⌝ }
 {
     let h = integer::magnitude(wide_cosine(2 * n));
-    root(4398046511104 + h * h)
+    root(TWICE_SQUARED + h * h)
 }
 
 // The product of two numbers over n R, rounded once.
@@ -95,7 +101,7 @@ fn face_entry(n: usize, i: usize) -> i32
     ensures { λ r. ⌜ r ≡ faceWeight n i ⌝ }
 {
     if weighed(n, i) {
-        over_divisor(1048576, multiple_cosine(2 * n, 2 * i + 1), n)
+        over_divisor(ONE, multiple_cosine(2 * n, 2 * i + 1), n)
     } else {
         0
     }

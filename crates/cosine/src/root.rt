@@ -1,5 +1,4 @@
 // The whole part of a square root, by its binary digits.
-ghost use mathlib.Core.Path.{_≡_};
 ghost use Prim.Native.Nat.{_+_, _*_, _^_, _≤_, _<_};
 ghost use Rattle.cosine.specs.Root.{RootFrom, IsRoot};
 

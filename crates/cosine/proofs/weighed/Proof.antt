@@ -1,6 +1,6 @@
 -- `weighed` meets its contract: the definition's three tests, one after the other.
 use mathlib.Core.Path.{refl}
-use borrow.Author.Tests.{le-leb, lt-leb, lt-ltb}
+use borrow.Author.Tests.{le-leb, lt-leb}
 use Rattle.finite.proofs.AnyAll.{and-yes, and-no}
 use Rattle.cosine.proofs.weighed.Statement.{statement}
 use Rattle.cosine.proofs.weighed.Tie as tie

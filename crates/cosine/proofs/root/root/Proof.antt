@@ -1,6 +1,6 @@
 -- `root` meets its contract: after k turns the root lies from r to below r + b, and b is the value of the last digit found.
-use mathlib.Core.Path.{_≡_, refl, sym, ap, subst}
-use Prim.Native.Nat.{ℕ, _+_, _-_, _*_, _/_, _^_, _≤_, _<_}
+use mathlib.Core.Path.{_≡_, refl, sym, subst}
+use Prim.Native.Nat.{ℕ, _+_, _-_, _*_, _/_, _^_, _≤_}
 use native.Mathlib.Omega.{arith}
 use Rattle.cosine.specs.Root.{RootFrom}
 use Rattle.cosine.proofs.RootLaws.{digit-value, last-digit}
