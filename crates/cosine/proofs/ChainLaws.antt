@@ -1,7 +1,7 @@
 -- The recurrence of the cosines of multiples: its steps, and the size of what it gives for every m to 32 and every place to 16.
 use mathlib.Core.Path.{_≡_, refl, ap}
 use mathlib.Core.Bool.{true}
-use Prim.Native.Nat.{ℕ, _+_, _-_, _^_, _≤_, _<_, min}
+use Prim.Native.Nat.{ℕ, _+_, _-_, _^_, _≤_, _<_}
 use native.Mathlib.Numerals.{add-one}
 use native.Mathlib.Omega.{arith}
 use lib.Dec.{leb}
@@ -32,11 +32,11 @@ chain-next c i = rw (add-one (i + 1), add-one i)
 -- ---- the same backwards
 pub multiple-near : (m i : ℕ) → i ≤ m - i → chain (cosine m) i ≡ multipleCosine m i
 unfolding multipleCosine
-multiple-near m i l = let e : i ≡ min i (m - i) = omega arith in ap (chain (cosine m)) e
+multiple-near m i l = ap (chain (cosine m)) (omega arith)
 
 pub multiple-far : (m i : ℕ) → m - i < i → chain (cosine m) (m - i) ≡ multipleCosine m i
 unfolding multipleCosine
-multiple-far m i l = let e : m - i ≡ min i (m - i) = omega arith in ap (chain (cosine m)) e
+multiple-far m i l = ap (chain (cosine m)) (omega arith)
 
 -- ---- the size: the largest is 1,048,584, at place 14 for m = 28
 chains-small : allBelow (λ m. allBelow (λ i. leb (natAbs (chain (cosine m) i)) (2 ^ 21)) 18) 33 ≡ true
