@@ -1,5 +1,5 @@
 -- The weights by number of faces and place: where there is one and where not, and where each stands in its table.
-use mathlib.Core.Path.{_≡_, sym, ap₂, _∙_}
+use mathlib.Core.Path.{_≡_, sym, ap, ap₂, _∙_}
 use mathlib.Core.Bool.{Bool, true, false}
 use mathlib.Core.List.{List}
 use Prim.Native.Nat.{ℕ, _+_, _-_, _/_, _%_, _≤_, _<_}
@@ -8,10 +8,10 @@ use lib.IntN.{ℤ, pos}
 use lib.ListN.{getD}
 use borrow.Author.Tests.{leb-true, ltb-true}
 use Rattle.integer.specs.Nearest.{nearest}
-use Rattle.finite.specs.Filled.{listBelow}
+use Rattle.finite.proofs.FoldLaws.{bool-cases}
 use Rattle.finite.proofs.FilledLaws.{listBelow-at}
 use Rattle.finite.proofs.AnyAll.{and-true}
-use Rattle.cosine.specs.Weight.{divisor, edgeNumerator, faceNumerator, weighed, place, edgeWeight, faceWeight, edgeWeights, faceWeights}
+use Rattle.cosine.specs.Weight.{divisor, weighed, weightBy, place, weightsBy, listed}
 
 -- ---- there is a weight, or there is none
 pub record Weighed (n i : ℕ) : Type 0 where
@@ -29,23 +29,16 @@ weighed-is n i t =
 pub weighed-by : {r : Bool} (n i : ℕ) → r ≡ weighed n i → r ≡ true → Weighed n i
 weighed-by n i e t = weighed-is n i (sym e ∙ t)
 
-pub edge-weighed : (n i : ℕ) → weighed n i ≡ true → edgeWeight n i ≡ nearest (edgeNumerator n i) (divisor n)
-unfolding edgeWeight
-edge-weighed n i t = rw t
+module _ (f : ℕ → ℕ → ℤ) (n i : ℕ) where
+  pub weight-is : weighed n i ≡ true → weightBy f n i ≡ nearest (f n i) (divisor n)
+  unfolding weightBy
+  weight-is t = rw t
 
-pub face-weighed : (n i : ℕ) → weighed n i ≡ true → faceWeight n i ≡ nearest (faceNumerator n i) (divisor n)
-unfolding faceWeight
-face-weighed n i t = rw t
+  pub weight-off : weighed n i ≡ false → pos 0 ≡ weightBy f n i
+  unfolding weightBy
+  weight-off t = rw t
 
-pub edge-off : (n i : ℕ) → weighed n i ≡ false → pos 0 ≡ edgeWeight n i
-unfolding edgeWeight
-edge-off n i t = rw t
-
-pub face-off : (n i : ℕ) → weighed n i ≡ false → pos 0 ≡ faceWeight n i
-unfolding faceWeight
-face-off n i t = rw t
-
--- ---- the tables by place
+-- ---- the lists by place
 place-faces : (n i : ℕ) → 3 ≤ n → i < 16 → 3 + place n i / 16 ≡ n
 place-faces n i a l = omega arith
 
@@ -55,18 +48,27 @@ place-rest n i a l = omega arith
 pub place-below : (n i : ℕ) → Weighed n i → place n i < 224
 place-below n i w = omega (arith, w .place, w .most)
 
--- a table of the values f
-at-place : (f : ℕ → ℕ → ℤ) (n i : ℕ) → Weighed n i → getD (listBelow (λ k. f (3 + k / 16) (k % 16)) 224) (place n i) (pos 0) ≡ f n i
+at-place : (f : ℕ → ℕ → ℤ) (n i : ℕ) → Weighed n i → getD (weightsBy f) (place n i) (pos 0) ≡ weightBy f n i
+unfolding weightsBy
 at-place f n i w =
     let l : i < 16 = omega (arith, w .place, w .most) in
-    listBelow-at (λ k. f (3 + k / 16) (k % 16)) 224 (place n i) (pos 0) (place-below n i w)
-    ∙ ap₂ f (place-faces n i (w .least) l) (place-rest n i (w .least) l)
+    listBelow-at (λ k. weightBy f (3 + k / 16) (k % 16)) 224 (place n i) (pos 0) (place-below n i w)
+    ∙ ap₂ (weightBy f) (place-faces n i (w .least) l) (place-rest n i (w .least) l)
 
--- what stands at place k of a list that is all the weights
-pub edge-at : (xs : List ℤ) (n i k : ℕ) → Weighed n i → xs ≡ edgeWeights → k ≡ place n i → getD xs k (pos 0) ≡ edgeWeight n i
-unfolding edgeWeights
-edge-at xs n i k w e h = ap₂ (λ (t : List ℤ) (j : ℕ). getD t j (pos 0)) e h ∙ at-place edgeWeight n i w
+-- what a list has for n and i, as the code reads it
+module _ (xs : List ℤ) (n i : ℕ) where
+  pub listed-at : weighed n i ≡ true → getD xs (place n i) (pos 0) ≡ listed xs n i
+  listed-at t = rw t
 
-pub face-at : (xs : List ℤ) (n i k : ℕ) → Weighed n i → xs ≡ faceWeights → k ≡ place n i → getD xs k (pos 0) ≡ faceWeight n i
-unfolding faceWeights
-face-at xs n i k w e h = ap₂ (λ (t : List ℤ) (j : ℕ). getD t j (pos 0)) e h ∙ at-place faceWeight n i w
+  pub listed-off : weighed n i ≡ false → pos 0 ≡ listed xs n i
+  listed-off t = rw t
+
+-- the list of all weights has each of them
+all-listed : (f : ℕ → ℕ → ℤ) (n i : ℕ) → listed (weightsBy f) n i ≡ weightBy f n i
+all-listed f n i =
+    bool-cases (weighed n i)
+    (λ t. sym (listed-at (weightsBy f) n i t) ∙ at-place f n i (weighed-is n i t))
+    (λ t. sym (listed-off (weightsBy f) n i t) ∙ weight-off f n i t)
+
+pub listed-is : (f : ℕ → ℕ → ℤ) (n i : ℕ) (xs : List ℤ) (r : ℤ) → xs ≡ weightsBy f → r ≡ listed xs n i → r ≡ weightBy f n i
+listed-is f n i xs r e h = h ∙ ap (λ (t : List ℤ). listed t n i) e ∙ all-listed f n i

@@ -11,16 +11,19 @@
 --   halfAngles i         face i lies so many half angles on from edge 0, where an angle is that between two edges
 --   faceNumerator n i    2^20 C(2n, 2i + 1)
 --   weighed n i          there is such a weight: n is from 3 to 16, and i below n
---   edgeWeight n i       A(n, i) (rule D4): the quotient, rounded once; 0 where there is no such weight (rule D5)
---   faceWeight n i       B(n, i), likewise
+--   weightBy f n i       the weight with that numerator, f n i: the quotient, rounded once; 0 where there is no such weight (rules D4, D5)
+--   edgeWeight n i       A(n, i), with edgeNumerator
+--   faceWeight n i       B(n, i), with faceNumerator
 --   place n i            where the weight of n and i stands in its list: there are 16 places for each n
---   edgeWeights, faceWeights   all the weights, each at its place, and 0 where there is none (rule D6)
+--   weightsBy f          all the weights with that numerator, each at its place, and 0 where there is none (rule D6)
+--   listed xs n i        what such a list has for n and i, 0 where there is no such weight
 --   allWeights           the two lists as the code has them
 use mathlib.Core.Bool.{Bool, cond, _&&_}
 use mathlib.Core.List.{List}
 use Prim.Native.Nat.{ℕ, zero, suc, _+_, _-_, _*_, _/_, _%_, _^_, min}
 use lib.Dec.{ltb, leb}
 use lib.IntN.{ℤ, pos, natAbs, _+ℤ_, _-ℤ_, _*ℤ_}
+use lib.ListN.{getD}
 use Rattle.integer.specs.Nearest.{nearest}
 use Rattle.finite.specs.Filled.{listBelow}
 use Rattle.cosine.specs.declared.model.Weights.{Weights}
@@ -59,20 +62,23 @@ faceNumerator n i = pos scale *ℤ multipleCosine (2 * n) (halfAngles i)
 abbrev pub weighed : ℕ → ℕ → Bool
 weighed n i = leb 3 n && (leb n 16 && ltb i n)
 
-unfoldable pub edgeWeight : ℕ → ℕ → ℤ
-edgeWeight n i = cond (weighed n i) (nearest (edgeNumerator n i) (divisor n)) (pos 0)
+unfoldable pub weightBy : (ℕ → ℕ → ℤ) → ℕ → ℕ → ℤ
+weightBy numerator n i = cond (weighed n i) (nearest (numerator n i) (divisor n)) (pos 0)
 
-unfoldable pub faceWeight : ℕ → ℕ → ℤ
-faceWeight n i = cond (weighed n i) (nearest (faceNumerator n i) (divisor n)) (pos 0)
+abbrev pub edgeWeight : ℕ → ℕ → ℤ
+edgeWeight n i = weightBy edgeNumerator n i
+
+abbrev pub faceWeight : ℕ → ℕ → ℤ
+faceWeight n i = weightBy faceNumerator n i
 
 abbrev pub place : ℕ → ℕ → ℕ
 place n i = 16 * (n - 3) + i
 
-unfoldable pub edgeWeights : List ℤ
-edgeWeights = listBelow (λ k. edgeWeight (3 + k / 16) (k % 16)) 224
+unfoldable pub weightsBy : (ℕ → ℕ → ℤ) → List ℤ
+weightsBy numerator = listBelow (λ k. weightBy numerator (3 + k / 16) (k % 16)) 224
 
-unfoldable pub faceWeights : List ℤ
-faceWeights = listBelow (λ k. faceWeight (3 + k / 16) (k % 16)) 224
+abbrev pub listed : List ℤ → ℕ → ℕ → ℤ
+listed weights n i = cond (weighed n i) (getD weights (place n i) (pos 0)) (pos 0)
 
 abbrev pub allWeights : Weights
-allWeights = record { edge = edgeWeights; face = faceWeights }
+allWeights = record { edge = weightsBy edgeNumerator; face = weightsBy faceNumerator }

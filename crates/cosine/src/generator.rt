@@ -8,7 +8,7 @@ ghost use lib.IntN.{pos, natAbs, _+ℤ_, _-ℤ_, _*ℤ_};
 ghost use lib.ListN.{length};
 ghost use Rattle.integer.specs.Nearest.{nearest};
 ghost use Rattle.cosine.specs.Cosine.{scale, cosine as cosineOf};
-ghost use Rattle.cosine.specs.Weight.{chain, multipleCosine, halfCosine, hypotenuse as hypotenuseOf, divisor, edgeWeight, faceWeight, edgeWeights, faceWeights};
+ghost use Rattle.cosine.specs.Weight.{chain, multipleCosine, halfCosine, hypotenuse as hypotenuseOf, divisor, edgeNumerator, faceNumerator, edgeWeight, faceWeight, weightsBy};
 
 // The cosine 1 as an entry of the table, 2^20.
 const ONE: i64 = 1_048_576;
@@ -110,7 +110,7 @@ fn face_entry(n: usize, i: usize) -> i32
 // Writes both lists, weight by weight.
 pub(crate) fn fill(edge: &mut [i32], face: &mut [i32])
     requires { ⌜ (length (now edge) ≡ 224) × (length (now face) ≡ 224) ⌝ }
-    ensures { λ _. ⌜ (now (edge .exit) ≡ edgeWeights) × (now (face .exit) ≡ faceWeights) ⌝ }
+    ensures { λ _. ⌜ (now (edge .exit) ≡ weightsBy edgeNumerator) × (now (face .exit) ≡ weightsBy faceNumerator) ⌝ }
 {
     for k in 0..224 {
         let n = 3 + k / 16;

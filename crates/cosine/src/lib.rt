@@ -13,9 +13,10 @@ use crate::generator::fill;
 use crate::model::Weights;
 ghost use mathlib.Core.Path.{_≡_};
 ghost use mathlib.Core.Bool.{true};
+ghost use lib.ListN.{length};
 ghost use Prim.Native.Nat.{_<_};
 ghost use Rattle.cosine.specs.Cosine.{Entry};
-ghost use Rattle.cosine.specs.Weight.{weighed as weighedOf, place as placeOf, edgeWeight, faceWeight, allWeights};
+ghost use Rattle.cosine.specs.Weight.{weighed as weighedOf, place as placeOf, listed, edgeWeight, faceWeight, allWeights};
 
 // The whole number that is nearest to 2^20 times the cosine of 2 pi / m, m from 3 to 32.
 // Returns: that number, or 0 for another m. Refuses: nothing.
@@ -46,16 +47,20 @@ fn place(n: usize, i: usize) -> usize
     16 * (n - 3) + i
 }
 
+// The weight of n and i in a table of all weights, 0 where there is none.
+fn entry(table: &[i32], n: usize, i: usize) -> i32
+    requires { ⌜ length (now table) ≡ 224 ⌝ }
+    ensures { λ r. ⌜ r ≡ listed (now (table .entry)) n i ⌝ }
+{
+    if weighed(n, i) { table[place(n, i)] } else { 0 }
+}
+
 // The weight, in the tangent along an edge of a vertex of n faces, of the far end of the edge that is i edges on.
 // Returns: 2^20 times the weight, for n from 3 to 16 and i below n, or 0 for other numbers. Refuses: nothing.
 pub fn edge_weight(n: usize, i: usize) -> i32
     ensures { λ r. ⌜ r ≡ edgeWeight n i ⌝ }
 {
-    if weighed(n, i) {
-        EDGE_WEIGHTS[place(n, i)]
-    } else {
-        0
-    }
+    entry(&EDGE_WEIGHTS, n, i)
 }
 
 // The weight of the vertex across the face between the edges that are i and i + 1 edges on.
@@ -63,11 +68,7 @@ pub fn edge_weight(n: usize, i: usize) -> i32
 pub fn face_weight(n: usize, i: usize) -> i32
     ensures { λ r. ⌜ r ≡ faceWeight n i ⌝ }
 {
-    if weighed(n, i) {
-        FACE_WEIGHTS[place(n, i)]
-    } else {
-        0
-    }
+    entry(&FACE_WEIGHTS, n, i)
 }
 
 // All weights, from the constant tables.

@@ -1,40 +1,28 @@
--- `face_weight` meets its contract: the constants are the definition's numbers, all of them computed, each at its place.
-use mathlib.Core.Path.{refl, sym, _∙_}
-use native.Mathlib.Omega.{arith}
+-- `face_weight` meets its contract: the constants are the definition's numbers, all of them computed.
+use mathlib.Core.Path.{refl}
+use borrow.Author.Needs.{needs}
 use mir.Syntax.{w32}
-use mir.Facts.{toZ-ofZ}
 use Rattle.integer.specs.Nearest.{halfEven, nearestℕ, nearest}
+use Rattle.integer.proofs.Laws.{read-back}
 use Rattle.finite.specs.Filled.{listBelow}
 use Rattle.cosine.specs.Cosine.{cosines, cosine}
 use Rattle.cosine.specs.Root.{root}
-use Rattle.cosine.specs.Weight.{chain, multipleCosine, hypotenuse, faceWeight, faceWeights}
-use Rattle.cosine.proofs.WeightLaws.{weighed-by, face-off, face-at}
+use Rattle.cosine.specs.Weight.{chain, multipleCosine, hypotenuse, faceNumerator, weightBy, weightsBy}
+use Rattle.cosine.proofs.WeightLaws.{listed-is}
 use Rattle.cosine.proofs.face_weight.Statement.{statement}
 use Rattle.cosine.proofs.face_weight.Tie as tie
 
-weighed-requires : tie.Need-weighed-requires
-weighed-requires c κs = tt
+slice-aggregate-entry : tie.Need-slice-aggregate-entry
+slice-aggregate-entry c = search needs
 
-place-requires : tie.Need-place-requires
-place-requires c κs = sym (c .before .weighed .ensures) ∙ c .if1 .taken
-
-mul-result : tie.Need-mul-result
-mul-result c = omega (arith, c .place .ensures .1)
-
-array-copy-out-result : tie.Need-array-copy-out-result
-array-copy-out-result c = c .place .ensures .1
+entry-requires : tie.Need-entry-requires
+entry-requires c κs = search needs
 
 returns : tie.Need-returns
-unfolding halfEven nearestℕ nearest listBelow cosines cosine root chain multipleCosine hypotenuse faceWeight faceWeights
+unfolding halfEven nearestℕ nearest listBelow cosines cosine root chain multipleCosine hypotenuse weightBy weightsBy
 returns c =
-    let p = c .before in
-    let t = p .before in
-    toZ-ofZ {w = w32} (record { sfits = c .result .given })
-    ∙ face-at _ _ _ _ (weighed-by _ _ (t .before .weighed .ensures) (t .if1 .taken)) refl (p .place .ensures .0)
-
-returns-2 : tie.Need-returns-2
-returns-2 c = face-off _ _ (sym (c .before .weighed .ensures) ∙ c .if1 .left)
+    let s = c .before .before in
+    read-back w32 (c .entry .ok) (listed-is faceNumerator (s .args .n) (s .args .i) _ _ refl (c .entry .ensures))
 
 pub face-weight-spec : {M : Type 1} → statement M
-face-weight-spec =
-    tie.close (tie.spec weighed-requires place-requires mul-result array-copy-out-result returns returns-2)
+face-weight-spec = tie.close (tie.spec slice-aggregate-entry entry-requires returns)

@@ -7,8 +7,8 @@ use mir.Syntax.{w32, w64}
 use mir.Val.{toZ, ofZ}
 use Rattle.integer.specs.Nearest.{nearest}
 use Rattle.integer.proofs.Laws.{read-back}
-use Rattle.cosine.specs.Weight.{halfCosine, multipleCosine, hypotenuse, divisor}
-use Rattle.cosine.proofs.WeightLaws.{Weighed, weighed-by, edge-weighed, edge-off}
+use Rattle.cosine.specs.Weight.{halfCosine, multipleCosine, hypotenuse, divisor, edgeNumerator}
+use Rattle.cosine.proofs.WeightLaws.{Weighed, weighed-by, weight-is, weight-off}
 use Rattle.cosine.proofs.SizeLaws.{sum-size, multiple-size}
 use Rattle.cosine.proofs.generator.edge_entry.Statement.{statement}
 use Rattle.cosine.proofs.generator.edge_entry.Tie as tie
@@ -62,10 +62,10 @@ returns c =
     read-back w32 (c .over-divisor .ok)
     (c .over-divisor .ensures
     ∙ ap₂ (λ (x y : ℤ). nearest (x *ℤ y) (divisor (n t))) (factor-is m) (value-is m)
-    ∙ sym (edge-weighed (n t) (i t) (sym (t .before .weighed .ensures) ∙ t .if1 .taken)))
+    ∙ sym (weight-is edgeNumerator (n t) (i t) (sym (t .before .weighed .ensures) ∙ t .if1 .taken)))
 
 returns-2 : tie.Need-returns-2
-returns-2 c = edge-off _ _ (sym (c .before .weighed .ensures) ∙ c .if1 .left)
+returns-2 c = weight-off edgeNumerator _ _ (sym (c .before .weighed .ensures) ∙ c .if1 .left)
 
 pub edge-entry-spec : {M : Type 1} → statement M
 edge-entry-spec =

@@ -8,8 +8,8 @@ use mir.Val.{toZ, ofZ}
 use Rattle.integer.specs.Nearest.{nearest}
 use Rattle.integer.proofs.Laws.{read-back}
 use Rattle.cosine.specs.Cosine.{scale}
-use Rattle.cosine.specs.Weight.{multipleCosine, divisor, halfAngles}
-use Rattle.cosine.proofs.WeightLaws.{Weighed, weighed-by, face-weighed, face-off}
+use Rattle.cosine.specs.Weight.{multipleCosine, divisor, halfAngles, faceNumerator}
+use Rattle.cosine.proofs.WeightLaws.{Weighed, weighed-by, weight-is, weight-off}
 use Rattle.cosine.proofs.SizeLaws.{multiple-size}
 use Rattle.cosine.proofs.generator.face_entry.Statement.{statement}
 use Rattle.cosine.proofs.generator.face_entry.Tie as tie
@@ -62,10 +62,10 @@ returns c =
     read-back w32 (c .over-divisor .ok)
     (c .over-divisor .ensures
     ∙ ap (λ (z : ℤ). nearest (pos scale *ℤ z) (divisor (n t))) (value-is (c .before))
-    ∙ sym (face-weighed (n t) (i t) (sym (t .before .weighed .ensures) ∙ t .if1 .taken)))
+    ∙ sym (weight-is faceNumerator (n t) (i t) (sym (t .before .weighed .ensures) ∙ t .if1 .taken)))
 
 returns-2 : tie.Need-returns-2
-returns-2 c = face-off _ _ (sym (c .before .weighed .ensures) ∙ c .if1 .left)
+returns-2 c = weight-off faceNumerator _ _ (sym (c .before .weighed .ensures) ∙ c .if1 .left)
 
 pub face-entry-spec : {M : Type 1} → statement M
 face-entry-spec =

@@ -8,16 +8,19 @@ use mir.Syntax.{w32}
 use Rattle.integer.proofs.Laws.{read-back}
 use Rattle.finite.specs.Filled.{filled}
 use Rattle.finite.proofs.FilledLaws.{filled-start, filled-more, filled-all, filled-whole}
-use Rattle.cosine.specs.Weight.{edgeWeight, faceWeight, edgeWeights, faceWeights}
+use Rattle.cosine.specs.Weight.{edgeNumerator, faceNumerator, weightBy, weightsBy}
 use Rattle.cosine.proofs.generator.fill.Statement.{statement}
 use Rattle.cosine.proofs.generator.fill.Tie as tie
 
--- what belongs at place k
+-- what belongs at place k, by the numerator
+abbrev weightAt : (ℕ → ℕ → ℤ) → ℕ → ℤ
+weightAt f k = weightBy f (3 + k / 16) (k % 16)
+
 abbrev edgeAt : ℕ → ℤ
-edgeAt k = edgeWeight (3 + k / 16) (k % 16)
+edgeAt = weightAt edgeNumerator
 
 abbrev faceAt : ℕ → ℤ
-faceAt k = faceWeight (3 + k / 16) (k % 16)
+faceAt = weightAt faceNumerator
 
 abbrev Inv-loop : tie.InvT-loop
 Inv-loop edge₀ face₀ k₀ edge face k =
@@ -81,7 +84,7 @@ same-length-2 : tie.Need-same-length-2 Inv-loop μ-loop
 same-length-2 c = c .before .loop .inv .2
 
 returns : tie.Need-returns Inv-loop μ-loop
-unfolding edgeWeights faceWeights
+unfolding weightsBy
 returns c =
     let l = c .before .loop in
     let s = c .before .before in (
