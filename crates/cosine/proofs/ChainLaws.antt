@@ -1,4 +1,4 @@
--- The recurrence of the cosines of multiples: its steps, and the size of what it gives for every m to 32 and every place to 16.
+-- The recurrence of the cosines of multiples: its steps, and the size of what it gives for every m to 32 and every place to 17.
 use mathlib.Core.Path.{_≡_, refl, ap}
 use mathlib.Core.Bool.{true}
 use Prim.Native.Nat.{ℕ, _+_, _-_, _^_, _≤_, _<_}
