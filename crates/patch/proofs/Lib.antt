@@ -1,7 +1,8 @@
--- The laws of the control points: the sums of neighbours, what the points keep, their size, and the list that is written.
+-- The laws of the control points: the sums of neighbours, what the points keep, a face begun later, their size, and the list that is written.
 pub mod NeighbourLaws
 pub mod Related
 pub mod PointLaws
+pub mod TurnedLaws
 pub mod WrittenLaws
 pub mod MaskLaws
 pub mod SumLaws

@@ -3,17 +3,16 @@
 --
 --   sampleFrom S n c p   the sample at place p of the face of corner c, where c counts as the face's first corner
 use mathlib.Core.Path.{_≡_, refl, sym, ap, ap₂, _∙_}
-use Prim.Native.Nat.{ℕ, zero, suc, _+_, _-_, _*_, _/_, _%_, _≤_, _<_}
+use Prim.Native.Nat.{ℕ, zero, suc, _-_, _≤_, _<_}
 use native.Mathlib.Omega.{arith}
 use lib.IntN.{ℤ}
-use Rattle.finite.specs.Filled.{listBelow}
-use Rattle.finite.proofs.FilledLaws.{agree}
 use Rattle.corner.specs.Corner.{turn, next}
-use Rattle.mesh.proofs.CornerLaws.{turn-none, turn-next, turn-mod}
+use Rattle.mesh.proofs.CornerLaws.{turn-none, turn-next}
 use Rattle.sample.specs.Bernstein.{rounded}
 use Rattle.sample.proofs.SampleLaws.{rounded-ext, rounded-turn}
-use Rattle.patch.specs.Point.{View, Kind, point}
-use Rattle.patch.specs.Patch.{owner, kind, patchPoint, units, controlValue}
+use Rattle.patch.specs.Point.{View}
+use Rattle.patch.specs.Patch.{units, controlValue}
+use Rattle.patch.proofs.TurnedLaws.{patch-turned}
 use Rattle.surface.specs.Renumbering.{Place, place, matching, onSide}
 
 abbrev pub sampleFrom : View → ℕ → ℕ → Place → ℤ
@@ -42,24 +41,6 @@ side-matches n (suc (suc (suc zero))) t h l = ap₂ place (omega arith) (omega a
 side-matches n (suc (suc (suc (suc s)))) t h l = absurd (omega arith)
 
 -- ---- a face begun one corner later
--- its point m is the point `turned m` of the face as it was
-abbrev turned : ℕ → ℕ
-turned m = 3 - m / 4 + 4 * (m % 4)
-
-owner-turned : (m : ℕ) → m < 16 → suc (owner m) % 4 ≡ owner (turned m)
-unfolding owner listBelow
-owner-turned m l = agree (λ m. suc (owner m) % 4) (λ m. owner (turned m)) 16 refl m l
-
-kind-turned : (m : ℕ) → m < 16 → kind m ≡ kind (turned m)
-unfolding kind listBelow
-kind-turned m l = agree kind (λ m. kind (turned m)) 16 refl m l
-
-patch-turned : (S : View) (c m : ℕ) → m < 16 → patchPoint S (next c) m ≡ patchPoint S c (turned m)
-unfolding patchPoint
-patch-turned S c m l =
-    ap (λ (d : ℕ). point S d (kind m)) (turn-next (owner m) c ∙ sym (turn-mod (suc (owner m)) c))
-    ∙ ap₂ (λ (i : ℕ) (k : Kind). point S (turn i c) k) (owner-turned m l) (kind-turned m l)
-
 sample-turned : (S : View) (n c a b : ℕ) → a ≤ n → sampleFrom S n (next c) (place b (n - a)) ≡ sampleFrom S n c (place a b)
 sample-turned S n c a b h =
     rounded-ext n b (n - a) (λ m l. ap units (patch-turned S c m l)) ∙ rounded-turn n a b (controlValue S c) h

@@ -19,7 +19,7 @@ use Rattle.surface.specs.Renumbering.{place, onSide}
 use Rattle.surface.proofs.FaceSamples.{sampleFrom, sample-side}
 
 -- the edge point on a half-edge that is not sharp near its start, and near its end
-along-inner : (S : View) (c : ℕ) → sharp (S .shape) c ≡ false → alongPoint S c ≡ edgePoint S c (twin (S .shape .at) (S .shape .n) c)
+pub along-inner : (S : View) (c : ℕ) → sharp (S .shape) c ≡ false → alongPoint S c ≡ edgePoint S c (twin (S .shape .at) (S .shape .n) c)
 unfolding alongPoint
 along-inner S c e = rw e
 
@@ -42,11 +42,11 @@ module _ (S : View) (k : Corners (S .shape .n)) (simple : Simple (S .shape .at) 
   back : twin (S .shape .at) (S .shape .n) d ≡ c
   back = twin-twin (S .shape .at) k simple c l twin-inside
 
-  inner-twin : sharp (S .shape) d ≡ false
+  pub inner-twin : sharp (S .shape) d ≡ false
   unfolding sharp boundary
   inner-twin = ne-eqb (twin (S .shape .at) (S .shape .n) d) noTwin (λ q. not-none k c l (sym back ∙ q))
 
-  twin-points : (i : ℕ) → i < 4 → patchPoint S d i ≡ patchPoint S c (3 - i)
+  pub twin-points : (i : ℕ) → i < 4 → patchPoint S d i ≡ patchPoint S c (3 - i)
   unfolding patchPoint owner kind point
   twin-points zero b = ap (cornerPoint S) (ap (S .shape .at) (turn-none d) ∙ twin-ends (S .shape .at) (S .shape .n) c k twin-inside .0)
   twin-points (suc zero) b = rw turn-none (along-inner S d inner-twin) ∙ ap (edgePoint S d) back ∙ sym (before-inner S c inner)
