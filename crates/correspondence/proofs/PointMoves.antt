@@ -82,7 +82,7 @@ module _ {z : Sense} {M M′ : IndexedMesh} (a : WellFormed M) (r : Alike z M M�
   sharp-entering c l = ap (sharp G′) (entering-moves s i c l) ∙ sharp-moves (entering z c) (entering-below z (s .whole) c l)
 
   -- a half-edge that is not sharp has a twin, which is the same
-  twin-same : (c : ℕ) → c < n → sharp G c ≡ false → (twin (at M) n c < n) × (twin (at M′) n (σ c) ≡ σ (twin (at M) n c))
+  pub twin-same : (c : ℕ) → c < n → sharp G c ≡ false → (twin (at M) n c < n) × (twin (at M′) n (σ c) ≡ σ (twin (at M) n c))
   unfolding sharp boundary
   twin-same c l e = ⊎-elim (λ w. w) (λ w. absurd (eqb-false (twin (at M) n c) noTwin e (w .0))) (twin-moves s i c l)
 

@@ -4,4 +4,5 @@ pub mod UniqueLaws
 pub mod RootLaws
 pub mod ChainLaws
 pub mod WeightLaws
+pub mod WeightSize
 pub mod SizeLaws

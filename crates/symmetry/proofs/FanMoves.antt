@@ -21,7 +21,7 @@ use Rattle.symmetry.proofs.Iso.{Sound, Iso, Moved, moved-same, entering
 use Rattle.symmetry.proofs.VertexMoves.{gather-moves, valence-moves}
 use Rattle.symmetry.proofs.FanBack.{fan-back}
 
-abbrev step : Sense → (ℕ → ℕ) → ℕ → ℕ → ℕ
+abbrev pub step : Sense → (ℕ → ℕ) → ℕ → ℕ → ℕ
 step same at n = around (twin at n) n
 step reversed at n = backAround (twin at n) n
 
@@ -70,7 +70,7 @@ module _ {z : Sense} {n v : ℕ} {at at′ : ℕ → ℕ} (s : Sound at n v) (i 
       (λ w. inr (rw (w .0) (step-out at (s .whole) z), rw (w .1) (step-out at′ (s .whole) same)))
       m
 
-  iterate-moves : (k c : ℕ) → c < n → Moved φ n (iterate (step z at n) k c) (iterate step′ k (φ c))
+  pub iterate-moves : (k c : ℕ) → c < n → Moved φ n (iterate (step z at n) k c) (iterate step′ k (φ c))
   unfolding iterate
   iterate-moves zero c l = inl (l, refl)
   iterate-moves (suc k) c l = step-moves (iterate (step z at n) k c) (iterate step′ k (φ c)) (iterate-moves k c l)
