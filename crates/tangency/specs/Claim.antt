@@ -1,0 +1,73 @@
+-- The tangents of the two faces of an edge, and of a renumbered mesh: one claim about the numbers that the tangent call handed back.
+--
+--   number q s         the place among the 24 of the vector of kind q of side s
+--   along r q s k      coordinate k of that vector in the list r of a face, turned to run along the side, or from it into the face
+--   cosineOf M c       the cosine of the vertex of corner c (rule D1)
+--   edgeTerm M r c k   the cosine term that both faces of half-edge c have near its start, times 3 * 2^20, from the list r of the face of c
+--   Across M c r r'    r and r' are the lists of the faces of half-edge c and of its twin: near the start of c the two vectors into the faces sum,
+--                      in each coordinate, to within 7 units of twice the cosine term, all times 3 * 2^20 (rule D10)
+--   Written r          the call wrote the tangents
+--   Edge M c g h       half-edge c is of face g and its twin of face h
+--   TangentClaim ..    what the answers w for the faces g and h of M, and for the face g' of M', show of each other: d and x are the lists lent
+--                      for g and g', and d', e' and x' the three lists afterwards
+use mathlib.Core.Path.{_≡_}
+use mathlib.Core.Bool.{false}
+use mathlib.Core.List.{List, [], _∷_}
+use Prim.Native.Nat.{ℕ, _+_, _*_, _/_, _%_, _≤_, _<_}
+use lib.IntN.{ℤ, pos, natAbs, _+ℤ_, _-ℤ_, _*ℤ_}
+use lib.ListN.{length, getD}
+use Rattle.finite.specs.Table.{result, outcome}
+use Rattle.finite.specs.declared.model.Outcome.{Outcome}
+use Rattle.corner.specs.Corner.{next}
+use Rattle.mesh.specs.HalfEdge.{twin, boundary}
+use Rattle.mesh.specs.Fan.{valence}
+use Rattle.mesh.specs.IndexedMesh.{IndexedMesh, corners, at}
+use Rattle.cosine.specs.Cosine.{cosine}
+use Rattle.tangent.specs.Vector.{correctedDivisor, firstTerm}
+use Rattle.tangent.specs.Tangent.{Kind, start, middle, end, inner, startIn, endIn, rowOf, signed}
+use Rattle.tangent.specs.Answer.{faceOpen}
+use Rattle.surface.specs.Renumbering.{Renumbering}
+use Rattle.tangency.specs.declared.model.Witness.{Witness}
+
+unfoldable pub number : Kind → ℕ → ℕ
+number start s = getD (0 ∷ 15 ∷ 11 ∷ 20 ∷ []) s 0
+number middle s = getD (1 ∷ 19 ∷ 10 ∷ 16 ∷ []) s 0
+number end s = getD (2 ∷ 23 ∷ 9 ∷ 12 ∷ []) s 0
+number inner s = getD (4 ∷ 18 ∷ 7 ∷ 17 ∷ []) s 0
+number startIn s = getD (13 ∷ 5 ∷ 22 ∷ 6 ∷ []) s 0
+number endIn s = getD (14 ∷ 8 ∷ 21 ∷ 3 ∷ []) s 0
+
+abbrev pub along : List ℤ → Kind → ℕ → ℕ → ℤ
+along r q s k = signed (rowOf (number q s) .reversed) (getD r (3 * number q s + k) (pos 0))
+
+abbrev pub cosineOf : IndexedMesh → ℕ → ℤ
+cosineOf M c = cosine (valence (at M) (corners M) (at M c))
+
+abbrev pub edgeTerm : IndexedMesh → List ℤ → ℕ → ℕ → ℤ
+edgeTerm M r c k = firstTerm (cosineOf M c) (cosineOf M (next c)) (along r start (c % 4) k) (along r middle (c % 4) k)
+
+pub record Across (M : IndexedMesh) (c : ℕ) (r r' : List ℤ) : Type 0 where
+  pub sum : (k : ℕ) → k < 3
+      → natAbs (pos correctedDivisor *ℤ (along r startIn (c % 4) k +ℤ along r' endIn (twin (at M) (corners M) c % 4) k) -ℤ pos 2 *ℤ edgeTerm M r c k)
+      ≤ 7 * correctedDivisor
+
+abbrev pub Written : Outcome → Type 0
+Written r = outcome r ≡ result tt
+
+pub record Edge (M : IndexedMesh) (c g h : ℕ) : Type 0 where
+  pub below : c < corners M
+  pub inner : boundary (at M) (corners M) c ≡ false
+  pub face : g ≡ c / 4
+  pub other : h ≡ twin (at M) (corners M) c / 4
+
+pub record TangentClaim (M M' : IndexedMesh) (g h g' : ℕ) (d x : List ℤ) (w : Witness) (d' e' x' : List ℤ) : Type 0 where
+  -- a face with no corner at a boundary vertex gets its tangents, on a list of 72 places (rule D9)
+  pub given : g < M .faces → faceOpen M g ≡ false → length d ≡ 72 → Written (w .first)
+  -- across each edge of which both faces have tangents, near its start and near its end (rule D10)
+  pub near-start : (c : ℕ) → Edge M c g h → Written (w .first) → Written (w .other) → Across M c d' e'
+  pub near-end : (c : ℕ) → Edge M c g h → Written (w .first) → Written (w .other) → Across M (twin (at M) (corners M) c) e' d'
+  -- a renumbered face gets its tangents as well (rule D11),
+  pub taken : (r : Renumbering M M') → g < M .faces → g' ≡ r .faces .to g → Written (w .first) → length x ≡ 72 → Written (w .second)
+  -- and they are those of the face, each on the side that it was on (rule D11)
+  pub renumbered : (r : Renumbering M M') → g < M .faces → g' ≡ r .faces .to g → Written (w .first) → length x ≡ 72
+      → (q : Kind) (s k : ℕ) → s < 4 → k < 3 → along x' q s k ≡ along d' q ((r .start g + s) % 4) k

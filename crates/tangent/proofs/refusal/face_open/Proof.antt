@@ -1,0 +1,103 @@
+-- `face_open` meets its contract: no corner passed is at a boundary vertex.
+use mathlib.Core.List.{List}
+use mathlib.Core.Path.{_≡_, ap, _∙_}
+use mathlib.Core.Bool.{Bool, true, false}
+use Prim.Native.Nat.{ℕ, _+_, _*_, _-_, _≤_, _<_}
+use native.Mathlib.Omega.{arith}
+use lib.ListN.{length}
+use Rattle.finite.specs.Fold.{anyBelow}
+use Rattle.finite.proofs.AnyAll.{any-start, any-more, any-found, any-not}
+use Rattle.mesh.specs.Fan.{onBoundary}
+use Rattle.mesh.specs.Tables.{vertexOf}
+use Rattle.tangent.proofs.refusal.face_open.Statement.{statement}
+use Rattle.tangent.proofs.refusal.face_open.Tie as tie
+
+-- corner s of face g is at a boundary vertex
+abbrev corner-open : List ℕ → ℕ → ℕ → Bool
+corner-open faces g s = onBoundary (vertexOf faces) (length faces) (vertexOf faces (4 * g + s))
+
+abbrev Inv-loop : tie.InvT-loop
+Inv-loop faces twins g s₀ s = (s ≤ 4) × (anyBelow (corner-open faces g) s ≡ false)
+
+abbrev μ-loop : tie.MeasureT-loop
+μ-loop faces twins g s₀ s = 4 - s
+
+-- ---- corner s has been asked
+module _ (c : tie.After-on-boundary Inv-loop μ-loop) where
+  abbrev passing : tie.In-loop Inv-loop μ-loop
+  passing = c .before .before .before
+
+  abbrev head : tie.At-loop Inv-loop μ-loop
+  head = passing .before
+
+  abbrev start : tie.Start Inv-loop μ-loop
+  start = head .before .before .before
+
+  abbrev asked : ℕ → Bool
+  asked = corner-open (start .args .faces .now) (start .args .g)
+
+  told : c .on-boundary .result ≡ asked (head .loop .s)
+  told =
+      c .on-boundary .ensures
+      ∙ ap (onBoundary (vertexOf (start .args .faces .now)) (length (start .args .faces .now))) (c .before .wide .ensures)
+
+-- ---- the answers, in the order of the code
+loop-holds : tie.Need-loop-holds Inv-loop μ-loop
+loop-holds c = let s = c .before .before in (omega arith, any-start (corner-open (s .args .faces .now) (s .args .g)))
+
+mul-wide : tie.Need-mul-wide Inv-loop μ-loop
+mul-wide c = omega (arith, c .before .before .before .before .pre .1)
+
+add-wide : tie.Need-add-wide Inv-loop μ-loop
+add-wide c = omega (arith, c .before .before .before .before .pre .1)
+
+mul-wide-2 : tie.Need-mul-wide-2 Inv-loop μ-loop
+mul-wide-2 c = omega (arith, c .before .before .before .before .pre .1)
+
+shared-slice-read-wide : tie.Need-shared-slice-read-wide Inv-loop μ-loop
+shared-slice-read-wide c = omega (arith, c .before .before .before .before .before .pre .1)
+
+wide-requires : tie.Need-wide-requires Inv-loop μ-loop
+wide-requires c κs = tt
+
+on-boundary-requires : tie.Need-on-boundary-requires Inv-loop μ-loop
+on-boundary-requires c κs = c .before .before .before .before .before .before .pre .0
+
+returns : tie.Need-returns Inv-loop μ-loop
+returns c = let d = c .before in any-found (asked d) 4 (head d .loop .s) _ (passing d .loop-test .taken) (told d) (c .if1 .taken)
+
+add-s : tie.Need-add-s Inv-loop μ-loop
+add-s c = omega arith
+
+loop-less : tie.Need-loop-less Inv-loop μ-loop
+loop-less c = omega (arith, passing (c .before) .loop-test .taken)
+
+loop-again : tie.Need-loop-again Inv-loop μ-loop
+loop-again c =
+    let d = c .before in
+    (omega (arith, passing d .loop-test .taken), any-more (asked d) (head d .loop .s) _ (head d .loop .inv .1) (told d) (c .if1 .left))
+
+returns-2 : tie.Need-returns-2 Inv-loop μ-loop
+returns-2 c =
+    let l = c .before .loop in
+    let s = c .before .before .before .before in
+    any-not (corner-open (s .args .faces .now) (s .args .g)) 4 (l .s) (l .inv .1) (c .loop-test .left)
+
+pub face-open-spec : {M : Type 1} → statement M
+face-open-spec =
+    tie.close
+    (tie.spec
+    Inv-loop
+    μ-loop
+    loop-holds
+    mul-wide
+    add-wide
+    mul-wide-2
+    shared-slice-read-wide
+    wide-requires
+    on-boundary-requires
+    returns
+    add-s
+    loop-less
+    loop-again
+    returns-2)

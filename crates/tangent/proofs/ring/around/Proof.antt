@@ -1,0 +1,28 @@
+-- `around` meets its contract: it reads the twin of the half-edge before e.
+use mathlib.Core.Path.{ap, _∙_}
+use Prim.Native.Nat.{ℕ}
+use borrow.Author.Needs.{needs}
+use Rattle.mesh.specs.Tables.{twinOf}
+use Rattle.tangent.proofs.ring.around.Statement.{statement}
+use Rattle.tangent.proofs.ring.around.Tie as tie
+
+prev-corner-requires : tie.Need-prev-corner-requires
+prev-corner-requires c κs = tt
+
+mul-wide : tie.Need-mul-wide
+mul-wide c = search needs
+
+shared-slice-read-wide : tie.Need-shared-slice-read-wide
+shared-slice-read-wide c = search needs
+
+wide-requires : tie.Need-wide-requires
+wide-requires c κs = tt
+
+returns : tie.Need-returns
+returns c =
+    let p = c .before .before in
+    c .wide .ensures ∙ ap (twinOf (p .before .before .args .twins .now)) (p .prev-corner .ensures)
+
+pub around-spec : {M : Type 1} → statement M
+around-spec =
+    tie.close (tie.spec prev-corner-requires mul-wide shared-slice-read-wide wide-requires returns)
