@@ -31,14 +31,14 @@ pub record Example : Type 0 where
   pub computed : List ℤ
   pub stated : List ℤ
 
-abbrev example : List ℤ → List ℤ → Example
+abbrev pub example : List ℤ → List ℤ → Example
 example computed stated = record { computed = computed; stated = stated }
 
-abbrev computedAll : List Example → List (List ℤ)
+abbrev pub computedAll : List Example → List (List ℤ)
 computedAll [] = []
 computedAll (e ∷ es) = e .computed ∷ computedAll es
 
-abbrev statedAll : List Example → List (List ℤ)
+abbrev pub statedAll : List Example → List (List ℤ)
 statedAll [] = []
 statedAll (e ∷ es) = e .stated ∷ statedAll es
 

@@ -73,3 +73,25 @@ openFanOfNine =
     collapsed 20 9
     (0 ∷ 1 ∷ 11 ∷ 2 ∷ 0 ∷ 2 ∷ 12 ∷ 3 ∷ 0 ∷ 3 ∷ 13 ∷ 4 ∷ 0 ∷ 4 ∷ 14 ∷ 5
     ∷ 0 ∷ 5 ∷ 15 ∷ 6 ∷ 0 ∷ 6 ∷ 16 ∷ 7 ∷ 0 ∷ 7 ∷ 17 ∷ 8 ∷ 0 ∷ 8 ∷ 18 ∷ 9 ∷ 0 ∷ 9 ∷ 19 ∷ 10 ∷ [])
+
+-- three boxes joined to an L, a little askew: vertices of three, four and five faces
+abbrev pub boxes : IndexedMesh
+boxes =
+    indexed 16 14
+    (pos 0 ∷ pos 0 ∷ pos 0 ∷ pos 0 ∷ pos 3 ∷ pos 37 ∷ pos 2 ∷ pos 32 ∷ pos 37 ∷ pos 0 ∷ pos 29 ∷ pos 0
+    ∷ pos 31 ∷ pos 0 ∷ pos 0 ∷ pos 31 ∷ pos 3 ∷ pos 37 ∷ pos 33 ∷ pos 32 ∷ pos 42 ∷ pos 31 ∷ pos 29 ∷ pos 5
+    ∷ pos 31 ∷ pos 58 ∷ pos 10 ∷ pos 35 ∷ pos 61 ∷ pos 47 ∷ pos 4 ∷ pos 61 ∷ pos 37 ∷ pos 0 ∷ pos 58 ∷ pos 0
+    ∷ pos 62 ∷ pos 0 ∷ pos 0 ∷ pos 62 ∷ pos 29 ∷ pos 10 ∷ pos 64 ∷ pos 32 ∷ pos 47 ∷ pos 62 ∷ pos 3 ∷ pos 37 ∷ [])
+    (replicate 16 0)
+    (0 ∷ 1 ∷ 2 ∷ 3 ∷ 0 ∷ 4 ∷ 5 ∷ 1 ∷ 1 ∷ 5 ∷ 6 ∷ 2 ∷ 0 ∷ 3 ∷ 7 ∷ 4
+    ∷ 7 ∷ 8 ∷ 9 ∷ 6 ∷ 3 ∷ 2 ∷ 10 ∷ 11 ∷ 11 ∷ 10 ∷ 9 ∷ 8 ∷ 2 ∷ 6 ∷ 9 ∷ 10
+    ∷ 3 ∷ 11 ∷ 8 ∷ 7 ∷ 12 ∷ 13 ∷ 14 ∷ 15 ∷ 7 ∷ 6 ∷ 14 ∷ 13 ∷ 4 ∷ 12 ∷ 15 ∷ 5
+    ∷ 5 ∷ 15 ∷ 14 ∷ 6 ∷ 4 ∷ 7 ∷ 13 ∷ 12 ∷ [])
+
+-- three times three squares: only the face in the middle, number 4, has no corner on the boundary
+abbrev pub grid : IndexedMesh
+grid =
+    collapsed 16 9
+    (0 ∷ 1 ∷ 5 ∷ 4 ∷ 1 ∷ 2 ∷ 6 ∷ 5 ∷ 2 ∷ 3 ∷ 7 ∷ 6
+    ∷ 4 ∷ 5 ∷ 9 ∷ 8 ∷ 5 ∷ 6 ∷ 10 ∷ 9 ∷ 6 ∷ 7 ∷ 11 ∷ 10
+    ∷ 8 ∷ 9 ∷ 13 ∷ 12 ∷ 9 ∷ 10 ∷ 14 ∷ 13 ∷ 10 ∷ 11 ∷ 15 ∷ 14 ∷ [])
