@@ -1,5 +1,6 @@
-/* The square of rule X1 (docs/SPECIFICATION.md), by every call of rusketja.h that takes a mesh or patches, and some entries of the tables
- * for tangents, by the others: prints what the library gives, and returns 0 where it is right.
+/* The square of rule X1 (docs/SPECIFICATION.md), by every call of rusketja.h that takes a mesh or patches, the tangents of a cube, since a
+ * square has none, and some entries of the tables for tangents, by the others: prints what the library gives, and returns 0 where it is
+ * right.
  *
  *     rt staticlib capi
  *     cc -std=c99 -Wall -Wextra -Wconversion -Werror -Iinclude examples/square.c target/staticlib/libcapi.a -o target/square
@@ -98,6 +99,33 @@ static void mirror(void)
     expect("z", z, 0);
 }
 
+/* The cube of rule X3: no vertex is on a boundary. */
+static const int32_t cube[24] = {
+    -24, -24, -24, 24, -24, -24, -24, 24, -24, 24, 24, -24, -24, -24, 24, 24, -24, 24, -24, 24, 24, 24, 24, 24};
+static const uint16_t cube_faces[24] = {7, 6, 4, 5, 0, 2, 3, 1, 0, 1, 5, 4, 2, 6, 7, 3, 0, 4, 6, 2, 1, 3, 7, 5};
+
+/* The tangents: refused for the square, whose corners are on the boundary, and for a face that is not there; then those of a face of the
+ * cube. */
+static void tangents(void)
+{
+    static const uint8_t smooth[8] = {0, 0, 0, 0, 0, 0, 0, 0};
+    int64_t vectors[RUSKETJA_TANGENT_VALUES] = {7};
+
+    expect("tangents of the square", rusketja_tangents(4, 1, positions, 12, tags, 4, indices, 4, 0, vectors, 72), 18);
+    expect("tangents of face 1", rusketja_tangents(4, 1, positions, 12, tags, 4, indices, 4, 1, vectors, 72), 12);
+    expect("tangents, 71 places", rusketja_tangents(8, 6, cube, 24, smooth, 8, cube_faces, 24, 0, vectors, 71), 18);
+    expect("x of u(0,0) after it", (long)vectors[0], 7);
+
+    expect("tangents of the cube", rusketja_tangents(8, 6, cube, 24, smooth, 8, cube_faces, 24, 0, vectors, 72), 0);
+    expect("x of u(0,0)", (long)vectors[0], -7076);
+    expect("y of u(0,0)", (long)vectors[1], 3538);
+    expect("z of u(0,0)", (long)vectors[2], 3538);
+    expect("x of u(1,0)", (long)vectors[3 * 1], -9216);
+    expect("x of v(1,0)", (long)vectors[3 * (12 + 1)], 1893);
+    expect("y of v(1,0)", (long)vectors[3 * (12 + 1) + 1], -6322);
+    expect("z of v(1,0)", (long)vectors[3 * (12 + 1) + 2], 7502);
+}
+
 /* Some cosines, and the weights at a vertex of four faces: thirds and twelfths. 0 where the tables have no such entry. */
 static void tables(void)
 {
@@ -168,6 +196,7 @@ int main(void)
     expect_size("first corner's place", first, 0);
 
     mirror();
+    tangents();
     tables();
     return wrong;
 }

@@ -17,9 +17,9 @@
  *
  * Stack: have 64 KiB free. Found in two ways, which agree within 100 bytes, on the archive of this version: by the frames and calls
  * in its machine code, and by how much of a painted stack the calls wrote over. rusketja_patches takes fewer than 23,100 bytes,
- * rusketja_mirror fewer than 6,600, rusketja_check fewer than 4,500, rusketja_edge_weight and rusketja_face_weight fewer than 1,000, the
- * others fewer than 256, whatever the sizes; no call recurses. The arrays in crates/mesh/src and crates/patch/src and the tables in
- * crates/cosine/src make up nearly all of it.
+ * rusketja_tangents fewer than TANGENT_STACK, rusketja_mirror fewer than 6,600, rusketja_check fewer than 4,500, rusketja_edge_weight
+ * and rusketja_face_weight fewer than 1,000, the others fewer than 256, whatever the sizes; no call recurses. The arrays in
+ * crates/mesh/src, crates/patch/src and crates/tangent/src and the tables in crates/cosine/src make up nearly all of it.
  *
  * Lengths, for V vertices, F faces and n steps:
  *
@@ -29,6 +29,7 @@
  *     twins      4F      at least; place 4f + s is that of the half-edge from corner s of face f to the next corner
  *     patches   48F      at least; coordinate k of control point i + 4j of face f at 48f + 3(i + 4j) + k, in 1/256 micrometre
  *     line     3(n + 1)  at least; x, y, z of the sample at (a, b), for one b, at 3a, 3a + 1, 3a + 2, in 1/256 micrometre
+ *     tangents   72      x, y, z of u(i, j) from 3(i + 3j) on, of v(i, j) from 3(12 + i + 4j) on, in 1/256 micrometre
  *
  * out_positions, out_tags and out_indices, the lists of a mesh that is written, are exactly as long as positions, tags and indices.
  *
@@ -49,11 +50,12 @@
  *      9  the corners at a vertex form neither one closed turn nor one chain
  *     10  an inner vertex has fewer than 3 or more than 16 faces, or a boundary vertex more than 8
  *     11  an inner vertex is tagged 1
- *     12  patches is shorter than 48f + 48
+ *     12  patches is shorter than 48f + 48; for tangents, face g is F or above
  *     13  a control value of face f is beyond 268435456 either way
  *     14  n is not from 1 to 32, or a or b is above n (a where the call is passed one)
  *     16  out_positions has another length than positions, out_tags than tags, or out_indices than indices
  *     17  line is shorter than 3(n + 1)
+ *     18  a corner of face g is on the boundary, or tangents has not exactly 72 places
  *
  * 15 belongs to files alone (docs/REFUSALS.md): no call here returns it.
  */
@@ -75,6 +77,9 @@ extern "C" {
 
 /* The control values of one face. */
 #define RUSKETJA_PATCH_VALUES 48
+
+/* The numbers of the tangent vectors of one face: 24 vectors of three coordinates. */
+#define RUSKETJA_TANGENT_VALUES 72
 
 /* The check of a whole mesh of v vertices and f faces.
  *
@@ -190,6 +195,26 @@ uint8_t rusketja_mirror(
     int32_t *out_positions, size_t out_positions_len,
     uint8_t *out_tags, size_t out_tags_len,
     uint16_t *out_indices, size_t out_indices_len);
+
+/* The tangent vectors of face g of a mesh of v vertices and f faces, which is checked first: the control vectors of two Bezier patches,
+ * 3 by 4 for u and 4 by 3 for v, which stand in for the derivatives of the patch along u and along v where the surface is shaded. How
+ * near those of two faces come to one tangent plane along their common edge is rule D10.
+ *
+ * Returns: 0 where the vectors are written, or the number of the refusal.
+ * Writes: all of tangents. u(i, j), i from 0 to 2 and j from 0 to 3, is vector i + 3j; v(i, j), i from 0 to 3 and j from 0 to 2, is
+ *     vector 12 + i + 4j; x, y and z of vector m go into places 3m, 3m + 1 and 3m + 2.
+ * Leaves alone: all of tangents after a refusal.
+ * Refuses: 1, 3 to 12, 18, in this order; never 2, since no list of twins is lent.
+ * Lengths: positions 3v, tags v, indices 4f; tangents RUSKETJA_TANGENT_VALUES, no more.
+ * Units: positions in micrometres, tangents in 1/256 micrometre, each rounded once to the nearest, halves to the even one. */
+uint8_t rusketja_tangents(
+    size_t v,
+    size_t f,
+    const int32_t *positions, size_t positions_len,
+    const uint8_t *tags, size_t tags_len,
+    const uint16_t *indices, size_t indices_len,
+    size_t g,
+    int64_t *tangents, size_t tangents_len);
 
 /* The corners of face f, as a part of indices.
  *

@@ -88,6 +88,20 @@ extern "C" {
         out_indices_len: usize,
     ) -> u8;
 
+    pub fn rusketja_tangents(
+        v: usize,
+        f: usize,
+        positions: *const i32,
+        positions_len: usize,
+        tags: *const u8,
+        tags_len: usize,
+        indices: *const u16,
+        indices_len: usize,
+        g: usize,
+        tangents: *mut i64,
+        tangents_len: usize,
+    ) -> u8;
+
     pub fn rusketja_face_corners(indices: *const u16, indices_len: usize, f: usize, first: &mut usize) -> usize;
 
     pub fn rusketja_cosine(m: usize) -> i32;

@@ -37,8 +37,10 @@
 
 mod ffi;
 mod refusal;
+mod tangent;
 
 pub use refusal::Refusal;
+pub use tangent::{tangents, Tangents, TANGENT_VALUES};
 
 /// The twin of a boundary half-edge, which has none.
 pub const NO_TWIN: u16 = 65535;
@@ -46,7 +48,7 @@ pub const NO_TWIN: u16 = 65535;
 /// The control values of one face: sixteen points of three coordinates.
 pub const PATCH_VALUES: usize = 48;
 
-/// A mesh as it is handed to [`check`], [`patches`] and [`mirror`]: any sizes and lists, which are checked there.
+/// A mesh as it is handed to [`check`], [`patches`], [`mirror`] and [`tangents()`]: any sizes and lists, which are checked there.
 #[derive(Clone, Copy, Debug)]
 pub struct Mesh<'a> {
     /// V, from 4 to 512.
@@ -441,6 +443,7 @@ mod tests {
         assert_eq!(check(&none, &mut []), Err(Refusal(1)));
         assert_eq!(patches(&none, &mut [], &mut []), Err(Refusal(1)));
         assert_eq!(mirror(&none, &mut [], &mut [], &mut []), Err(Refusal(1)));
+        assert_eq!(tangents(&none, usize::MAX, &mut []), Err(Refusal(1)));
         assert_eq!(check(&SQUARE, &mut []), Err(Refusal(2)));
         assert_eq!(patches(&SQUARE, &mut [0; 4], &mut [0; 47]), Err(Refusal(2)));
         assert_eq!(sample(&[], 0, 1, 0, 0), Err(Refusal(12)));
@@ -451,8 +454,10 @@ mod tests {
         assert_eq!(sample_line(&[i32::MIN; 48], 0, usize::MAX, usize::MAX, &mut []), Err(Refusal(13)));
         assert_eq!(sample_line(&[0; 48], 0, usize::MAX, usize::MAX, &mut []), Err(Refusal(14)));
         assert_eq!(sample_line(&[0; 48], 0, 1, usize::MAX, &mut []), Err(Refusal(14)));
+        assert_eq!(tangents(&SQUARE, usize::MAX, &mut []), Err(Refusal(12)));
         assert_eq!(mirror(&SQUARE, &mut [], &mut [], &mut []), Err(Refusal(16)));
         assert_eq!(sample_line(&[0; 48], 0, 1, 0, &mut []), Err(Refusal(17)));
+        assert_eq!(tangents(&SQUARE, 0, &mut []), Err(Refusal(18)));
         assert!(face_corners(&[], 0).is_empty());
         assert!(face_corners(&[1; 7], usize::MAX).is_empty());
     }
@@ -571,6 +576,65 @@ mod tests {
         assert_eq!((tags, indices), ([0, 1, 0, 1], [0, 3, 2, 1]));
     }
 
+    /// A cube of any places, closed: each vertex has three faces.
+    const CUBE: Mesh = Mesh {
+        vertices: 8,
+        faces: 6,
+        positions: &[9, 8, 7, 6, 5, 4, 3, 2, 1, 0, -1, -2, -3, -4, -5, -6, -7, -8, -9, 0, 9, 8, -8, 7],
+        tags: &[0; 8],
+        indices: &[7, 6, 4, 5, 0, 2, 3, 1, 0, 1, 5, 4, 2, 6, 7, 3, 0, 4, 6, 2, 1, 3, 7, 5],
+    };
+
+    /// The refusal of the tangents on a list of so many places, each 7 before and after.
+    fn refused_tangents(mesh: &Mesh, face: usize, places: usize) -> Refusal {
+        let mut list = vec![7; places];
+        let refusal = tangents(mesh, face, &mut list).expect_err("a refusal");
+        assert_eq!(list, vec![7; places]);
+        refusal
+    }
+
+    #[test]
+    fn refused_tangents_leave_their_list_alone() {
+        for places in [0, 71, 72, 73] {
+            // Each cause alone where the list is right, then with all that come behind it.
+            for (number, mesh) in REFUSED {
+                for face in [0, mesh.faces, usize::MAX] {
+                    assert_eq!(refused_tangents(&mesh, face, places), Refusal(number));
+                }
+            }
+            for (mesh, face) in
+                [(SQUARE, 1), (SQUARE, usize::MAX), (CUBE, 6), (CUBE, 6 + (1 << 32)), (CUBE, usize::MAX)]
+            {
+                assert_eq!(refused_tangents(&mesh, face, places), Refusal(12));
+            }
+            assert_eq!(refused_tangents(&SQUARE, 0, places), Refusal(18));
+        }
+        for places in [0, 1, 71, 73, 144, 72 + 256, 72 + 65536] {
+            assert_eq!(refused_tangents(&CUBE, 5, places), Refusal(18));
+        }
+    }
+
+    #[test]
+    fn tangents_are_read_by_their_numbers() {
+        let mut list = [7; TANGENT_VALUES];
+        let found = tangents(&CUBE, 0, &mut list).expect("the cube has no boundary").vectors().to_vec();
+        assert_eq!(found.concat(), list);
+        let vectors: Vec<[i64; 3]> = (0..24).map(|m| [3 * m, 3 * m + 1, 3 * m + 2]).collect();
+        let numbered = Tangents::of(&vectors);
+        for (i, j) in (0..4).flat_map(|j| (0..3).map(move |i| (i, j))) {
+            assert_eq!(numbered.u(i, j), vectors[i + 3 * j]);
+        }
+        for (i, j) in (0..3).flat_map(|j| (0..4).map(move |i| (i, j))) {
+            assert_eq!(numbered.v(i, j), vectors[12 + i + 4 * j]);
+        }
+        for (i, j) in [(3, 0), (0, 4), (usize::MAX, 3)] {
+            assert!(std::panic::catch_unwind(|| numbered.u(i, j)).is_err());
+        }
+        for (i, j) in [(4, 0), (0, 3), (3, usize::MAX)] {
+            assert!(std::panic::catch_unwind(|| numbered.v(i, j)).is_err());
+        }
+    }
+
     #[test]
     fn numbers_without_a_cosine_or_a_weight_give_0() {
         assert_eq!([0, 1, 2, 33, 64, usize::MAX].map(cosine), [0; 6]);
@@ -587,7 +651,7 @@ mod tests {
     fn a_refusal_says_its_number_and_its_cause() {
         assert_eq!(Refusal(7).to_string(), "refused 7: a half-edge occurs twice the same way round");
         assert_eq!(Refusal(15).meaning(), Refusal(0).meaning());
-        let causes: Vec<_> = (1..=14).chain([16, 17]).map(|number| Refusal(number).meaning()).collect();
+        let causes: Vec<_> = (1..=14).chain([16, 17, 18]).map(|number| Refusal(number).meaning()).collect();
         for (place, cause) in causes.iter().enumerate() {
             assert!(!causes[..place].contains(cause) && *cause != Refusal(0).meaning());
         }

@@ -18,11 +18,12 @@ use std::fmt;
 /// | 9 | the corners at a vertex form neither one closed turn nor one chain |
 /// | 10 | an inner vertex has less than 3 or more than 16 faces, or a boundary vertex more than 8 |
 /// | 11 | an inner vertex is tagged 1 |
-/// | 12 | the patch list ends before the patch of the face: it is shorter than 48f + 48 |
+/// | 12 | the patch list ends before the patch of the face: it is shorter than 48f + 48; for tangents, the face is F or above |
 /// | 13 | a control value of the face is beyond 268,435,456 either way |
 /// | 14 | n is not from 1 to 32, or a or b is above n (a where the function is passed one) |
 /// | 16 | a list to be written, `out_positions`, `out_tags` or `out_indices`, is not as long as that list of the mesh |
 /// | 17 | the list lent for a line of samples is shorter than 3(n + 1) |
+/// | 18 | a corner of the face is on the boundary, or the list lent for its tangent vectors has not exactly 72 places |
 ///
 /// 15 belongs to files alone (`docs/REFUSALS.md`): no function here gives it.
 #[derive(Clone, Copy, Debug, PartialEq, Eq, Hash)]
@@ -43,11 +44,12 @@ impl Refusal {
             9 => "the corners at a vertex are not one fan, closed or open",
             10 => "a vertex has too few or too many faces",
             11 => "an inner vertex is tagged as a corner",
-            12 => "the patch list has no such face",
+            12 => "the patch list, or the mesh, has no such face",
             13 => "a control value is beyond its limit",
             14 => "the number of steps is off its range, or a place is beyond it",
             16 => "a list to be written is not as long as that list of the mesh",
             17 => "the list for a line of samples is too short",
+            18 => "a corner of the face is on the boundary, or the list for its tangent vectors has another length",
             _ => "no refusal of this library",
         }
     }

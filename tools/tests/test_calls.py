@@ -5,7 +5,7 @@ import unittest
 from pathlib import Path
 
 ROOT = Path(__file__).resolve().parent.parent.parent
-TYPES = {"size_t": "usize", "int32_t": "i32", "uint8_t": "u8", "uint16_t": "u16", "double": "f64"}
+TYPES = {"size_t": "usize", "int32_t": "i32", "int64_t": "i64", "uint8_t": "u8", "uint16_t": "u16", "double": "f64"}
 
 
 def code(path):

@@ -60,7 +60,7 @@ impl<'a> Surface<'a> {
     }
 
     /// The side that runs from p to q.
-    fn side(&self, p: usize, q: usize) -> Option<usize> {
+    pub fn side(&self, p: usize, q: usize) -> Option<usize> {
         self.corners[p].iter().copied().find(|&side| self.end(side) == q)
     }
 
@@ -117,13 +117,13 @@ impl<'a> Surface<'a> {
     }
 
     /// In the face, the two neighbours of its corner p and the vertex across from p.
-    fn seen_from(&self, face: usize, p: usize) -> ([usize; 2], usize) {
+    pub fn seen_from(&self, face: usize, p: usize) -> ([usize; 2], usize) {
         let corner = (4 * face..4 * face + 4).find(|&c| self.start(c) == p).expect("a corner of the face");
         ([self.start(later(corner, 1)), self.start(later(corner, 3))], self.start(later(corner, 2)))
     }
 
     /// The sum of the weighted positions over the divisor.
-    fn mix(&self, terms: &[(i128, usize)], divisor: i128) -> Fraction {
+    pub fn mix(&self, terms: &[(i128, usize)], divisor: i128) -> Fraction {
         let at = |p: usize, x: usize| self.mesh.positions[3 * p + x] as i128;
         let over = [0, 1, 2].map(|x| terms.iter().map(|&(weight, p)| weight * at(p, x)).sum());
         Fraction { over, divisor }

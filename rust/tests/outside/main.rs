@@ -6,12 +6,17 @@ mod claim;
 mod compare;
 mod damage;
 mod document;
+mod grown;
 mod interval;
 mod lines;
 mod model;
 mod random;
 mod shapes;
 mod tally;
+mod tangent_rules;
+mod tangent_tally;
+mod tangent_worked;
+mod tangents;
 mod weights;
 mod worked;
 

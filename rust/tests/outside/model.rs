@@ -95,6 +95,11 @@ impl Renumbering {
         new
     }
 
+    /// The place in M' of face f of M, and by how many corners later it begins there.
+    pub fn face(&self, f: usize) -> (usize, usize) {
+        (self.place[f], self.later[f])
+    }
+
     /// The face and the place of M' that match face f and place (a, b) of M.
     pub fn matching(&self, f: usize, n: usize, a: usize, b: usize) -> (usize, usize, usize) {
         let (mut a, mut b) = (a, b);

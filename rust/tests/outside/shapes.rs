@@ -154,7 +154,7 @@ pub type Change = fn(&Quads, &mut Random) -> Quads;
 pub const CHANGES: [Change; 7] = [drop_face, inset, open_path, rotate_edge, merge, sew, turn_over];
 
 /// The changed mesh if it is accepted, else the mesh as it was.
-pub fn kept(quads: Quads, change: Change, random: &mut Random) -> Quads {
+pub fn kept(quads: Quads, change: impl Fn(&Quads, &mut Random) -> Quads, random: &mut Random) -> Quads {
     let new = change(&quads, random);
     if new.accepted() {
         new
@@ -164,16 +164,21 @@ pub fn kept(quads: Quads, change: Change, random: &mut Random) -> Quads {
 }
 
 /// One face taken out.
-fn drop_face(quads: &Quads, random: &mut Random) -> Quads {
+pub fn drop_face(quads: &Quads, random: &mut Random) -> Quads {
     let mut new = quads.clone();
     new.faces.swap_remove(random.below(quads.faces.len()));
     new.packed()
 }
 
-/// One face replaced by five: a smaller one and four around it.
+/// Any face replaced by five.
 fn inset(quads: &Quads, random: &mut Random) -> Quads {
+    inset_at(quads, random.below(quads.faces.len()))
+}
+
+/// One face replaced by five: a smaller one and four around it. Each of its corners has one face more.
+pub fn inset_at(quads: &Quads, face: usize) -> Quads {
     let mut new = quads.clone();
-    let [a, b, c, d] = new.faces.swap_remove(random.below(quads.faces.len()));
+    let [a, b, c, d] = new.faces.swap_remove(face);
     let v = quads.vertices;
     new.vertices += 4;
     new.faces.extend([
@@ -214,7 +219,7 @@ fn open_path(quads: &Quads, random: &mut Random) -> Quads {
 }
 
 /// The edge between two faces turned on to the next pair of the six vertices around.
-fn rotate_edge(quads: &Quads, random: &mut Random) -> Quads {
+pub fn rotate_edge(quads: &Quads, random: &mut Random) -> Quads {
     let mut new = quads.clone();
     let (f, s) = (random.below(quads.faces.len()), random.below(4));
     let turned = |f: usize, s: usize| [0, 1, 2, 3].map(|i: usize| quads.faces[f][(s + i) % 4]);

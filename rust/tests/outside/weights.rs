@@ -5,7 +5,7 @@ use crate::document::nearest;
 use crate::interval::Interval;
 
 /// 1 as a cosine, and as a weight.
-const ONE: i128 = 1 << 20;
+pub const ONE: i128 = 1 << 20;
 
 /// The cosine of a number of parts of the full turn, of which there are m.
 fn real_cosine(parts: usize, m: usize) -> Interval {
@@ -13,7 +13,7 @@ fn real_cosine(parts: usize, m: usize) -> Interval {
 }
 
 /// c(m), m from 3 to 32.
-fn c(m: usize) -> i128 {
+pub fn c(m: usize) -> i128 {
     real_cosine(1, m).times(ONE).nearest()
 }
 
@@ -42,7 +42,7 @@ fn half_and_root(n: usize) -> [i128; 2] {
 }
 
 /// A(n,i) and B(n,i), for each i.
-fn weights(n: usize) -> Vec<[i128; 2]> {
+pub fn weights(n: usize) -> Vec<[i128; 2]> {
     let ([h, r], edges, faces) = (half_and_root(n), multiples(n), multiples(2 * n));
     let divisor = n as i128 * r;
     (0..n).map(|i| [rounded((r + h) * edges[i], divisor), rounded(ONE * faces[2 * i + 1], divisor)]).collect()

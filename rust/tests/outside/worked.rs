@@ -7,7 +7,7 @@ use crate::shapes::{self, Quads};
 use crate::tally::Tally;
 use crate::{claim, document};
 
-fn model(positions: &[[i32; 3]], faces: &[[usize; 4]]) -> Model {
+pub fn model(positions: &[[i32; 3]], faces: &[[usize; 4]]) -> Model {
     let mut mesh = Quads { vertices: positions.len(), faces: faces.to_vec() }.model();
     mesh.positions = positions.concat();
     mesh
@@ -59,12 +59,17 @@ fn square_and_its_samples() {
     }
 }
 
-#[test]
-fn cube() {
+/// The faces of the cube, that of z = 24 first.
+pub fn cube_model() -> Model {
     let corner = |p: i32| [p & 1, p >> 1 & 1, p >> 2].map(|bit| 48 * bit - 24);
     let positions: Vec<[i32; 3]> = (0..8).map(corner).collect();
     let top_first = [[7, 6, 4, 5], [0, 2, 3, 1], [0, 1, 5, 4], [1, 3, 7, 5], [3, 2, 6, 7], [2, 0, 4, 6]];
-    let cube = model(&positions, &top_first);
+    model(&positions, &top_first)
+}
+
+#[test]
+fn cube() {
+    let cube = cube_model();
     let counts = rusketja::check(&cube.lend(), &mut [0; 24]).expect("the cube is accepted");
     assert_eq!([counts.vertices, counts.faces, counts.edges, counts.boundary], [8, 6, 12, 0]);
     let patches = claim::library_patches(&cube);
