@@ -204,6 +204,48 @@ fn tangents_of_damaged_meshes() {
     }
 }
 
+/// The x of all vertices at the limits such that the x of one vector is as large as it can be, and y the other way round: each vertex is put
+/// where the vector points with this vertex alone at the limit, all others at 0.
+fn stretched(mesh: &Model, alone: &[Vec<i64>], vector: usize) -> Model {
+    let mut new = mesh.clone();
+    for (p, numbers) in alone.iter().enumerate() {
+        let x = if numbers[3 * vector] < 0 { -shapes::LIMIT } else { shapes::LIMIT } as i32;
+        new.positions[3 * p..3 * p + 3].copy_from_slice(&[x, -x, x]);
+    }
+    new
+}
+
+#[test]
+fn largest_tangents() {
+    let (mut tally, masks, mut largest) = (TangentTally::default(), Masks::new(), [0; 24]);
+    cases("largest tangents", 13, 60, |case, random| {
+        let mut mesh = grown::accepted(random);
+        let rules = Rules::new(&mesh, &masks);
+        // The face with the most faces around its corners.
+        let around = |face: usize| rules.valences(face).into_iter().sum::<Option<usize>>();
+        let Some((_, face)) = (0..mesh.faces).filter_map(|face| Some((around(face)?, face))).max() else { return };
+        mesh.positions.fill(0);
+        let mut alone = Vec::new();
+        for p in 0..mesh.vertices {
+            mesh.positions[3 * p] = shapes::LIMIT as i32;
+            alone.push(library_vectors(&mesh, face).list());
+            mesh.positions[3 * p] = 0;
+        }
+        for vector in 0..24 {
+            let mesh = stretched(&mesh, &alone, vector);
+            let _shown = Shown { case, mesh: &mesh };
+            let found = call(&Rules::new(&mesh, &masks), face, 72, random, &mut tally).expect("an inner face").list();
+            let [x, y] = [found[3 * vector], found[3 * vector + 1]];
+            assert_eq!(x, -y, "vector {vector}");
+            largest[vector] = x.max(largest[vector]);
+        }
+    });
+    println!("  largest numbers of each vector: {largest:?}");
+    if whole_run() {
+        assert!(largest.iter().all(|&number| number > 1 << 28), "a vector was not seen large");
+    }
+}
+
 /// Every length from 0 to twice as many and one, and some that are right in their low bits alone; every face of a mesh and some beyond it.
 #[test]
 fn every_length_and_face_of_tangents() {
