@@ -14,13 +14,14 @@ mod meshes;
 mod patch;
 mod report;
 mod sample;
+mod tangent;
 mod tessellate;
 mod timing;
 
 use access::{Access, Checked, Unchecked};
 use meshes::Named;
 use report::{Phase, Report};
-use rusketja::{Mesh, Refusal, PATCH_VALUES};
+use rusketja::{Mesh, Refusal, PATCH_VALUES, TANGENT_VALUES};
 use std::fs::File;
 use std::hint::black_box;
 use std::io;
@@ -28,6 +29,7 @@ use std::ops::Range;
 use std::path::{Path, PathBuf};
 use std::process::{Command, Stdio};
 use std::time::Duration;
+use tangent::Weights;
 
 /// The largest N (rule S1), and a small one for samples and lines.
 const N: usize = 32;
@@ -93,6 +95,42 @@ fn lines(
     }
 }
 
+/// The tangents of some faces, by any of the tangent calls.
+fn tangents(
+    mesh: &Mesh,
+    faces: Range<usize>,
+    tangents: impl Fn(&Mesh, usize, &mut [i64]) -> Result<(), Refusal>,
+    mut take: impl FnMut(&[i64; TANGENT_VALUES]),
+) {
+    let mut list = [0; TANGENT_VALUES];
+    for face in faces {
+        tangents(black_box(mesh), black_box(face), black_box(&mut list)).expect("a face of a closed mesh");
+        take(&list);
+    }
+}
+
+/// The library's tangent call, of which the list is all that is read.
+fn library_tangents(mesh: &Mesh, face: usize, list: &mut [i64]) -> Result<(), Refusal> {
+    rusketja::tangents(mesh, face, list).map(|_| ())
+}
+
+/// Whether a mesh has no boundary, so that every face has tangents.
+fn closed(mesh: &Mesh) -> bool {
+    rusketja::check(mesh, &mut twins(mesh)).is_ok_and(|counts| counts.boundary == 0)
+}
+
+/// The Rust form gives the tangents that the library gives, and where the mesh is open its refusals.
+fn assert_same_tangents<A: Access>(mesh: &Mesh, weights: &Weights) {
+    for face in 0..=mesh.faces {
+        for places in [TANGENT_VALUES, TANGENT_VALUES - 1] {
+            let (mut ours, mut theirs) = (vec![0; places], vec![0; places]);
+            let answer = library_tangents(mesh, face, &mut ours);
+            assert_eq!(tangent::tangents::<A>(mesh, weights, face, &mut theirs), answer);
+            assert_eq!(theirs, ours);
+        }
+    }
+}
+
 /// The Rust form gives what the library gives.
 fn assert_same<A: Access>(mesh: &Mesh) {
     let (mut ours, mut theirs) = (twins(mesh), twins(mesh));
@@ -134,6 +172,24 @@ fn measure_patches(mesh: &Mesh) -> [f64; 3] {
     let mut rust = || used(patch::patches::<Checked>(black_box(mesh), black_box(t), black_box(b)));
     let mut unchecked = || used(patch::patches::<Unchecked>(black_box(mesh), black_box(u), black_box(c)));
     timing::minima(CALL_BUDGET, [&mut ours, &mut rust, &mut unchecked])
+}
+
+/// The sums over the faces of a closed mesh, each of which is measured by itself.
+fn measure_tangents(mesh: &Mesh, weights: &Weights) -> [f64; 3] {
+    let budget = SAMPLES_BUDGET / mesh.faces as u32;
+    let mut sums = [0.0; 3];
+    for face in 0..mesh.faces {
+        let faces = || face..face + 1;
+        let take = |list: &[i64; TANGENT_VALUES]| used(list);
+        let checked = |mesh: &Mesh, face, list: &mut [i64]| tangent::tangents::<Checked>(mesh, weights, face, list);
+        let unchecked = |mesh: &Mesh, face, list: &mut [i64]| tangent::tangents::<Unchecked>(mesh, weights, face, list);
+        let mut ours = || tangents(mesh, faces(), library_tangents, take);
+        let mut rust = || tangents(mesh, faces(), checked, take);
+        let mut bare = || tangents(mesh, faces(), unchecked, take);
+        let ns = timing::minima(budget, [&mut ours, &mut rust, &mut bare]);
+        sums.iter_mut().zip(ns).for_each(|(sum, ns)| *sum += ns);
+    }
+    sums
 }
 
 /// The sums over the faces, each of which is measured by itself: by sample calls and by lines, in turns.
@@ -200,10 +256,12 @@ fn main() -> io::Result<()> {
     }
     let tessellate = PathBuf::from(env!("CARGO_MANIFEST_DIR")).join("../target/bin/tessellate");
     let before = load();
-    let meshes = meshes::all();
+    let (meshes, weights) = (meshes::all(), Weights::new());
     for named in &meshes {
         assert_same::<Checked>(&named.mesh());
         assert_same::<Unchecked>(&named.mesh());
+        assert_same_tangents::<Checked>(&named.mesh(), &weights);
+        assert_same_tangents::<Unchecked>(&named.mesh(), &weights);
     }
     let mut report = Report::default();
     for pass in 0..PASSES {
@@ -211,6 +269,9 @@ fn main() -> io::Result<()> {
             let mesh = named.mesh();
             report.add(named.name, &mesh, 0, Phase::Check, measure_check(&mesh));
             report.add(named.name, &mesh, 0, Phase::Patches, measure_patches(&mesh));
+            if closed(&mesh) {
+                report.add(named.name, &mesh, 0, Phase::Tangents, measure_tangents(&mesh, &weights));
+            }
             for n in [N, FEW] {
                 let [samples, lines] = measure_samples(&mesh, n);
                 report.add(named.name, &mesh, n, Phase::Samples, samples);

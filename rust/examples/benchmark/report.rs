@@ -19,15 +19,17 @@ const DOUBLED_GOAL: f64 = 2.2;
 pub enum Phase {
     Check,
     Patches,
+    Tangents,
     Samples,
     Lines,
     Whole,
 }
 
 /// Each phase with each N that it is measured with, 0 for a phase that has none.
-const MEASURED: [(Phase, usize); 7] = [
+const MEASURED: [(Phase, usize); 8] = [
     (Phase::Check, 0),
     (Phase::Patches, 0),
+    (Phase::Tangents, 0),
     (Phase::Samples, N),
     (Phase::Samples, FEW),
     (Phase::Lines, N),
@@ -40,6 +42,7 @@ impl Phase {
         match self {
             Phase::Check => "check",
             Phase::Patches => "patches",
+            Phase::Tangents => "tangents",
             Phase::Samples => "samples",
             Phase::Lines => "lines",
             Phase::Whole => "whole",
@@ -50,7 +53,7 @@ impl Phase {
     fn unit(self) -> &'static str {
         match self {
             Phase::Check | Phase::Patches => "face",
-            Phase::Samples => "call",
+            Phase::Tangents | Phase::Samples => "call",
             Phase::Lines => "point",
             Phase::Whole => "line",
         }
@@ -70,7 +73,7 @@ struct Row {
 impl Row {
     fn units(&self) -> usize {
         match self.phase {
-            Phase::Check | Phase::Patches => self.faces,
+            Phase::Check | Phase::Patches | Phase::Tangents => self.faces,
             Phase::Samples | Phase::Lines | Phase::Whole => self.faces * (self.n + 1) * (self.n + 1),
         }
     }
