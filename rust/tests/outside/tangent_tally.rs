@@ -21,7 +21,7 @@ pub struct TangentTally {
     pub halves: [[[u64; 2]; 2]; 2],
     /// Ends of edges between two faces that have vectors, by n at this end and at the other; the largest distance in hundredths of a unit.
     pub ends: [[u64; 17]; 17],
-    pub farthest: u64,
+    pub farthest: i128,
     /// Faces begun by 0 to 3 corners later, where they stand and in a mesh with new numbers.
     pub turned: [u64; 4],
     pub renumbered: [u64; 4],
@@ -64,7 +64,7 @@ impl TangentTally {
     }
 
     /// Counts one end of an edge.
-    pub fn end(&mut self, n: usize, other: usize, hundredths: u64) {
+    pub fn end(&mut self, n: usize, other: usize, hundredths: i128) {
         self.ends[n][other] += 1;
         self.farthest = self.farthest.max(hundredths);
     }

@@ -65,33 +65,26 @@ pub fn side(Vectors { u, v }: &Vectors, s: usize) -> ([Vector; 3], [Vector; 2]) 
 fn across(rules: &Rules, masks: &Masks, faces: &[Option<Vectors>], tally: &mut TangentTally) {
     let surface = rules.surface();
     for c in 0..4 * rules.mesh.faces {
-        let Some(d) = surface.mate(c) else { continue };
+        let Some(d) = surface.mate(c).filter(|&d| c < d) else { continue };
         let (Some(here), Some(there)) = (&faces[c / 4], &faces[d / 4]) else { continue };
         let ((along, into), (back, beyond)) = (side(here, c % 4), side(there, d % 4));
-        assert_eq!(
-            along,
-            [2, 1, 0].map(|i| minus(back[i])),
-            "the vectors along side {c}, and those along its mate {d}"
-        );
+        assert_eq!(along, [2, 1, 0].map(|i| minus(back[i])), "the vectors along side {c} and back along its mate {d}");
         let valences = rules.valences(c / 4);
-        let [n, other] = [valences[c % 4], valences[(c + 1) % 4]].map(|n| n.expect("an inner corner"));
-        let [c0, c1] = [n, other].map(|n| masks.cosine(n));
+        let [n0, n1] = [valences[c % 4], valences[(c + 1) % 4]].map(|n| n.expect("an inner corner"));
+        let [c0, c1] = [n0, n1].map(|n| masks.cosine(n));
         let near_start: Vector = from_fn(|x| 2 * c0 * along[1][x] - c1 * along[0][x]);
         let near_end: Vector = from_fn(|x| c0 * along[2][x] - 2 * c1 * along[1][x]);
-        for (which, term) in [near_start, near_end].into_iter().enumerate() {
-            for x in 0..3 {
-                let sum = into[which][x] + beyond[1 - which][x];
-                let apart = (3 * ONE * sum - 2 * term[x]).abs();
-                assert!(
-                    apart <= 7 * 3 * ONE,
-                    "side {c}, mate {d}, place {which}, coordinate {x}: {apart} over {}",
-                    3 * ONE
-                );
-                let ends = [(n, other), (other, n)][which];
-                tally.end(ends.0, ends.1, (100 * apart / (3 * ONE)) as u64);
-            }
-        }
+        let start = farthest(near_start, into[0], beyond[1]);
+        let end = farthest(near_end, into[1], beyond[0]);
+        assert!(start.max(end) <= 7 * 3 * ONE, "side {c}, mate {d}: {start} and {end} over {}", 3 * ONE);
+        tally.end(n0, n1, 100 * start / (3 * ONE));
+        tally.end(n1, n0, 100 * end / (3 * ONE));
     }
+}
+
+/// How far the sum of two vectors is from twice a cosine term, in its farthest coordinate; the term and the distance are times 3 * 2^20.
+fn farthest(term: Vector, one: Vector, other: Vector) -> i128 {
+    (0..3).map(|x| (3 * ONE * (one[x] + other[x]) - 2 * term[x]).abs()).fold(0, i128::max)
 }
 
 /// The same face begun one corner later.
