@@ -7,8 +7,8 @@
 --   Read answer x y z x' y' z'   the three lent doubles x', y', z' afterwards, which held x, y, z: each exactly the sample over 256 (rule S5),
 --                         or as they were after a refusal (rule R5)
 --   firstCorner corners f d   the lent place of a face's first corner afterwards, which held d: 4f, or d where the face has no corners
---   CornersTold, CountsStored, CheckStored, PatchesStored, SampleStored, ReadingStored, LineStored, MirrorStored   for each call, what it returns,
---                         and every lent number and list afterwards
+--   CornersTold, CountsStored, CheckStored, PatchesStored, SampleStored, ReadingStored, LineStored, MirrorStored, TangentsStored   for each call, what
+--                         it returns, and every lent number and list afterwards
 use mathlib.Core.Path.{_≡_}
 use mathlib.Core.List.{List, [], _∷_}
 use Prim.Native.Nat.{ℕ, _*_}
@@ -25,6 +25,7 @@ use Rattle.sample.specs.Answer.{Over256}
 use Rattle.sample.specs.declared.model.Point.{Point}
 use Rattle.sample.specs.Line.{lineAnswer, LineLeft}
 use Rattle.edit.specs.Mirror.{mirrorAnswer, MirrorLeft}
+use Rattle.tangent.specs.Answer.{tangentAnswer, tangentsAfter}
 
 abbrev pub code : {A : Type 0} → Answer A → ℕ
 code (result a) = 0
@@ -79,3 +80,7 @@ pub record LineStored (patches : List ℤ) (f n b : ℕ) (line : List ℤ) (r : 
 pub record MirrorStored (M : IndexedMesh) (x : List ℤ) (t i : List ℕ) (r : ℕ) (x' : List ℤ) (t' i' : List ℕ) : Type 0 where
   pub code-is : r ≡ code (mirrorAnswer M x t i)
   pub left : MirrorLeft M x t i x' t' i'
+
+pub record TangentsStored (M : IndexedMesh) (g : ℕ) (d : List ℤ) (r : ℕ) (d' : List ℤ) : Type 0 where
+  pub code-is : r ≡ code (tangentAnswer M g d)
+  pub list-is : d' ≡ tangentsAfter M g d

@@ -11,7 +11,7 @@ ghost use Rattle.mesh.specs.Answer.{checked};
 ghost use Rattle.sample.specs.Answer.{sampleAnswer};
 ghost use Rattle.cosine.specs.Cosine.{Entry};
 ghost use Rattle.cosine.specs.Weight.{edgeWeight, faceWeight};
-ghost use Rattle.capi.specs.Answer.{code, CornersTold, CountsStored, CheckStored, PatchesStored, SampleStored, ReadingStored, LineStored, MirrorStored};
+ghost use Rattle.capi.specs.Answer.{code, CornersTold, CountsStored, CheckStored, PatchesStored, SampleStored, ReadingStored, LineStored, MirrorStored, TangentsStored};
 
 // The corners of face f: `corner::face_corners`, whose part of the face list C is told by its first place and its length.
 // Returns: the number of corners, 4, or 0 where 4f + 4 is above the length of indices.
@@ -225,6 +225,26 @@ pub extern "C" fn rusketja_mirror(
         out_tags,
         out_indices,
     );
+    outcome_code(answer)
+}
+
+// The tangent vectors of face g of a mesh of v vertices and f faces, which is checked first: `tangent::tangents`.
+// Returns: 0 where it is done, or the number of the refusal.
+// Writes, leaves alone, refuses, and units: as `tangent::tangents`.
+#[no_mangle]
+pub extern "C" fn rusketja_tangents(
+    v: usize,
+    f: usize,
+    positions: &[i32],
+    tags: &[u8],
+    indices: &[u16],
+    g: usize,
+    tangents: &mut [i64],
+) -> u8
+    ensures { λ r. ⌜ TangentsStored (indexed v f (now (positions .entry)) (now (tags .entry)) (now (indices .entry))) g
+        (now (tangents .entry)) r (now (tangents .exit)) ⌝ }
+{
+    let answer = tangent::tangents(v, f, positions, tags, indices, g, tangents);
     outcome_code(answer)
 }
 
