@@ -96,6 +96,14 @@ def across_twice():
     return Shape([(0, 2, 1, 3), (0, 4, 1, 5)] + five(3, 4, 6) + five(5, 2, 10))
 
 
+def with_inset(shape, f):
+    """The shape with a face inside face f: four faces join it to the old sides, so each old corner has one face more."""
+    old, v = shape.faces[f], shape.vertices
+    new = tuple(range(v, v + 4))
+    between = [(old[s], old[(s + 1) % 4], new[(s + 1) % 4], new[s]) for s in range(4)]
+    return Shape(shape.faces[:f] + [new] + shape.faces[f + 1 :] + between)
+
+
 def pillow():
     return Shape([(0, 1, 2, 3), (3, 2, 1, 0)])
 
