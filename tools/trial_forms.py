@@ -3,7 +3,8 @@
 What is expected is computed here, in meshes.py and in patches.py by the rules of docs/SPECIFICATION.md, of a mesh by sets and
 dictionaries over the whole of it and of control points and samples by fractions, and not as the library does it, so the gate compares
 two readings of the rules. tools/trials.py, tools/mirror_trials.py and tools/fan_trials.py have the trials. The forms of the sample call
-and of the line call are in sample_forms.py, that of the cosines and weights in weight_trials.py.
+and of the line call are in sample_forms.py, that of the cosines and weights in weight_trials.py, that of the tangent call in
+tangent_trials.py.
 """
 
 import struct
@@ -20,12 +21,13 @@ PLACES = 2048
 PATCH_PLACES = 12291
 CLEAR = 816
 
-# What a sample trial's file begins with, a patch trial's, a mirror trial's, a line trial's, and a weight trial's.
+# What a sample trial's file begins with, a patch trial's, a mirror trial's, a line trial's, a weight trial's, and a tangent trial's.
 SAMPLE = 65535
 HEAD = 65533
 MIRROR = 65531
 LINE = 65529
 WEIGHTS = 65527
+TANGENT = 65525
 
 
 # ---- Mesh trials: the arguments of the check.
@@ -37,7 +39,7 @@ class MeshTrial(Mesh):
 
     def bytes(self):
         """The trial's file, as crates/trials/src/reading.rt has it."""
-        assert self.v not in (SAMPLE, HEAD, MIRROR, LINE, WEIGHTS)
+        assert self.v not in (SAMPLE, HEAD, MIRROR, LINE, WEIGHTS, TANGENT)
         sizes = struct.pack("<6H", self.v, self.f, len(self.positions), len(self.tags), len(self.faces), self.twins)
         return sizes + self.packed()
 

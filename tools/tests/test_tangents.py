@@ -13,7 +13,8 @@ import tangents
 from cosines import SCALE, edge_weight, face_weight, real_cosine
 from meshes import FACES, INNER_VALENCES, MeshReading, PatchReading, changed, mirrored, numbered, spoiled
 from patches import shuffled
-from shapes import Shape, closed_fan, cube, grid, torus, trapezohedron, with_inset
+from shapes import Shape, closed_fan, cube, grid, torus, trapezohedron
+from tangent_trials import boxes, cube_by_bits, flat_grid, grown
 from tangents import ACROSS, TANGENTS, U_PLACES, V_PLACES, TangentSurface, across, begun_one_later, mirror_image, side_vectors, vector
 
 # What is left of 0 in sums of decimals.
@@ -31,38 +32,13 @@ def random_points(random, count, size):
     return [[random.randint(-size, size) for _ in range(3)] for _ in range(count)]
 
 
-def grown(random, shape, n):
-    """A closed shape with insets in faces about vertex 0 until it has n faces; no vertex has more than 16."""
-    while True:
-        count = lambda p: sum(p in face for face in shape.faces)
-        if count(0) >= n:
-            return shape
-        about = [f for f, face in enumerate(shape.faces) if 0 in face and all(count(p) < INNER_VALENCES[-1] for p in face)]
-        shape = with_inset(shape, random.choice(about))
-
-
 def random_meshes(size):
     """A closed mesh for each valence that an inner vertex may have, with other valences beside it and coordinates up to a size."""
     rng = random.Random(SEED)
     for n in INNER_VALENCES:
-        shape = grown(rng, rng.choice((cube(), trapezohedron(min(n, 5)))) if n < 8 else cube(), n)
+        shape = grown(rng, rng.choice((cube(), trapezohedron(min(n, 5)))) if n < 8 else cube(), n, 0)
         faces = [face[s:] + face[:s] for face in shape.faces for s in [rng.randrange(4)]]
         yield rng, random_points(rng, shape.vertices, size), faces
-
-
-def the_cube():
-    """The cube whose corners are at 24 and -24, vertices by x, y and z."""
-    points = [[24 * (2 * (p >> k & 1) - 1) for k in range(3)] for p in range(8)]
-    return surface(points, [(7, 6, 4, 5), (0, 2, 3, 1), (0, 1, 5, 4), (2, 6, 7, 3), (0, 4, 6, 2), (1, 3, 7, 5)])
-
-
-def the_boxes():
-    """Three boxes in the shape of an L, with corner (x,y,z) at (31x + 2yz, 29y + 3z, 37z + 5xy)."""
-    corners = ["000", "001", "011", "010", "100", "101", "111", "110", "120", "121", "021", "020", "200", "210", "211", "201"]
-    points = [[31 * x + 2 * y * z, 29 * y + 3 * z, 37 * z + 5 * x * y] for x, y, z in (map(int, corner) for corner in corners)]
-    faces = "0 1 2 3, 0 4 5 1, 1 5 6 2, 0 3 7 4, 7 8 9 6, 3 2 10 11, 11 10 9 8, 2 6 9 10, 3 11 8 7"
-    faces += ", 12 13 14 15, 7 6 14 13, 4 12 15 5, 5 15 14 6, 4 7 13 12"
-    return surface(points, [tuple(map(int, face.split())) for face in faces.split(",")])
 
 
 def mates(faces):
@@ -74,7 +50,7 @@ def mates(faces):
 class Worked(unittest.TestCase):
     def test_cube(self):
         """Face 0: u along x, v along y, both downwards."""
-        found = the_cube().tangents(0)
+        found = surface(*cube_by_bits()).tangents(0)
         corner, corrected, plain = (-7076, 3538, 3538), (-6322, 1893, 7502), (-9216, 0, 0)
         for i, j in U_PLACES:
             x, y, z = plain if i == 1 else corner if j in (0, 3) else corrected
@@ -87,18 +63,18 @@ class Worked(unittest.TestCase):
 
     def test_boxes(self):
         """All numbers of face 2, whose corners have valences 3, 4, 5 and 4."""
-        boxes = the_boxes()
-        self.assertEqual([boxes.valence(p) for p in boxes.faces[2]], [3, 4, 5, 4])
+        about = surface(*boxes())
+        self.assertEqual([about.valence(p) for p in about.faces[2]], [3, 4, 5, 4])
         u = "4505 -1916 2831, 6912 -417 780, 7936 0 213, 4601 -1749 5308, 6879 -927 372, 7964 422 983"
         u += ", 4069 -853 5124, 8781 744 1068, 7256 1682 1058, 4224 384 5376, 8730 0 1407, 5911 -264 -2309"
         v = "-2032 4496 2831, -2016 4747 5308, -1068 4098 5124, 256 4096 5376, -123 6543 780, -543 6495 372"
         v += ", 1359 8166 1068, 561 8166 1407, 427 7424 213, 945 7465 983, 2257 6681 1058, 170 5444 -2309"
-        self.assertEqual(boxes.tangents(2), [int(x) for vectors in (u, v) for three in vectors.split(",") for x in three.split()])
+        self.assertEqual(about.tangents(2), [int(x) for vectors in (u, v) for three in vectors.split(",") for x in three.split()])
 
     def test_every_face(self):
         """The sum of the numbers of each face, and that of each number times its place counted from 1."""
-        boxes = the_boxes()
-        lists = [boxes.tangents(f) for f in range(14)]
+        about = surface(*boxes())
+        lists = [about.tangents(f) for f in range(14)]
         sums = "142667 144183 193310 122950 124718 180955 155906 130057 167873 149592 125759 178628 130703 168103"
         placed = "5432520 6318531 7075505 5289287 4706896 6918108 5128164 3554356 5954331 5174839 3434088 6380924 4353247 6699375"
         self.assertEqual([sum(found) for found in lists], [int(x) for x in sums.split()])
@@ -112,11 +88,11 @@ class Worked(unittest.TestCase):
             2: ((-2257, -1336, -11315057760), (-6681, 6681, 0), (-1058, 478, -1823629584)),
             3: ((4069, -4208, -447741952), (-853, -1621, -7784628224), (5124, -5198, -223346688)),
         }
-        boxes = the_boxes()
-        for (f, s), (g, t) in mates(boxes.faces):
+        about = surface(*boxes())
+        for (f, s), (g, t) in mates(about.faces):
             if f == 2:
-                own, other = boxes.tangents(f), boxes.tangents(g)
-                c0, c1 = (boxes.cosine_at(boxes.faces[f][(s + end) % 4]) for end in (0, 1))
+                own, other = about.tangents(f), about.tangents(g)
+                c0, c1 = (about.cosine_at(about.faces[f][(s + end) % 4]) for end in (0, 1))
                 _, (near, _) = side_vectors(own, s)
                 _, (_, beyond) = side_vectors(other, t)
                 off, _ = across(own, other, s, t, c0, c1)
@@ -238,9 +214,9 @@ class Halves(unittest.TestCase):
 class Regular(unittest.TestCase):
     def test_flat(self):
         """A flat grid of parallelograms, with every vertex of a face inner: all vectors along an edge are that edge."""
-        a, b, origin = (33, -12, 6), (9, 21, -30), (100, -200, 300)
-        points = [[origin[k] + i * a[k] + j * b[k] for k in range(3)] for j, i in product(range(6), repeat=2)]
-        about = surface(points, grid(5, 5).faces)
+        points, faces = flat_grid()
+        about = surface(points, faces)
+        a, b = ([to - at for at, to in zip(points[0], points[p])] for p in (1, 6))
         for f in (6, 7, 8, 11, 12, 13, 16, 17, 18):
             expected = [256 * x for edge in (a, b) for _ in range(12) for x in edge]
             self.assertEqual(about.tangents(f), expected)
