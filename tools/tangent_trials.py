@@ -78,7 +78,7 @@ def tangent(trial, g=0, lent=TANGENTS):
     return TangentTrial(**{**vars(trial), "twins": 0}, g=g, lent=lent)
 
 
-def at(shape, points, g=0):
+def positioned(shape, points, g=0):
     """A shape with the vertices at these points."""
     return tangent(changed(mesh(shape), positions=[x for point in points for x in point]), g)
 
@@ -86,7 +86,7 @@ def at(shape, points, g=0):
 def varied(shape, g=0):
     """A shape with coordinates of either sign, small ones along one axis and large ones along another."""
     sizes = RANDOM.sample((30, 3000, LIMIT), 3)
-    return at(shape, [[RANDOM.randint(-size, size) for size in sizes] for _ in range(shape.vertices)], g)
+    return positioned(shape, [[RANDOM.randint(-size, size) for size in sizes] for _ in range(shape.vertices)], g)
 
 
 # ---- Meshes.
@@ -129,7 +129,7 @@ def flat_grid():
 def worked():
     """The meshes of rule X16, and a flat one."""
     for name, (points, faces), g in (("cube", cube_by_bits(), 0), ("boxes", boxes(), 2), ("flat-grid", flat_grid(), 12)):
-        yield f"tangents-{name}", at(Shape(faces), points, g)
+        yield f"tangents-{name}", positioned(Shape(faces), points, g)
 
 
 def valences():
@@ -147,35 +147,41 @@ def valences():
 
 
 def shapes():
-    """Four faces about each vertex; and models like a last, one of them open, with tags on the boundary."""
+    """Four faces about each vertex; and models of some 160 faces, one of them open, with tags on the boundary."""
     yield "tangents-torus-3-by-3", varied(torus(3, 3), 4)
     yield "tangents-torus-4-by-5-begun-anywhere", varied(begun_later(torus(4, 5)), 19)
     shape, points = last(RANDOM)
-    yield "tangents-last", at(shape, points, 100)
+    yield "tangents-model", positioned(shape, points, 100)
     shape, points = last(RANDOM, opened=True)
-    opened = at(shape, points)
+    opened = positioned(shape, points)
     inner = PatchReading(opened).inner
     assert all(inner[p] for p in shape.faces[0])
-    yield "tangents-last-with-an-opening-tagged", tagged(opened, *[p for p in inner if not inner[p]][::3])
+    yield "tangents-model-with-an-opening-tagged", tagged(opened, *[p for p in inner if not inner[p]][::3])
 
 
 def limits():
     """Coordinates at the limit; with the signs of the weights the vector along an edge is as long as it can be."""
     for word, sign in (("", 1), ("minus-", -1)):
-        yield f"tangents-every-coordinate-{word}{LIMIT}", at(cube(), [[sign * LIMIT] * 3] * 8)
+        yield f"tangents-every-coordinate-{word}{LIMIT}", positioned(cube(), [[sign * LIMIT] * 3] * 8)
     for n in (3, 5, 16):
-        fan, shape = closed_fan(n), trapezohedron(n)
-        # The neighbours of vertex 0 and the vertices across, in order, are 2 and on in this shape, as they are 1 and on in a fan.
-        signs = [1 if weight(n, i) >= 0 else -1 for i in range(n) for weight in (edge_weight, face_weight)]
-        assert len(signs) == fan.vertices - 1 == shape.vertices - 2
-        yield f"tangents-longest-of-valence-{n}", at(shape, [[LIMIT] * 3] * 2 + [[s * LIMIT, -s * LIMIT, s * LIMIT] for s in signs])
-    signs = [[RANDOM.choice((-LIMIT, LIMIT)) for _ in range(3)] for _ in range(60)]
-    yield "tangents-every-coordinate-at-a-limit", at(grown(RANDOM, cube(), 16, 0), signs, 5)
+        # Vertices 2, 3 and so on are in turn a neighbour of vertex 0 and one across from it.
+        sized = [LIMIT if weight(n, i) >= 0 else -LIMIT for i in range(n) for weight in (edge_weight, face_weight)]
+        yield f"tangents-longest-of-valence-{n}", positioned(trapezohedron(n), [[LIMIT] * 3] * 2 + [[x, -x, x] for x in sized])
+    shape = grown(RANDOM, cube(), 16, 0, 1)
+    g = next(f for f, face in enumerate(shape.faces) if {0, 1} <= {*face})
+    # x is as far as it can be in u(0,0), y in u(1,0) and z in v(1,0).
+    alone = [positioned(shape, [[LIMIT * (p == q)] * 3 for q in range(shape.vertices)]) for p in range(shape.vertices)]
+    numbers = [tangents_after(PatchReading(trial), g, [0] * TANGENTS) for trial in alone]
+    points = [[LIMIT if found[m] >= 0 else -LIMIT for m in (0, 4, 41)] for found in numbers]
+    yield "tangents-longest-of-a-side", positioned(shape, points, g)
+    shape = grown(RANDOM, cube(), 16, 0)
+    points = [[RANDOM.choice((-LIMIT, LIMIT)) for _ in range(3)] for _ in range(shape.vertices)]
+    yield "tangents-every-coordinate-at-a-limit", positioned(shape, points, 5)
 
 
 def halves():
     """Corner vectors at a half, of either sign, above an even number and above an odd one."""
-    trial = at(torus(4, 5), [[0, 0, 0], [2048, -2048, 3 * 2048]] + [[0, 0, 0]] * 18)
+    trial = positioned(torus(4, 5), [[0, 0, 0], [2048, -2048, 3 * 2048]] + [[0, 0, 0]] * 18)
     reading = PatchReading(trial)
     surface = TangentSurface(reading.points, trial.tags, reading.faces)
     exact = [Fraction(256 * x, SCALE) for p, q in reading.sides for x in surface.weighted(p, q, edge_weight, face_weight)]
@@ -206,7 +212,7 @@ def renumbered():
     trial = varied(grown(RANDOM, cube(), 7, 0), 3)
     old = PatchReading(trial)
     change = shuffled(RANDOM, trial.v, trial.f)
-    other = at(Shape(change.faces(old.faces)), change.moved(old.points), change.order.index(3))
+    other = positioned(Shape(change.faces(old.faces)), change.moved(old.points), change.order.index(3))
     new = PatchReading(other)
     for g, (f, start) in enumerate(zip(change.order, change.starts)):
         expected = TangentSurface(old.points, trial.tags, old.faces).tangents(f)
