@@ -3,7 +3,8 @@
 
 What is expected is computed in trial_forms.py and sample_forms.py from an independent reading of the rules. A trial's name says what
 it is, and ends in -refused-N where the call says no. The trials of the mirror call are in mirror_trials.py, those of the line call in
-line_trials.py, those of circulating, which the mesh check does, in fan_trials.py, and those of the cosines and weights in weight_trials.py.
+line_trials.py, those of circulating, which the mesh check does, in fan_trials.py, those of the cosines and weights in weight_trials.py, and
+those of the tangent call in tangent_trials.py.
 """
 
 import argparse
@@ -14,6 +15,7 @@ from pathlib import Path
 import fan_trials
 import line_trials
 import mirror_trials
+import tangent_trials
 import weight_trials
 from meshes import BOUNDARY_FACES, CONTROL, INNER_VALENCES, STEPS, changed
 from patches import PATCH
@@ -558,7 +560,8 @@ def main():
     about.parse_args()
     mirrors, lines, fans = trials(mirror_trials.GROUPS), trials(line_trials.GROUPS), trials(fan_trials.GROUPS)
     earlier = chain(trials(MESHES + SAMPLES + PATCHES), files(), mirrors, mirror_trials.files(), lines, line_trials.files(), fans)
-    write(chain(earlier, trials(weight_trials.GROUPS), weight_trials.files()))
+    weights, tangents = trials(weight_trials.GROUPS), trials(tangent_trials.GROUPS)
+    write(chain(earlier, weights, weight_trials.files(), tangents, tangent_trials.files()))
 
 
 if __name__ == "__main__":

@@ -1,11 +1,12 @@
-// A trial of the mesh check, and the lists of a trial of the patch call or of the mirror call. The line of the mesh check goes on
+// A trial of the mesh check, and the lists of a trial of the patch call, the mirror call or the tangent call. The line of the mesh check
+// goes on
 //
 //     V F E B twins P Q R S       of an accepted mesh
 //     refused N twins P Q R S     of a refused one
 //
 // P to S are the lent twins as they are afterwards, at the places 0, 4F - 1, 4F and the last; `-` is a place that the list does not
-// have. Every place of the list holds 7 before the call. The lists of all three kinds of trial are read here; patch_trial.rt and
-// mirror_trial.rt go on with those that have a head.
+// have. Every place of the list holds 7 before the call. The lists of all four kinds of trial are read here; patch_trial.rt,
+// mirror_trial.rt and tangent_trial.rt go on with those that have a head.
 use crate::mirror_trial;
 use crate::patch_trial;
 use crate::printing::print_checked;
@@ -13,10 +14,12 @@ use crate::printing::print_twins;
 use crate::reading::PLACES;
 use crate::reading::can_run;
 use crate::reading::is_mirror;
+use crate::reading::is_tangent;
 use crate::reading::read_i32s;
 use crate::reading::read_u16s;
 use crate::reading::room;
 use crate::reading::u16_at;
+use crate::tangent_trial;
 ghost use Prim.Native.Nat.{_<_};
 
 // Where the positions begin.
@@ -61,6 +64,9 @@ fn head_has_room(head: &[u8]) -> bool {
     if is_mirror(head) {
         return mirror_trial::has_room(head);
     }
+    if is_tangent(head) {
+        return tangent_trial::has_room(head);
+    }
     patch_trial::has_room(head)
 }
 
@@ -71,7 +77,7 @@ fn show(b: &[u8], positions: &[i32], faces: &[u16], twins: &mut [u16]) {
     print_twins(twins, 4 * f);
 }
 
-// The trial with its lists: of the check without a head, and of the mirror call or the patch call with one.
+// The trial with its lists: of the check without a head, and of the mirror call, the tangent call or the patch call with one.
 fn with_twins(head: &[u8], b: &[u8], positions: &[i32], faces: &[u16], twins: &mut [u16]) {
     let v = u16_at(b, 0);
     let f = u16_at(b, 2);
@@ -79,6 +85,8 @@ fn with_twins(head: &[u8], b: &[u8], positions: &[i32], faces: &[u16], twins: &m
         show(b, positions, faces, twins);
     } else if is_mirror(head) {
         mirror_trial::run(head, v, f, positions, tags(b), faces, twins);
+    } else if is_tangent(head) {
+        tangent_trial::run(head, v, f, positions, tags(b), faces);
     } else {
         patch_trial::run(head, v, f, positions, tags(b), faces, twins);
     }

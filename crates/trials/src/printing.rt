@@ -21,19 +21,24 @@ pub(crate) fn print_number(n: usize) {
     print_wide(n as u64);
 }
 
-// The magnitude of a number.
-pub(crate) fn magnitude(n: i32) -> u64 {
-    integer::magnitude(n as i64)
+// A signed number of 32 bits as one of 64.
+pub(crate) fn widened(n: i32) -> i64 {
+    n as i64
 }
 
-// A blank and a signed number.
-pub(crate) fn print_signed(n: i32) {
+// A blank and a signed 64-bit number.
+pub(crate) fn print_wide_signed(n: i64) {
     if n < 0 {
         print_text(b" -");
     } else {
         print_text(b" ");
     }
-    io::print_decimal(STDOUT_FILENO, magnitude(n));
+    io::print_decimal(STDOUT_FILENO, integer::magnitude(n));
+}
+
+// A blank and a signed number.
+pub(crate) fn print_signed(n: i32) {
+    print_wide_signed(widened(n));
 }
 
 // The number of a refusal.

@@ -10,6 +10,9 @@
 // call, whose mesh is mirrored. The eight bytes and the head of that file are this file's head; the twins, the patches and N are those
 // of the image.
 //
+// Of the tangent call: 65525 as a 16-bit number, g as a 64-bit number and the length of the lent list as a 16-bit number, which are the
+// file's head; then a file of the mesh check, whose twins are not used.
+//
 // Of the sample call: 65535 as a 16-bit number, which is V in no trial of the mesh check; then f, N, a and b as 64-bit numbers; then
 // the control values as 32-bit two's complement numbers, to the end of the file.
 //
@@ -29,6 +32,9 @@ const PATCH: usize = 65533;
 // What that of a mirror trial has there.
 const MIRROR: usize = 65531;
 
+// What that of a tangent trial has there.
+const TANGENT: usize = 65525;
+
 // The places of each list that is read or lent, but for the tags of the mesh, which stay in the file, and the patches.
 pub(crate) const PLACES: usize = 2048;
 
@@ -37,10 +43,19 @@ pub(crate) fn is_mirror(head: &[u8]) -> bool {
     u16_at(head, 0) == MIRROR
 }
 
-// The length of the head of a file that is whole: 14 bytes of a mirror trial, 6 of a patch trial and none of a mesh trial.
+// Whether it is that of a tangent trial.
+pub(crate) fn is_tangent(head: &[u8]) -> bool {
+    u16_at(head, 0) == TANGENT
+}
+
+// The length of the head of a file that is whole: 14 bytes of a mirror trial, 12 of a tangent trial, 6 of a patch trial and none of a
+// mesh trial.
 fn whole_head_length(b: &[u8]) -> usize {
     if is_mirror(b) {
         return 14;
+    }
+    if is_tangent(b) {
+        return 12;
     }
     if u16_at(b, 0) == PATCH { 6 } else { 0 }
 }

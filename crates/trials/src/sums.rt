@@ -1,8 +1,8 @@
 // Two sums over signed numbers: of the numbers, and of the first sums on the way, which the order of the numbers changes. They are kept
 // modulo 2^64 and printed modulo 2^32.
-use crate::printing::magnitude;
 use crate::printing::print_clear;
 use crate::printing::print_wide;
+use crate::printing::widened;
 use sample::model::Sampled;
 
 // The two sums.
@@ -12,21 +12,26 @@ pub(crate) struct Sums {
 }
 
 // A signed number added to a number.
-fn plus(total: u64, x: i32) -> u64 {
+fn plus(total: u64, x: i64) -> u64 {
     if x < 0 {
-        std::num::wrapping_sub_u64(total, magnitude(x))
+        std::num::wrapping_sub_u64(total, integer::magnitude(x))
     } else {
-        std::num::wrapping_add_u64(total, magnitude(x))
+        std::num::wrapping_add_u64(total, integer::magnitude(x))
     }
 }
 
-// The two sums with one more number.
-fn with_number(sums: Sums, x: i32) -> Sums {
+// The two sums with one more 64-bit number.
+fn with_wide(sums: Sums, x: i64) -> Sums {
     let first = plus(sums.first, x);
     Sums {
         first,
         second: std::num::wrapping_add_u64(sums.second, first),
     }
+}
+
+// The two sums with one more number.
+fn with_number(sums: Sums, x: i32) -> Sums {
+    with_wide(sums, widened(x))
 }
 
 // The two sums with one more sample; a refused one counts as its number.
@@ -45,6 +50,18 @@ fn of_list(list: &[i32]) -> Sums {
     };
     for i in 0..list.len() {
         sums = with_number(sums, list[i]);
+    }
+    sums
+}
+
+// The two sums of a list of 64-bit numbers.
+pub(crate) fn of_wide_list(list: &[i64]) -> Sums {
+    let mut sums = Sums {
+        first: 0,
+        second: 0,
+    };
+    for i in 0..list.len() {
+        sums = with_wide(sums, list[i]);
     }
     sums
 }
