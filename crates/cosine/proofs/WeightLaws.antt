@@ -5,11 +5,11 @@ use mathlib.Core.List.{List}
 use Prim.Native.Nat.{ℕ, _+_, _-_, _/_, _%_, _≤_, _<_}
 use native.Mathlib.Omega.{arith}
 use lib.IntN.{ℤ, pos}
-use lib.ListN.{getD}
+use lib.ListN.{length, getD}
 use borrow.Author.Tests.{leb-true, ltb-true}
 use Rattle.integer.specs.Nearest.{nearest}
 use Rattle.finite.proofs.FoldLaws.{bool-cases}
-use Rattle.finite.proofs.FilledLaws.{listBelow-at}
+use Rattle.finite.proofs.FilledLaws.{length-listBelow, listBelow-at}
 use Rattle.finite.proofs.AnyAll.{and-true}
 use Rattle.cosine.specs.Weight.{divisor, weighed, weightBy, place, weightsBy, listed}
 
@@ -48,7 +48,11 @@ place-rest n i a l = omega arith
 pub place-below : (n i : ℕ) → Weighed n i → place n i < 224
 place-below n i w = omega (arith, w .place, w .most)
 
-at-place : (f : ℕ → ℕ → ℤ) (n i : ℕ) → Weighed n i → getD (weightsBy f) (place n i) (pos 0) ≡ weightBy f n i
+pub all-length : (f : ℕ → ℕ → ℤ) → length (weightsBy f) ≡ 224
+unfolding weightsBy
+all-length f = length-listBelow (λ k. weightBy f (3 + k / 16) (k % 16)) 224
+
+pub at-place : (f : ℕ → ℕ → ℤ) (n i : ℕ) → Weighed n i → getD (weightsBy f) (place n i) (pos 0) ≡ weightBy f n i
 unfolding weightsBy
 at-place f n i w =
     let l : i < 16 = omega (arith, w .place, w .most) in

@@ -1,74 +1,83 @@
--- From the answer of the patch call, which has lists of its own here, to that of the tangent call.
+-- From the answer of the check, which has a list of twins of the call's own here, to that of the tangent call.
 use mathlib.Core.Path.{_≡_, sym, ap, _∙_}
 use mathlib.Core.Bool.{false, not, _||_}
 use mathlib.Core.List.{List, [], _∷_}
 use mathlib.Core.Option.{none, some}
-use Prim.Native.Nat.{ℕ, _*_, _/_, _%_, _<_}
+use Prim.Native.Nat.{ℕ, _*_, _/_, _%_, _≤_, _<_}
 use native.Mathlib.Omega.{arith}
 use lib.Dec.{eqb, leb}
-use lib.IntN.{ℤ, pos}
+use lib.IntN.{ℤ}
 use lib.ListN.{length, replicate, length-replicate}
 use borrow.Author.Tests.{le-ltb, leb-false, eqb-true, not-false}
 use Rattle.finite.specs.Filled.{filled}
 use Rattle.finite.specs.Table.{row, firstMet, result, refusal, refusalOf, outcome}
 use Rattle.finite.specs.declared.model.Outcome.{Outcome}
-use Rattle.finite.proofs.TableLaws.{skipped, none-met, result-none, refusal-met, refusal-some}
+use Rattle.finite.proofs.TableLaws.{skipped, none-met, append-none, result-none, refusal-met, refusal-some}
 use Rattle.finite.proofs.AnyAll.{or-false}
-use Rattle.finite.proofs.FilledLaws.{filled-ext, filled-whole}
+use Rattle.finite.proofs.FilledLaws.{length-filled, filled-at, filled-ext, filled-whole}
 use Rattle.limits.specs.Limits.{maxFaces}
 use Rattle.limits.specs.declared.model.Mesh.{Mesh}
-use Rattle.mesh.specs.IndexedMesh.{IndexedMesh, corners}
-use Rattle.mesh.specs.Refusal.{meshSizesOff}
+use Rattle.mesh.specs.HalfEdge.{twin}
+use Rattle.mesh.specs.IndexedMesh.{IndexedMesh, corners, at}
+use Rattle.mesh.specs.Refusal.{meshSizesOff, earlyRows, lateRows}
 use Rattle.mesh.specs.WellFormed.{WellFormed}
-use Rattle.mesh.specs.Answer.{countsOf, meshRefusal}
+use Rattle.mesh.specs.Answer.{countsOf, meshRefusal, lentRows, checkAnswer, checkTwins}
+use Rattle.mesh.proofs.AcceptedLaws.{accepted-from}
 use Rattle.mesh.proofs.SizeLaws.{mesh-sizes-false}
-use Rattle.mesh.proofs.PhaseLaws.{refusal-alike, refusal-split}
-use Rattle.patch.specs.Lists.{seen}
-use Rattle.patch.specs.Answer.{listsShort, patchRows, patchAnswer}
-use Rattle.patch.proofs.AnswerLaws.{result-well-formed}
+use Rattle.mesh.proofs.PhaseLaws.{refusal-alike, refusal-split, twins-accepted}
+use Rattle.patch.specs.Lists.{seen, Twins}
 use Rattle.tangent.specs.Tangent.{tangent, tangentNumber}
 use Rattle.tangent.specs.Answer.{faceOff, faceOpen, notGiven, tangentRows, tangentRefusal, TangentsGiven}
 use Rattle.tangent.specs.Lists.{openIn}
 use Rattle.tangent.proofs.FaceLaws.{tangent-same}
 
--- ---- the lists of the call's own, which have room for every mesh whose sizes are in their ranges
+-- ---- the twins of the call's own, which have room for every mesh whose sizes are in their ranges
 abbrev pub ownTwins : List ℕ
 ownTwins = replicate (4 * maxFaces) 0
 
-abbrev pub ownPatches : List ℤ
-ownPatches = replicate (48 * maxFaces) (pos 0)
-
 module _ (M : IndexedMesh) where
-  room : meshSizesOff M ≡ false → firstMet (patchRows M ownTwins ownPatches) ≡ none
+  room : meshSizesOff M ≡ false → firstMet (lentRows M ownTwins) ≡ none
   room e =
       let z = mesh-sizes-false M e in
-      let short = le-ltb (length ownTwins) (corners M) (omega (arith, length-replicate {A = ℕ} (4 * maxFaces) 0)) in
-      let few = le-ltb (length ownPatches) (48 * M .faces) (omega (arith, length-replicate {A = ℤ} (48 * maxFaces) (pos 0))) in
-      let enough : listsShort M ownTwins ownPatches ≡ false = rw (short, few) in
-      skipped 2 none enough
+      skipped 2 none (le-ltb (length ownTwins) (corners M) (omega (arith, length-replicate {A = ℕ} (4 * maxFaces) 0)))
 
-  same-refusal : meshRefusal M (patchRows M ownTwins ownPatches) [] ≡ meshRefusal M [] []
-  same-refusal = refusal-alike M (patchRows M ownTwins ownPatches) [] room []
+  same-refusal : meshRefusal M (lentRows M ownTwins) [] ≡ meshRefusal M [] []
+  same-refusal = refusal-alike M (lentRows M ownTwins) [] room []
 
   module _ (g : ℕ) (d : List ℤ) where
     -- ---- a refusal that is met is the answer, and the list is as it was
     pub refused : {k : ℕ} → tangentRefusal M g d ≡ some k → (r : Outcome) → outcome r ≡ refusal k → TangentsGiven M g d r d
     refused met r e = record { answer-is = e ∙ rw met; list-is = rw met }
 
-    pub patch-refused : {k : ℕ} → refusal k ≡ patchAnswer M ownTwins ownPatches → tangentRefusal M g d ≡ some k
-    patch-refused e =
+    pub check-refused : {k : ℕ} → refusal k ≡ checkAnswer M ownTwins → tangentRefusal M g d ≡ some k
+    check-refused e =
         refusal-split M [] (tangentRows M g d)
-        ∙ rw (sym same-refusal ∙ refusal-met (countsOf M) (meshRefusal M (patchRows M ownTwins ownPatches) []) e)
+        ∙ rw (sym same-refusal ∙ refusal-met (countsOf M) (meshRefusal M (lentRows M ownTwins) []) e)
 
     -- ---- the mesh is accepted
-    module _ {m : Mesh} (accepted : result m ≡ patchAnswer M ownTwins ownPatches) where
+    module _ {m : Mesh} (accepted : result m ≡ checkAnswer M ownTwins) where
+      parts : (firstMet (earlyRows M (lentRows M ownTwins)) ≡ none) × (firstMet (lateRows M) ≡ none)
+      unfolding meshRefusal
+      parts = append-none (earlyRows M (lentRows M ownTwins)) (lateRows M) (result-none (meshRefusal M (lentRows M ownTwins) []) accepted .0)
+
       pub formed : WellFormed M
-      formed = result-well-formed M ownTwins ownPatches accepted
+      formed = accepted-from M (lentRows M ownTwins) (parts .0) (parts .1)
+
+      -- the twins that the check left
+      pub twinned : (t : List ℕ) → t ≡ checkTwins M ownTwins → Twins (M .indices) t
+      twinned t left =
+          let whole = formed .sized .indices-are in
+          let long : corners M ≤ length ownTwins = omega (arith, formed .sized .faces-high, length-replicate {A = ℕ} (4 * maxFaces) 0) in
+          let e = left ∙ sym (twins-accepted M (lentRows M ownTwins) (parts .0) (parts .1) ownTwins) in
+          record {
+            listed = rw (whole, e, length-filled (twin (at M) (corners M)) (corners M) ownTwins long) long;
+            are = rw whole (λ c l. rw e (filled-at (twin (at M) (corners M)) (corners M) c ownTwins 0 l));
+          }
 
       passed : tangentRefusal M g d ≡ firstMet (tangentRows M g d)
       passed =
           refusal-split M [] (tangentRows M g d)
-          ∙ rw (sym same-refusal ∙ result-none (meshRefusal M (patchRows M ownTwins ownPatches) []) accepted .0)
+          ∙ rw (sym same-refusal ∙ result-none (meshRefusal M (lentRows M ownTwins) []) accepted .0)
 
       open-same : openIn (M .indices) g ≡ faceOpen M g
       unfolding faceOpen

@@ -10,9 +10,8 @@ use Rattle.patch.specs.Patch.{controlValue}
 use Rattle.tangent.specs.Vector.{cornerVector, middleVector, endVector, innerVector, difference, cosineAt}
 use Rattle.tangent.specs.Vector.{firstTerm, secondTerm, corrected, startInto, endInto}
 use Rattle.tangent.specs.Tangent.{vector, rowOf, tangent}
-use Rattle.tangent.specs.Lists.{seenPoint}
 use Rattle.tangent.specs.Document.{u, v, b, t', k, steps, AsWritten}
-use Rattle.tangent.proofs.SeenLaws.{turn-after, value-seen}
+use Rattle.tangent.proofs.SeenLaws.{seenPoint, turn-after, value-seen}
 
 -- ---- signs
 pub steps-back : (y z : ℤ) → negℤ (steps y z) ≡ steps z y

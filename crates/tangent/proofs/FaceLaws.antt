@@ -1,5 +1,4 @@
--- All that the tangents of a face are read from stands in the lists of an accepted mesh, its twins and its patches, where no corner of the face is on
--- the boundary.
+-- All that the tangents of a face are read from stands in the lists of an accepted mesh and its twins, where no corner of the face is on the boundary.
 use native.Mathlib.Numerals.{add-one}
 use mathlib.Core.Path.{_≡_, refl, sym, ap, _∙_}
 use mathlib.Core.Bool.{false}
@@ -9,7 +8,6 @@ use native.Mathlib.Omega.{arith}
 use lib.IntN.{ℤ, pos, negℤ}
 use lib.ListN.{length, getD}
 use Rattle.finite.proofs.AnyAll.{any-false}
-use Rattle.finite.proofs.FilledLaws.{filled-at, length-filled}
 use Rattle.corner.specs.Corner.{turn, next}
 use Rattle.mesh.specs.Fan.{onBoundary, valence}
 use Rattle.mesh.specs.IndexedMesh.{IndexedMesh, corners, at}
@@ -18,18 +16,18 @@ use Rattle.mesh.specs.Tables.{vertexOf}
 use Rattle.mesh.proofs.CornerLaws.{turn-below}
 use Rattle.mesh.proofs.TwinLaws.{twin-ends}
 use Rattle.mesh.proofs.BoundaryLaws.{InnerVertex}
+use Rattle.mask.specs.Mask.{cornerWeight}
 use Rattle.patch.specs.Point.{View, faces, weight, sharp, point, innerPoint, edgePoint, alongPoint, beforePoint}
-use Rattle.patch.specs.Patch.{owner, kind, patchPoint, controlValue, view, patchNumber, patchesAfter}
+use Rattle.patch.specs.Patch.{owner, kind, patchPoint, controlValue, view}
 use Rattle.patch.specs.Lists.{shapeOf, seen, Coordinates, Twins}
 use Rattle.patch.proofs.NeighbourLaws.{twin-below}
 use Rattle.patch.proofs.TableLaws.{accepted-whole, accepted-coordinates}
 use Rattle.tangent.specs.Vector.{twinOf, cornerVector, endVector, middleVector, innerVector, cosineAt, startInto, endInto}
 use Rattle.tangent.specs.Tangent.{Kind, start, middle, end, inner, startIn, endIn, rowOf, signed, vector, tangent}
 use Rattle.tangent.specs.Answer.{faceOpen}
-use Rattle.tangent.specs.Lists.{valencesIn, Ring, Face, seenPoint, Point, Drawn}
-use Rattle.tangent.proofs.SeenLaws.{turn-after, value-seen}
+use Rattle.tangent.specs.Lists.{valencesIn, Ring, Face, Drawn}
+use Rattle.tangent.proofs.SeenLaws.{turn-after}
 use Rattle.tangent.proofs.InnerLaws.{ring-closed, corner-inner}
-use Rattle.tangent.proofs.TableLaws.{seen-below}
 
 -- ---- the lists of an accepted mesh say of it what the mesh says, but for its tags
 module _ {M : IndexedMesh} (a : WellFormed M) where
@@ -91,11 +89,32 @@ module _ {M : IndexedMesh} (a : WellFormed M) (g : ℕ) (l : g < M .faces) (clos
   corner-vertex : (s : ℕ) → s < 4 → InnerVertex (vertexOf (M .indices)) (length (M .indices)) (vertexOf (M .indices) (turn s (4 * g)))
   corner-vertex s b = rw (whole a) (corner-inner a g l closed s b)
 
-  few : (s : ℕ) → s < 4 → valencesIn (M .indices) g s ≤ 16
+  -- the vertex of a corner of the face is not on the boundary, and has from 3 to 16 faces
+  smooth : (s : ℕ) → s < 4 → onBoundary (at M) (corners M) (at M (4 * g + s)) ≡ false
   unfolding faceOpen
-  few s b =
+  smooth s b = any-false _ 4 closed s b
+
+  least : (s : ℕ) → s < 4 → 3 ≤ valencesIn (M .indices) g s
+  least s b =
       let c : 4 * g + s < corners M = omega arith in
-      rw (whole a) (a .inner-high (at M (4 * g + s)) (a .named (4 * g + s) c) (any-false _ 4 closed s b))
+      rw (whole a) (a .inner-low (at M (4 * g + s)) (a .named (4 * g + s) c) (smooth s b))
+
+  most : (s : ℕ) → s < 4 → valencesIn (M .indices) g s ≤ 16
+  most s b =
+      let c : 4 * g + s < corners M = omega arith in
+      rw (whole a) (a .inner-high (at M (4 * g + s)) (a .named (4 * g + s) c) (smooth s b))
+
+  -- corner c is at the vertex of corner s of the face
+  module _ (s c : ℕ) (b : s < 4) (e : vertexOf (M .indices) c ≡ vertexOf (M .indices) (turn s (4 * g))) where
+    counted : valencesIn (M .indices) g s ≡ faces (shapeOf (M .indices)) (vertexOf (M .indices) c)
+    counted = ap (faces (shapeOf (M .indices))) (ap (vertexOf (M .indices)) (sym (corner-is s b)) ∙ sym e)
+
+    inside-here : onBoundary (vertexOf (M .indices)) (length (M .indices)) (vertexOf (M .indices) c) ≡ false
+    inside-here = rw (e, corner-is s b, whole a) (smooth s b)
+
+    weighed : faces (shapeOf (M .indices)) (vertexOf (M .indices) c) ≡ weight (shapeOf (M .indices)) c
+    unfolding weight cornerWeight
+    weighed = rw inside-here
 
   -- ---- the corner vectors
   module _ {twins : List ℕ} (t : Twins (M .indices) twins) where
@@ -105,12 +124,21 @@ module _ {M : IndexedMesh} (a : WellFormed M) (g : ℕ) (l : g < M .faces) (clos
     ring k s c h b m e = record {
       placed = accepted-coordinates a k h;
       twinned = t;
-      counted = ap (faces (shapeOf (M .indices))) (ap (vertexOf (M .indices)) (sym (corner-is s b)) ∙ sym e);
-      few = few s b;
+      counted = counted s c b e;
+      weighed = counted s c b e ∙ weighed s c b e;
+      least = least s b;
+      most = most s b;
       closed = λ i.
           ring-closed (seen (M .positions) (M .indices) k) (accepted-coordinates a k h .corners) (vertexOf (M .indices) (turn s (4 * g)))
           (corner-vertex s b) c i m e .0;
     }
+
+    half-smooth : (s : ℕ) → s < 4 → sharp (shapeOf (M .indices)) (turn s (4 * g)) ≡ false
+    unfolding sharp
+    half-smooth s b = corner-vertex s b .leaving (turn s (4 * g)) (corner-below s b) refl
+
+    next-is : (s : ℕ) → next (turn s (4 * g)) ≡ turn ((s + 1) % 4) (4 * g)
+    next-is s = turn-after s (4 * g) ∙ ap (λ (r : ℕ). turn (r % 4) (4 * g)) (sym (add-one s))
 
     -- the twin of side s begins at the next corner
     module _ (k s : ℕ) (h : k < 3) (b : s < 4) where
@@ -118,13 +146,12 @@ module _ {M : IndexedMesh} (a : WellFormed M) (g : ℕ) (l : g < M .faces) (clos
       half = twinOf (seen (M .positions) (M .indices) k) (turn s (4 * g))
 
       half-below : half < length (M .indices)
-      unfolding sharp
-      half-below = twin-below (shapeOf (M .indices)) (turn s (4 * g)) (corner-vertex s b .leaving (turn s (4 * g)) (corner-below s b) refl)
+      half-below = twin-below (shapeOf (M .indices)) (turn s (4 * g)) (half-smooth s b)
 
       half-at : vertexOf (M .indices) half ≡ vertexOf (M .indices) (turn ((s + 1) % 4) (4 * g))
       half-at =
           twin-ends (vertexOf (M .indices)) (length (M .indices)) (turn s (4 * g)) (accepted-coordinates a k h .corners) half-below .0
-          ∙ ap (vertexOf (M .indices)) (turn-after s (4 * g) ∙ ap (λ (r : ℕ). turn (r % 4) (4 * g)) (sym (add-one s)))
+          ∙ ap (vertexOf (M .indices)) (next-is s)
 
     face-from : (valences : List ℕ) → length valences ≡ 4 → ((s : ℕ) → s < 4 → getD valences s 0 ≡ valencesIn (M .indices) g s)
         → Face (M .positions) (M .indices) twins valences g
@@ -132,40 +159,15 @@ module _ {M : IndexedMesh} (a : WellFormed M) (g : ℕ) (l : g < M .faces) (clos
       listed = omega (arith, whole a);
       twinned = t;
       valences-listed = n;
+      smooth = half-smooth;
       start-ring = λ s k b h. rw (are s b) (ring k s (turn s (4 * g)) h b (corner-below s b) refl);
       end-ring = λ s k b h.
           let c : (s + 1) % 4 < 4 = omega arith in
           rw (are ((s + 1) % 4) c) (ring k ((s + 1) % 4) (half k s h b) h c (half-below k s h b) (half-at k s h b));
+      next-ring = λ s k b h.
+          let c : (s + 1) % 4 < 4 = omega arith in
+          rw (next-is s, are ((s + 1) % 4) c) (ring k ((s + 1) % 4) (turn ((s + 1) % 4) (4 * g)) h c (corner-below ((s + 1) % 4) c) refl);
     }
 
-    -- ---- the control values that no tag tells of
-    number-is : (m k : ℕ) → m < 16 → k < 3 → patchNumber M (48 * g + (3 * m + k)) ≡ controlValue (view M k) (4 * g) m
-    unfolding patchNumber
-    number-is m k b h =
-        let axis : (48 * g + (3 * m + k)) % 3 ≡ k = omega arith in
-        let face : (48 * g + (3 * m + k)) / 48 ≡ g = omega arith in
-        let which : (48 * g + (3 * m + k)) % 48 / 3 ≡ m = omega arith in
-        rw (axis, face, which)
-
-    module _ (d patches : List ℤ) (e : patches ≡ patchesAfter M d) where
-      holds : (m : ℕ) → m < 16 → ((k c : ℕ) → controlValue (seen (M .positions) (M .indices) k) c m ≡ controlValue (view M k) c m)
-          → Point (M .positions) (M .indices) patches g m
-      holds m b same s k c h =
-          let q = seenPoint s m in
-          let n : q < 16 = seen-below s m b in
-          ap (λ (xs : List ℤ). getD xs (48 * g + (3 * q + k)) (pos 0)) e
-          ∙ filled-at (patchNumber M) (48 * M .faces) (48 * g + (3 * q + k)) d (pos 0) (omega arith)
-          ∙ number-is q k n h
-          ∙ sym (value-seen (view M k) s (4 * g) m b)
-          ∙ sym (same k (turn s (4 * g)))
-
-      pub drawn : 48 * M .faces ≤ length d → Drawn (M .positions) (M .indices) twins patches g
-      drawn long = record {
-        listed = omega (arith, whole a);
-        face = face-from;
-        patch-listed = rw (e, length-filled (patchNumber M) (48 * M .faces) d long) (omega arith);
-        near = holds 1 (omega arith) (near-same a);
-        far = holds 2 (omega arith) (far-same a);
-        inner-near = holds 5 (omega arith) (inner-near-same a);
-        inner-far = holds 6 (omega arith) (inner-far-same a);
-      }
+    pub drawn : Drawn (M .positions) (M .indices) twins g
+    drawn = record { listed = omega (arith, whole a); face = face-from }

@@ -1,68 +1,58 @@
 -- The numbers that are written are the tangents: the lists that the code has filled say of each side what its six vectors are made of.
 use native.Mathlib.Numerals.{add-one}
-use mathlib.Core.Path.{_≡_, refl, sym, ap, ap₂, _∙_}
+use mathlib.Core.Path.{_≡_, refl, sym, ap, _∙_}
 use mathlib.Core.List.{List}
-use Prim.Native.Nat.{ℕ, zero, suc, _+_, _-_, _*_, _/_, _%_, _^_, _≤_, _<_}
+use Prim.Native.Nat.{ℕ, zero, suc, _+_, _*_, _/_, _%_, _^_, _≤_, _<_}
 use native.Mathlib.Omega.{arith}
 use lib.IntN.{ℤ, pos, natAbs}
-use lib.ListN.{length, getD, take, drop}
-use lib.Seq.{getD-drop, getD-take}
+use lib.ListN.{length, getD}
 use Rattle.finite.specs.Filled.{listBelow, filled}
-use Rattle.finite.proofs.FilledLaws.{length-listBelow, listBelow-at, length-filled, filled-at, stretch-long}
-use Rattle.integer.proofs.Laws.{abs-neg}
+use Rattle.finite.proofs.FilledLaws.{length-listBelow, listBelow-at, length-filled, filled-at}
 use Rattle.corner.specs.Corner.{turn, next}
 use Rattle.mesh.specs.Tables.{vertexOf}
 use Rattle.cosine.specs.Cosine.{cosine}
+use Rattle.cosine.specs.Weight.{allWeights}
+use Rattle.cosine.specs.declared.model.Weights.{Weights}
 use Rattle.cosine.proofs.CosineLaws.{cosine-size}
 use Rattle.patch.specs.Point.{View, faces}
-use Rattle.patch.specs.Patch.{controlValue}
 use Rattle.patch.specs.Lists.{shapeOf, seen}
-use Rattle.tangent.specs.Vector.{cornerVector, endVector, middleVector, innerVector, cosineAt, startInto, endInto}
+use Rattle.tangent.specs.Vector.{middleVector, innerVector, cosineAt, startInto, endInto}
 use Rattle.tangent.specs.Tangent.{Kind, start, middle, end, inner, startIn, endIn, rowOf, signed, vector, tangent}
-use Rattle.tangent.specs.Lists.{valencesIn, startsIn, endsIn, Ring, Face, seenPoint, Drawn, Known, sideFrom, vectorOf, numberFrom}
+use Rattle.tangent.specs.Lists.{valencesIn, Weighing, Face, partOf, partAt, partsIn, listedPart, sideFrom, Known, vectorOf, numberFrom, Drawn}
 use Rattle.tangent.proofs.SeenLaws.{turn-after}
-use Rattle.tangent.proofs.RingLaws.{corner-size}
-use Rattle.tangent.proofs.TableLaws.{seen-below, row-side-below}
+use Rattle.tangent.proofs.PartLaws.{part-size}
+use Rattle.tangent.proofs.TableLaws.{row-side-below}
 
--- the part of the patches that begins with face g
-abbrev pub partFrom : List ℤ → ℕ → List ℤ
-partFrom patches g = take (length patches - 48 * g) (drop (48 * g) patches)
+pub weighing : (w : Weights) → w ≡ allWeights → Weighing (w .edge) (w .face)
+weighing w e = record { edges = ap (λ (v : Weights). v .edge) e; faces = ap (λ (v : Weights). v .face) e }
 
-module _ {positions : List ℤ} {indices twins : List ℕ} {patches : List ℤ} {g : ℕ} (d : Drawn positions indices twins patches g)
+module _ {positions : List ℤ} {indices twins : List ℕ} {g : ℕ} (d : Drawn positions indices twins g)
     (valences : List ℕ) (counted : valences ≡ listBelow (valencesIn indices g) 4) where
   valence-is : (s : ℕ) → s < 4 → getD valences s 0 ≡ valencesIn indices g s
   valence-is s l = rw counted (listBelow-at (valencesIn indices g) 4 s 0 l)
 
+  pub valences-long : length valences ≡ 4
+  valences-long = rw counted (length-listBelow (valencesIn indices g) 4)
+
   pub face : Face positions indices twins valences g
-  face = d .face valences (rw counted (length-listBelow (valencesIn indices g) 4)) valence-is
+  face = d .face valences valences-long valence-is
 
   -- ---- the filled lists
-  module _ (z y : List ℤ) (starts ends cosines : List ℤ) (long : length z ≡ 12) (long' : length y ≡ 12)
-      (started : starts ≡ filled (startsIn positions indices g) 12 z) (ended : ends ≡ filled (endsIn positions indices g) 12 y)
+  module _ (z parts cosines : List ℤ) (long : length z ≡ 72) (filled-in : parts ≡ filled (partsIn positions indices g) 72 z)
       (turned-in : cosines ≡ listBelow (λ s. cosine (getD valences s 0)) 4) where
-    start-is : (j : ℕ) → j < 12 → getD starts j (pos 0) ≡ startsIn positions indices g j
-    start-is j l = rw started (filled-at (startsIn positions indices g) 12 j z (pos 0) l)
-
-    end-is : (j : ℕ) → j < 12 → getD ends j (pos 0) ≡ endsIn positions indices g j
-    end-is j l = rw ended (filled-at (endsIn positions indices g) 12 j y (pos 0) l)
+    part-at : (j : ℕ) → j < 72 → getD parts j (pos 0) ≡ partsIn positions indices g j
+    part-at j l = rw filled-in (filled-at (partsIn positions indices g) 72 j z (pos 0) l)
 
     cosine-is : (s : ℕ) → s < 4 → getD cosines s (pos 0) ≡ cosine (valencesIn indices g s)
     cosine-is s l = rw turned-in (listBelow-at (λ s. cosine (getD valences s 0)) 4 s (pos 0) l) ∙ ap cosine (valence-is s l)
 
-    end-size : (j : ℕ) → j < 12 → natAbs (endsIn positions indices g j) ≤ 2 ^ 35
-    unfolding endVector
-    end-size j l = rw abs-neg (corner-size (face .end-ring (j / 3) (j % 3) (omega arith) (omega arith)))
-
-    pub known : Known (partFrom patches g) starts ends cosines
+    pub known : Known parts cosines
     known = record {
-      patch-listed = stretch-long (48 * g) 48 patches (d .patch-listed);
-      starts-listed = rw (started, length-filled (startsIn positions indices g) 12 z (omega arith)) long;
-      starts-small = λ j l. rw (start-is j l) (corner-size (face .start-ring (j / 3) (j % 3) (omega arith) (omega arith)));
-      ends-listed = rw (ended, length-filled (endsIn positions indices g) 12 y (omega arith)) long';
-      ends-small = λ j l. rw (end-is j l) (end-size j l);
+      parts-listed = rw (filled-in, length-filled (partsIn positions indices g) 72 z (omega arith)) long;
+      parts-small = λ j l. rw (part-at j l) (part-size face (j % 12 / 3) (j % 3) (omega arith) (omega arith) (partAt (j / 12)));
       cosines-listed = rw turned-in (length-listBelow (λ s. cosine (getD valences s 0)) 4);
       cosines-small = λ s l. rw (cosine-is s l)
-          (cosine-size (valencesIn indices g s) (omega (arith, valence-is s l, face .start-ring s 0 l (omega arith) .few)));
+          (cosine-size (valencesIn indices g s) (omega (arith, valence-is s l, face .start-ring s 0 l (omega arith) .most)));
     }
 
     -- ---- one coordinate of a side
@@ -73,36 +63,12 @@ module _ {positions : List ℤ} {indices twins : List ℕ} {patches : List ℤ} 
       abbrev half : ℕ
       half = turn s (4 * g)
 
-      part-is : (m : ℕ) → m < 16 → getD (partFrom patches g) (3 * seenPoint s m + k) (pos 0) ≡ getD patches (48 * g + (3 * seenPoint s m + k)) (pos 0)
-      part-is m l =
-          let q : 3 * seenPoint s m + k < length patches - 48 * g = omega (arith, seen-below s m l, d .patch-listed) in
-          rw (getD-take, getD-drop)
-
-      near-is : getD (partFrom patches g) (3 * seenPoint s 1 + k) (pos 0) ≡ controlValue S half 1
-      near-is = part-is 1 (omega arith) ∙ d .near s k b h
-
-      far-is : getD (partFrom patches g) (3 * seenPoint s 2 + k) (pos 0) ≡ controlValue S half 2
-      far-is = part-is 2 (omega arith) ∙ d .far s k b h
-
-      inner-near-is : getD (partFrom patches g) (3 * seenPoint s 5 + k) (pos 0) ≡ controlValue S half 5
-      inner-near-is = part-is 5 (omega arith) ∙ d .inner-near s k b h
-
-      inner-far-is : getD (partFrom patches g) (3 * seenPoint s 6 + k) (pos 0) ≡ controlValue S half 6
-      inner-far-is = part-is 6 (omega arith) ∙ d .inner-far s k b h
-
-      axis : (3 * s + k) % 3 ≡ k
-      axis = omega arith
-
-      which : (3 * s + k) / 3 ≡ s
-      which = omega arith
-
-      start-at : getD starts (3 * s + k) (pos 0) ≡ cornerVector S half
-      start-at =
-          start-is (3 * s + k) (omega arith)
-          ∙ ap₂ (λ (i j : ℕ). cornerVector (seen positions indices i) (turn j (4 * g))) axis which
-
-      end-at : getD ends (3 * s + k) (pos 0) ≡ endVector S half
-      end-at = end-is (3 * s + k) (omega arith) ∙ ap₂ (λ (i j : ℕ). endVector (seen positions indices i) (turn j (4 * g))) axis which
+      listed-is : (t : ℕ) → t < 6 → listedPart parts t s k ≡ partOf S half (partAt t)
+      listed-is t l =
+          let axis : (12 * t + (3 * s + k)) % 3 ≡ k = omega arith in
+          let which : (12 * t + (3 * s + k)) % 12 / 3 ≡ s = omega arith in
+          let part : (12 * t + (3 * s + k)) / 12 ≡ t = omega arith in
+          part-at (12 * t + (3 * s + k)) (omega arith) ∙ rw (axis, which, part)
 
       cosine-here : getD cosines s (pos 0) ≡ cosineAt S half
       cosine-here =
@@ -116,16 +82,18 @@ module _ {positions : List ℤ} {indices twins : List ℕ} {patches : List ℤ} 
           let f : turn r (4 * g) ≡ next half = ap (λ (n : ℕ). turn (n % 4) (4 * g)) (add-one s) ∙ sym (turn-after s (4 * g)) in
           cosine-is r (omega arith) ∙ ap (λ (c : ℕ). cosine (faces (shapeOf indices) (vertexOf indices c))) (e ∙ f)
 
-      vector-is : (q : Kind) → vectorOf (sideFrom (partFrom patches g) starts ends cosines s k) q ≡ vector S half q
-      unfolding sideFrom vectorOf vector middleVector innerVector startInto endInto
-      vector-is start = start-at
-      vector-is middle = rw (far-is, near-is)
-      vector-is end = end-at
-      vector-is inner = rw (inner-far-is, inner-near-is)
-      vector-is startIn = rw (cosine-here, cosine-next, start-at, far-is, inner-near-is, near-is)
-      vector-is endIn = rw (cosine-here, cosine-next, end-at, near-is, inner-far-is, far-is)
+      vector-is : (q : Kind) → vectorOf (sideFrom parts cosines s k) q ≡ vector S half q
+      unfolding sideFrom vectorOf vector middleVector innerVector startInto endInto partAt partOf
+      vector-is start = listed-is 0 (omega arith)
+      vector-is middle = rw (listed-is 3 (omega arith), listed-is 2 (omega arith))
+      vector-is end = listed-is 1 (omega arith)
+      vector-is inner = rw (listed-is 5 (omega arith), listed-is 4 (omega arith))
+      vector-is startIn =
+          rw (cosine-here, cosine-next, listed-is 0 (omega arith), listed-is 3 (omega arith), listed-is 4 (omega arith), listed-is 2 (omega arith))
+      vector-is endIn =
+          rw (cosine-here, cosine-next, listed-is 1 (omega arith), listed-is 2 (omega arith), listed-is 5 (omega arith), listed-is 3 (omega arith))
 
-    pub number-is : (i : ℕ) → i < 72 → numberFrom (partFrom patches g) starts ends cosines i ≡ tangent (seen positions indices (i % 3)) (4 * g) (i / 3)
+    pub number-is : (i : ℕ) → i < 72 → numberFrom parts cosines i ≡ tangent (seen positions indices (i % 3)) (4 * g) (i / 3)
     unfolding numberFrom tangent
     number-is i l =
         let r = rowOf (i / 3) in

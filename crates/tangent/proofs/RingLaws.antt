@@ -52,7 +52,7 @@ module _ {positions : List ℤ} {indices twins : List ℕ} {k c n : ℕ} (r : Ri
       ))
 
   pub partial-size : (i : ℕ) → i ≤ n → natAbs (sumBelowℤ (tangentTerm S c) i) ≤ 2 ^ 47
-  partial-size i l = omega (arith, sum-size (2 ^ 43) (tangentTerm S c) i (λ j _. term-size j), r .few)
+  partial-size i l = omega (arith, sum-size (2 ^ 43) (tangentTerm S c) i (λ j _. term-size j), r .most)
 
   -- the twin of the half-edge that enters leads to the next corner
   pub next-turned : (i : ℕ) → twin (vertexOf indices) (length indices) (prev (turned S c i)) ≡ turned S c (i + 1)
@@ -64,6 +64,10 @@ module _ {positions : List ℤ} {indices twins : List ℕ} {k c n : ℕ} (r : Ri
   pub turned-start : turned S c 0 ≡ c
   unfolding iterate
   turned-start = refl
+
+  pub corner-below : c < length indices
+  unfolding iterate
+  corner-below = r .closed 0
 
   pub corner-size : natAbs (cornerVector S c) ≤ 2 ^ 35
   unfolding cornerVector

@@ -16,15 +16,15 @@ use Rattle.tangent.specs.declared.side.Side.{Side}
 pub record Fitting (a : Side) : Type 0 where
   pub start : SFits w64 (a .start)
   pub end : SFits w64 (a .end)
-  pub near : SFits w32 (a .near)
-  pub far : SFits w32 (a .far)
-  pub inner-near : SFits w32 (a .«inner_near»)
-  pub inner-far : SFits w32 (a .«inner_far»)
+  pub near : SFits w64 (a .near)
+  pub far : SFits w64 (a .far)
+  pub inner-near : SFits w64 (a .«inner_near»)
+  pub inner-far : SFits w64 (a .«inner_far»)
   pub start-cosine : SFits w32 (a .«start_cosine»)
   pub end-cosine : SFits w32 (a .«end_cosine»)
 
-pub fitting : (a : Side) → mag (a .start) < 2 ^ hbits w64 → mag (a .end) < 2 ^ hbits w64 → mag (a .near) < 2 ^ hbits w32 → mag (a .far) < 2 ^ hbits w32
-    → mag (a .«inner_near») < 2 ^ hbits w32 → mag (a .«inner_far») < 2 ^ hbits w32 → mag (a .«start_cosine») < 2 ^ hbits w32
+pub fitting : (a : Side) → mag (a .start) < 2 ^ hbits w64 → mag (a .end) < 2 ^ hbits w64 → mag (a .near) < 2 ^ hbits w64 → mag (a .far) < 2 ^ hbits w64
+    → mag (a .«inner_near») < 2 ^ hbits w64 → mag (a .«inner_far») < 2 ^ hbits w64 → mag (a .«start_cosine») < 2 ^ hbits w32
     → mag (a .«end_cosine») < 2 ^ hbits w32 → Fitting a
 fitting a s e n f i j k l = record {
   start = record { sfits = s };
@@ -38,12 +38,15 @@ fitting a s e n f i j k l = record {
 }
 
 -- what the lists say of a side is small where they are
-pub side-sized : {patch starts ends cosines : List ℤ} → Known patch starts ends cosines → (s k : ℕ) → s < 4 → k < 3
-    → Sized (sideFrom patch starts ends cosines s k)
+pub side-sized : {parts cosines : List ℤ} → Known parts cosines → (s k : ℕ) → s < 4 → k < 3 → Sized (sideFrom parts cosines s k)
 unfolding sideFrom
 side-sized w s k l h = record {
-  start = w .starts-small (3 * s + k) (omega arith);
-  end = w .ends-small (3 * s + k) (omega arith);
+  start = w .parts-small (12 * 0 + (3 * s + k)) (omega arith);
+  end = w .parts-small (12 * 1 + (3 * s + k)) (omega arith);
+  near = w .parts-small (12 * 2 + (3 * s + k)) (omega arith);
+  far = w .parts-small (12 * 3 + (3 * s + k)) (omega arith);
+  inner-near = w .parts-small (12 * 4 + (3 * s + k)) (omega arith);
+  inner-far = w .parts-small (12 * 5 + (3 * s + k)) (omega arith);
   start-cosine = w .cosines-small s l;
   end-cosine = w .cosines-small ((s + 1) % 4) (omega arith);
 }

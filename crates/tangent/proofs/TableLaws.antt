@@ -2,8 +2,7 @@
 use mathlib.Core.Path.{_≡_, refl, sym}
 use mathlib.Core.Bool.{Bool, true, false}
 use mathlib.Core.List.{List, [], _∷_}
-use Prim.Native.Nat.{ℕ, zero, suc, _<_}
-use native.Mathlib.Omega.{arith}
+use Prim.Native.Nat.{ℕ, _<_}
 use lib.Dec.{ltb}
 use lib.ListN.{getD}
 use borrow.Author.Tests.{ltb-true}
@@ -12,56 +11,11 @@ use Rattle.finite.specs.Filled.{listBelow}
 use Rattle.finite.proofs.AnyAll.{all-true}
 use Rattle.finite.proofs.FilledLaws.{agree}
 use Rattle.tangent.specs.Tangent.{rowOf}
-use Rattle.tangent.specs.Lists.{nextPoint, seenPoint, kindOf}
+use Rattle.tangent.specs.Lists.{kindOf, partFor, partAt}
+use Rattle.tangent.specs.declared.parts.Part as part
+use Rattle.tangent.specs.declared.parts.Part.the-variants.{AtStart, AtEnd, Near, Far, InnerNear, InnerFar}
 use Rattle.tangent.specs.declared.side.Kind as code
 use Rattle.tangent.specs.declared.side.Kind.the-variants.{Start, Middle, End, Inner, StartIn, EndIn}
-
-next-below : (m : ℕ) → m < 16 → nextPoint m < 16
-next-below m l = omega arith
-
-pub seen-below : (s m : ℕ) → m < 16 → seenPoint s m < 16
-seen-below zero m l = l
-seen-below (suc s) m l = seen-below s (nextPoint m) (next-below m l)
-
--- ---- the points of a side, by side: the edge points near its start and its end, and the inner points behind them
-abbrev pub near : List ℕ
-near = 1 ∷ 7 ∷ 14 ∷ 8 ∷ []
-
-abbrev pub far : List ℕ
-far = 2 ∷ 11 ∷ 13 ∷ 4 ∷ []
-
-abbrev pub innerNear : List ℕ
-innerNear = 5 ∷ 6 ∷ 10 ∷ 9 ∷ []
-
-abbrev pub innerFar : List ℕ
-innerFar = 6 ∷ 10 ∷ 9 ∷ 5 ∷ []
-
--- a list of the numbers of point m, seen from each of the four corners
-abbrev Seen : List ℕ → ℕ → Type 0
-Seen xs m = listBelow (λ s. getD xs s 0) 4 ≡ listBelow (λ s. seenPoint s m) 4
-
-pub near-seen : Seen near 1
-unfolding listBelow
-near-seen = refl
-
-pub far-seen : Seen far 2
-unfolding listBelow
-far-seen = refl
-
-pub inner-near-seen : Seen innerNear 5
-unfolding listBelow
-inner-near-seen = refl
-
-pub inner-far-seen : Seen innerFar 6
-unfolding listBelow
-inner-far-seen = refl
-
-module _ (xs : List ℕ) (m : ℕ) (e : Seen xs m) (s : ℕ) (l : s < 4) where
-  pub point-is : getD xs s 0 ≡ seenPoint s m
-  point-is = agree (λ s. getD xs s 0) (λ s. seenPoint s m) 4 e s l
-
-  pub point-below : m < 16 → getD xs s 0 < 16
-  point-below h = rw point-is (seen-below s m h)
 
 -- ---- the 24 rows
 abbrev pub sides : List ℕ
@@ -98,3 +52,11 @@ kind-is z m l = agree (λ m. kindOf (getD kinds m z)) (λ m. rowOf m .kind) 24 r
 pub reversed-is : (z : Bool) (m : ℕ) → m < 24 → getD reversals m z ≡ rowOf m .reversed
 unfolding rowOf listBelow
 reversed-is z m l = agree (λ m. getD reversals m z) (λ m. rowOf m .reversed) 24 refl m l
+
+-- ---- the six parts
+abbrev pub parts : List part.Part
+parts = AtStart ∷ AtEnd ∷ Near ∷ Far ∷ InnerNear ∷ InnerFar ∷ []
+
+pub part-is : (z : part.Part) (t : ℕ) → t < 6 → partFor (getD parts t z) ≡ partAt t
+unfolding partAt listBelow
+part-is z t l = agree (λ t. partFor (getD parts t z)) partAt 6 refl t l

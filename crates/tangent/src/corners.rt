@@ -1,18 +1,14 @@
-// The corner vectors along the four sides of a face, at both ends of each, and the number of faces at its four corners.
-use crate::ring::corner_vector;
+// How many faces the vertices of the four corners of a face have, and their cosines.
 use corner::wide;
 ghost use mathlib.Core.Path.{_≡_};
-ghost use mathlib.Core.Bool.{Bool};
-ghost use Prim.Native.Nat.{_+_, _*_, _/_, _%_, _≤_, _<_, _^_};
-ghost use lib.IntN.{pos, natAbs};
-ghost use lib.ListN.{length};
+ghost use Prim.Native.Nat.{_+_, _*_, _≤_, _<_};
+ghost use lib.ListN.{length, getD};
 ghost use Rattle.finite.specs.Fold.{indicator};
-ghost use Rattle.finite.specs.Filled.{listBelow, filled};
+ghost use Rattle.finite.specs.Filled.{listBelow};
 ghost use Rattle.mesh.specs.Fan.{valence as valenceOf};
 ghost use Rattle.mesh.specs.Tables.{vertexOf};
 ghost use Rattle.cosine.specs.Cosine.{cosine};
-ghost use Rattle.patch.specs.Lists.{shapeOf};
-ghost use Rattle.tangent.specs.Lists.{valencesIn, startsIn, endsIn, Face};
+ghost use Rattle.tangent.specs.Lists.{valencesIn};
 
 // 1 for true, 0 for false.
 fn one_if(b: bool) -> usize
@@ -56,69 +52,15 @@ pub(crate) fn face_valences(faces: &[u16], g: usize) -> [usize; 4]
     ]
 }
 
-// The start vector of side j / 3 of face g, coordinate j % 3.
-fn start_vector(
-    positions: &[i32],
-    faces: &[u16],
-    twins: &[u16],
-    valences: &[usize],
-    g: usize,
-    j: usize,
-) -> i64
-    requires { ⌜ Face (now positions) (now faces) (now twins) (now valences) g × (j < 12) ⌝ }
-    ensures { λ r. ⌜ r ≡ startsIn (now (positions .entry)) (now (faces .entry)) g j ⌝ }
+// The cosines at four vertices with so many faces.
+pub(crate) fn cosines_of(valences: &[usize]) -> [i32; 4]
+    requires { ⌜ length (now valences) ≡ 4 ⌝ }
+    ensures { λ r. ⌜ r ≡ listBelow (λ s. cosine (getD (now (valences .entry)) s 0)) 4 ⌝ }
 {
-    let s = j / 3;
-    corner_vector(positions, faces, twins, valences[s], j % 3, 4 * g + s)
-}
-
-// The end vector of side j / 3 of face g, coordinate j % 3.
-fn end_vector(
-    positions: &[i32],
-    faces: &[u16],
-    twins: &[u16],
-    valences: &[usize],
-    g: usize,
-    j: usize,
-) -> i64
-    requires { ⌜ Face (now positions) (now faces) (now twins) (now valences) g × (j < 12) ⌝ }
-    ensures { λ r. ⌜ r ≡ endsIn (now (positions .entry)) (now (faces .entry)) g j ⌝ }
-{
-    let s = j / 3;
-    let d = wide(twins[4 * g + s]);
-    -corner_vector(positions, faces, twins, valences[(s + 1) % 4], j % 3, d)
-}
-
-// Writes the start vectors over the first 12 places of the list.
-pub(crate) fn fill_starts(
-    positions: &[i32],
-    faces: &[u16],
-    twins: &[u16],
-    valences: &[usize],
-    g: usize,
-    starts: &mut [i64],
-)
-    requires { ⌜ Face (now positions) (now faces) (now twins) (now valences) g × (12 ≤ length (now starts)) ⌝ }
-    ensures { λ _. ⌜ now (starts .exit) ≡ filled (startsIn (now (positions .entry)) (now (faces .entry)) g) 12 (now (starts .entry)) ⌝ }
-{
-    for j in 0..12 {
-        starts[j] = start_vector(positions, faces, twins, valences, g, j);
-    }
-}
-
-// Writes the end vectors over the first 12 places of the list.
-pub(crate) fn fill_ends(
-    positions: &[i32],
-    faces: &[u16],
-    twins: &[u16],
-    valences: &[usize],
-    g: usize,
-    ends: &mut [i64],
-)
-    requires { ⌜ Face (now positions) (now faces) (now twins) (now valences) g × (12 ≤ length (now ends)) ⌝ }
-    ensures { λ _. ⌜ now (ends .exit) ≡ filled (endsIn (now (positions .entry)) (now (faces .entry)) g) 12 (now (ends .entry)) ⌝ }
-{
-    for j in 0..12 {
-        ends[j] = end_vector(positions, faces, twins, valences, g, j);
-    }
+    [
+        cosine::cosine(valences[0]),
+        cosine::cosine(valences[1]),
+        cosine::cosine(valences[2]),
+        cosine::cosine(valences[3]),
+    ]
 }

@@ -1,6 +1,8 @@
 //! The tangent vectors of a face, for shading.
 mod corners;
 mod fill;
+mod parts;
+mod points;
 mod refusal;
 mod ring;
 mod side;
@@ -34,8 +36,7 @@ pub fn tangents(
         (now (tangents .entry)) r (now (tangents .exit)) ⌝ }
 {
     let mut twins = [0u16; 4 * Mesh::MAX_FACES];
-    let mut patches = [0i32; 48 * Mesh::MAX_FACES];
-    let answer = patch::patches(v, f, positions, tags, faces, &mut twins, &mut patches);
+    let answer = mesh::check(v, f, positions, tags, faces, &mut twins);
     if let Checked::Refused(k) = answer {
         return Outcome::Refused(k);
     }
@@ -43,6 +44,6 @@ pub fn tangents(
     if own != 0 {
         return Outcome::Refused(own);
     }
-    fill_tangents(positions, faces, &twins, &patches, g, tangents);
+    fill_tangents(positions, faces, &twins, g, tangents);
     Outcome::Done
 }

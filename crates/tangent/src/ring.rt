@@ -4,9 +4,9 @@ use corner::next_corner;
 use corner::prev_corner;
 use corner::wide;
 ghost use mathlib.Core.Path.{_≡_};
-ghost use Prim.Native.Nat.{_+_, _*_, _≤_, _<_, _^_};
-ghost use lib.IntN.{ℤ, pos, natAbs, _+ℤ_, _*ℤ_};
-ghost use lib.ListN.{length, getD};
+ghost use Prim.Native.Nat.{_≤_, _<_, _^_};
+ghost use lib.IntN.{natAbs, _+ℤ_, _*ℤ_};
+ghost use lib.ListN.{length};
 ghost use Rattle.finite.specs.Fold.{sumBelowℤ};
 ghost use Rattle.corner.specs.Corner.{next, across, prev};
 ghost use Rattle.limits.specs.Limits.{maxCoordinate};
@@ -15,10 +15,10 @@ ghost use Rattle.cosine.specs.Weight.{edgeWeight, faceWeight};
 ghost use Rattle.patch.specs.Point.{x};
 ghost use Rattle.patch.specs.Lists.{seen, Coordinates};
 ghost use Rattle.tangent.specs.Vector.{tangentTerm, cornerVector};
-ghost use Rattle.tangent.specs.Lists.{Ring};
+ghost use Rattle.tangent.specs.Lists.{Weighing, Ring};
 
 // Coordinate k of the vertex of corner c.
-fn value(positions: &[i32], faces: &[u16], k: usize, c: usize) -> i32
+pub(crate) fn value(positions: &[i32], faces: &[u16], k: usize, c: usize) -> i32
     requires { ⌜ Coordinates (now positions) (now faces) k × (c < length (now faces)) ⌝ }
     ensures { λ r. ⌜ (r ≡ x (seen (now (positions .entry)) (now (faces .entry)) k) c) × (natAbs r ≤ maxCoordinate) ⌝ }
 {
@@ -33,18 +33,39 @@ fn weighted(a: i32, x: i32, b: i32, y: i32) -> i64
     a as i64 * x as i64 + b as i64 * y as i64
 }
 
-// What edge i and face i of a vertex of n faces add, of coordinate k: corner e is that of the edge and of the face.
-fn term(positions: &[i32], faces: &[u16], n: usize, k: usize, e: usize, i: usize) -> i64
+// The far end of the edge of corner e and the vertex across in its face, of coordinate k, with the weights a and b.
+fn pair(positions: &[i32], faces: &[u16], k: usize, e: usize, a: i32, b: i32) -> i64
     requires { ⌜ Coordinates (now positions) (now faces) k × (next e < length (now faces)) × (across e < length (now faces)) ⌝ }
+    requires { ⌜ (natAbs a ≤ 2 ^ 22) × (natAbs b ≤ 2 ^ 22) ⌝ }
+    ensures { λ r. ⌜ (r ≡ a *ℤ x (seen (now (positions .entry)) (now (faces .entry)) k) (next e)
+        +ℤ b *ℤ x (seen (now (positions .entry)) (now (faces .entry)) k) (across e)) × (natAbs r ≤ 2 ^ 43) ⌝ }
+{
+    weighted(
+        a,
+        value(positions, faces, k, next_corner(e)),
+        b,
+        value(positions, faces, k, across_corner(e)),
+    )
+}
+
+// What edge i and face i of a vertex of n faces add, of coordinate k: corner e is that of the edge and of the face.
+fn term(
+    positions: &[i32],
+    faces: &[u16],
+    edge: &[i32],
+    face: &[i32],
+    n: usize,
+    k: usize,
+    e: usize,
+    i: usize,
+) -> i64
+    requires { ⌜ Coordinates (now positions) (now faces) k × (next e < length (now faces)) × (across e < length (now faces)) ⌝ }
+    requires { ⌜ Weighing (now edge) (now face) × (3 ≤ n) × (n ≤ 16) × (i < n) ⌝ }
     ensures { λ r. ⌜ (r ≡ edgeWeight n i *ℤ x (seen (now (positions .entry)) (now (faces .entry)) k) (next e)
         +ℤ faceWeight n i *ℤ x (seen (now (positions .entry)) (now (faces .entry)) k) (across e)) × (natAbs r ≤ 2 ^ 43) ⌝ }
 {
-    weighted(
-        cosine::edge_weight(n, i),
-        value(positions, faces, k, next_corner(e)),
-        cosine::face_weight(n, i),
-        value(positions, faces, k, across_corner(e)),
-    )
+    let at = 16 * (n - 3) + i;
+    pair(positions, faces, k, e, edge[at], face[at])
 }
 
 // The sum of two numbers.
@@ -64,14 +85,23 @@ fn around(twins: &[u16], e: usize) -> usize
 }
 
 // The sum over the n edges and faces of the vertex of corner c, from half-edge c on, of coordinate k.
-fn ring_sum(positions: &[i32], faces: &[u16], twins: &[u16], n: usize, k: usize, c: usize) -> i64
-    requires { ⌜ Ring (now positions) (now faces) (now twins) k c n ⌝ }
+fn ring_sum(
+    positions: &[i32],
+    faces: &[u16],
+    twins: &[u16],
+    edge: &[i32],
+    face: &[i32],
+    n: usize,
+    k: usize,
+    c: usize,
+) -> i64
+    requires { ⌜ Ring (now positions) (now faces) (now twins) k c n × Weighing (now edge) (now face) ⌝ }
     ensures { λ r. ⌜ (r ≡ sumBelowℤ (tangentTerm (seen (now (positions .entry)) (now (faces .entry)) k) c) n) × (natAbs r ≤ 2 ^ 47) ⌝ }
 {
     let mut e = c;
     let mut sum = 0i64;
     for i in 0..n {
-        sum = plus(sum, term(positions, faces, n, k, e, i));
+        sum = plus(sum, term(positions, faces, edge, face, n, k, e, i));
         e = around(twins, e);
     }
     sum
@@ -82,13 +112,15 @@ pub(crate) fn corner_vector(
     positions: &[i32],
     faces: &[u16],
     twins: &[u16],
+    edge: &[i32],
+    face: &[i32],
     n: usize,
     k: usize,
     c: usize,
 ) -> i64
-    requires { ⌜ Ring (now positions) (now faces) (now twins) k c n ⌝ }
+    requires { ⌜ Ring (now positions) (now faces) (now twins) k c n × Weighing (now edge) (now face) ⌝ }
     ensures { λ r. ⌜ r ≡ cornerVector (seen (now (positions .entry)) (now (faces .entry)) k) c ⌝ }
 {
-    let sum = ring_sum(positions, faces, twins, n, k, c);
+    let sum = ring_sum(positions, faces, twins, edge, face, n, k, c);
     integer::round(256 * sum, 1048576)
 }

@@ -20,41 +20,42 @@ pub enum Kind {
 pub struct Side {
     pub start: i64,
     pub end: i64,
-    pub near: i32,
-    pub far: i32,
-    pub inner_near: i32,
-    pub inner_far: i32,
+    pub near: i64,
+    pub far: i64,
+    pub inner_near: i64,
+    pub inner_far: i64,
     pub start_cosine: i32,
     pub end_cosine: i32,
 }
 
 // Three times the difference of two control values.
-fn steps(y: i32, z: i32) -> i64
-    ensures { λ r. ⌜ (r ≡ pos 3 *ℤ (y -ℤ z)) × (natAbs r ≤ 2 ^ 34) ⌝ }
+fn steps(y: i64, z: i64) -> i64
+    requires { ⌜ (natAbs y ≤ 2 ^ 35) × (natAbs z ≤ 2 ^ 35) ⌝ }
+    ensures { λ r. ⌜ (r ≡ pos 3 *ℤ (y -ℤ z)) × (natAbs r ≤ 2 ^ 38) ⌝ }
 {
-    3 * (y as i64 - z as i64)
+    3 * (y - z)
 }
 
 // The cosine term near the start of a side, times 3 * 2^20.
 fn first_term(start: i32, end: i32, u0: i64, u1: i64) -> i64
-    requires { ⌜ (natAbs start ≤ 2 ^ 20) × (natAbs end ≤ 2 ^ 20) × (natAbs u0 ≤ 2 ^ 35) × (natAbs u1 ≤ 2 ^ 35) ⌝ }
-    ensures { λ r. ⌜ (r ≡ firstTerm start end u0 u1) × (natAbs r ≤ 2 ^ 57) ⌝ }
+    requires { ⌜ (natAbs start ≤ 2 ^ 20) × (natAbs end ≤ 2 ^ 20) × (natAbs u0 ≤ 2 ^ 35) × (natAbs u1 ≤ 2 ^ 38) ⌝ }
+    ensures { λ r. ⌜ (r ≡ firstTerm start end u0 u1) × (natAbs r ≤ 2 ^ 60) ⌝ }
 {
     2 * start as i64 * u1 - end as i64 * u0
 }
 
 // The cosine term near the end of a side, times 3 * 2^20.
 fn second_term(start: i32, end: i32, u1: i64, u2: i64) -> i64
-    requires { ⌜ (natAbs start ≤ 2 ^ 20) × (natAbs end ≤ 2 ^ 20) × (natAbs u1 ≤ 2 ^ 35) × (natAbs u2 ≤ 2 ^ 35) ⌝ }
-    ensures { λ r. ⌜ (r ≡ secondTerm start end u1 u2) × (natAbs r ≤ 2 ^ 57) ⌝ }
+    requires { ⌜ (natAbs start ≤ 2 ^ 20) × (natAbs end ≤ 2 ^ 20) × (natAbs u1 ≤ 2 ^ 38) × (natAbs u2 ≤ 2 ^ 35) ⌝ }
+    ensures { λ r. ⌜ (r ≡ secondTerm start end u1 u2) × (natAbs r ≤ 2 ^ 60) ⌝ }
 {
     start as i64 * u2 - 2 * end as i64 * u1
 }
 
 // The vector with this cosine term and this difference, rounded once.
 fn corrected(term: i64, x: i64) -> i64
-    requires { ⌜ (natAbs term ≤ 2 ^ 57) × (natAbs x ≤ 2 ^ 34) ⌝ }
-    ensures { λ r. ⌜ (r ≡ correctedBy term x) × (natAbs r ≤ 2 ^ 58) ⌝ }
+    requires { ⌜ (natAbs term ≤ 2 ^ 60) × (natAbs x ≤ 2 ^ 38) ⌝ }
+    ensures { λ r. ⌜ (r ≡ correctedBy term x) × (natAbs r ≤ 2 ^ 61) ⌝ }
 {
     integer::round(term + 3145728 * x, 3145728)
 }
@@ -62,7 +63,7 @@ fn corrected(term: i64, x: i64) -> i64
 // The vector into the face near the start of the side.
 fn start_into(a: Side) -> i64
     requires { ⌜ Sized a ⌝ }
-    ensures { λ r. ⌜ (r ≡ vectorOf a startIn) × (natAbs r ≤ 2 ^ 58) ⌝ }
+    ensures { λ r. ⌜ (r ≡ vectorOf a startIn) × (natAbs r ≤ 2 ^ 61) ⌝ }
 {
     let term = first_term(a.start_cosine, a.end_cosine, a.start, steps(a.far, a.near));
     corrected(term, steps(a.inner_near, a.near))
@@ -71,7 +72,7 @@ fn start_into(a: Side) -> i64
 // The vector into the face near the end of the side.
 fn end_into(a: Side) -> i64
     requires { ⌜ Sized a ⌝ }
-    ensures { λ r. ⌜ (r ≡ vectorOf a endIn) × (natAbs r ≤ 2 ^ 58) ⌝ }
+    ensures { λ r. ⌜ (r ≡ vectorOf a endIn) × (natAbs r ≤ 2 ^ 61) ⌝ }
 {
     let term = second_term(a.start_cosine, a.end_cosine, steps(a.far, a.near), a.end);
     corrected(term, steps(a.inner_far, a.far))
@@ -80,7 +81,7 @@ fn end_into(a: Side) -> i64
 // A vector of the side.
 pub(crate) fn vector(a: Side, kind: Kind) -> i64
     requires { ⌜ Sized a ⌝ }
-    ensures { λ r. ⌜ (r ≡ vectorOf a (kindOf kind)) × (natAbs r ≤ 2 ^ 58) ⌝ }
+    ensures { λ r. ⌜ (r ≡ vectorOf a (kindOf kind)) × (natAbs r ≤ 2 ^ 61) ⌝ }
 {
     match kind {
         Kind::Start => a.start,

@@ -1,4 +1,4 @@
-// The 72 numbers of a face, from its control values, the corner vectors along its sides, and the cosines at its corners.
+// The 72 numbers of a face, from the parts of its sides and the cosines at its corners.
 use crate::side::Kind;
 use crate::side::Side;
 use crate::side::vector;
@@ -8,7 +8,7 @@ ghost use lib.IntN.{pos, natAbs};
 ghost use lib.ListN.{length, getD};
 ghost use Rattle.finite.specs.Filled.{filled};
 ghost use Rattle.tangent.specs.Tangent.{signed as signedBy};
-ghost use Rattle.tangent.specs.Lists.{Known, sideFrom, numberFrom};
+ghost use Rattle.tangent.specs.Lists.{Known, listedPart, sideFrom, numberFrom};
 
 // The side, the kind and the sense of each of the 24 vectors.
 const SIDES: [u8; 24] = [
@@ -91,35 +91,26 @@ const REVERSED: [bool; 24] = [
     true,
     false,
 ];
-// The edge points near the start and the end of each side, and the inner points near its start and its end.
-const NEAR: [u8; 4] = [1, 7, 14, 8];
-
-const FAR: [u8; 4] = [2, 11, 13, 4];
-
-const INNER_NEAR: [u8; 4] = [5, 6, 10, 9];
-
-const INNER_FAR: [u8; 4] = [6, 10, 9, 5];
-
-// Coordinate k of point m of the patch.
-fn control(patch: &[i32], m: u8, k: usize) -> i32
-    requires { ⌜ (m < 16) × (k < 3) × (48 ≤ length (now patch)) ⌝ }
-    ensures { λ r. ⌜ r ≡ getD (now (patch .entry)) (3 * m + k) (pos 0) ⌝ }
+// Part t of side s, coordinate k.
+fn listed(parts: &[i64], t: usize, s: usize, k: usize) -> i64
+    requires { ⌜ (length (now parts) ≡ 72) × (t < 6) × (s < 4) × (k < 3) ⌝ }
+    ensures { λ r. ⌜ r ≡ listedPart (now (parts .entry)) t s k ⌝ }
 {
-    patch[3 * m as usize + k]
+    parts[12 * t + (3 * s + k)]
 }
 
 // What the lists say of coordinate k of side s.
-fn side_of(patch: &[i32], starts: &[i64], ends: &[i64], cosines: &[i32], s: usize, k: usize) -> Side
-    requires { ⌜ Known (now patch) (now starts) (now ends) (now cosines) × (s < 4) × (k < 3) ⌝ }
-    ensures { λ r. ⌜ r ≡ sideFrom (now (patch .entry)) (now (starts .entry)) (now (ends .entry)) (now (cosines .entry)) s k ⌝ }
+fn side_of(parts: &[i64], cosines: &[i32], s: usize, k: usize) -> Side
+    requires { ⌜ Known (now parts) (now cosines) × (s < 4) × (k < 3) ⌝ }
+    ensures { λ r. ⌜ r ≡ sideFrom (now (parts .entry)) (now (cosines .entry)) s k ⌝ }
 {
     Side {
-        start: starts[3 * s + k],
-        end: ends[3 * s + k],
-        near: control(patch, NEAR[s], k),
-        far: control(patch, FAR[s], k),
-        inner_near: control(patch, INNER_NEAR[s], k),
-        inner_far: control(patch, INNER_FAR[s], k),
+        start: listed(parts, 0, s, k),
+        end: listed(parts, 1, s, k),
+        near: listed(parts, 2, s, k),
+        far: listed(parts, 3, s, k),
+        inner_near: listed(parts, 4, s, k),
+        inner_far: listed(parts, 5, s, k),
         start_cosine: cosines[s],
         end_cosine: cosines[(s + 1) % 4],
     }
@@ -127,36 +118,30 @@ fn side_of(patch: &[i32], starts: &[i64], ends: &[i64], cosines: &[i32], s: usiz
 
 // A number, or its negation.
 fn signed(reversed: bool, z: i64) -> i64
-    requires { ⌜ natAbs z ≤ 2 ^ 58 ⌝ }
+    requires { ⌜ natAbs z ≤ 2 ^ 61 ⌝ }
     ensures { λ r. ⌜ r ≡ signedBy reversed z ⌝ }
 {
     if reversed { -z } else { z }
 }
 
 // Number i of the 72.
-fn number(patch: &[i32], starts: &[i64], ends: &[i64], cosines: &[i32], i: usize) -> i64
-    requires { ⌜ Known (now patch) (now starts) (now ends) (now cosines) × (i < 72) ⌝ }
-    ensures { λ r. ⌜ r ≡ numberFrom (now (patch .entry)) (now (starts .entry)) (now (ends .entry)) (now (cosines .entry)) i ⌝ }
+fn number(parts: &[i64], cosines: &[i32], i: usize) -> i64
+    requires { ⌜ Known (now parts) (now cosines) × (i < 72) ⌝ }
+    ensures { λ r. ⌜ r ≡ numberFrom (now (parts .entry)) (now (cosines .entry)) i ⌝ }
 {
     let m = i / 3;
     let kind = KINDS[m];
-    let side = side_of(patch, starts, ends, cosines, SIDES[m] as usize, i % 3);
+    let side = side_of(parts, cosines, SIDES[m] as usize, i % 3);
     signed(REVERSED[m], vector(side, kind))
 }
 
 // Writes the 72 numbers over the first places of the list.
-pub(crate) fn write_numbers(
-    patch: &[i32],
-    starts: &[i64],
-    ends: &[i64],
-    cosines: &[i32],
-    tangents: &mut [i64],
-)
-    requires { ⌜ Known (now patch) (now starts) (now ends) (now cosines) × (72 ≤ length (now tangents)) ⌝ }
+pub(crate) fn write_numbers(parts: &[i64], cosines: &[i32], tangents: &mut [i64])
+    requires { ⌜ Known (now parts) (now cosines) × (72 ≤ length (now tangents)) ⌝ }
     ensures { λ _. ⌜ now (tangents .exit)
-        ≡ filled (numberFrom (now (patch .entry)) (now (starts .entry)) (now (ends .entry)) (now (cosines .entry))) 72 (now (tangents .entry)) ⌝ }
+        ≡ filled (numberFrom (now (parts .entry)) (now (cosines .entry))) 72 (now (tangents .entry)) ⌝ }
 {
     for i in 0..72 {
-        tangents[i] = number(patch, starts, ends, cosines, i);
+        tangents[i] = number(parts, cosines, i);
     }
 }

@@ -1,5 +1,5 @@
--- `tangents` meets its contract: what the patch call refuses is refused, then what the call finds of its own; where nothing is met, the face has no
--- corner on the boundary, and its numbers are written from the twins and the patches that the patch call left.
+-- `tangents` meets its contract: what the check refuses is refused, then what the call finds of its own; where nothing is met, the face has no
+-- corner on the boundary, and its numbers are written from the twins that the check left.
 use mathlib.Core.Path.{_≡_, refl, sym, ap, _∙_}
 use mathlib.Core.List.{List}
 use Prim.Native.Nat.{ℕ}
@@ -9,12 +9,10 @@ use borrow.Author.Needs.{needs}
 use Rattle.finite.specs.Table.{result}
 use Rattle.limits.specs.declared.model.Mesh.{Mesh}
 use Rattle.mesh.specs.IndexedMesh.{IndexedMesh, indexed}
-use Rattle.mesh.specs.Answer.{checked}
-use Rattle.patch.specs.Answer.{patchAnswer}
+use Rattle.mesh.specs.Answer.{checked, checkAnswer}
 use Rattle.patch.specs.Lists.{Twins}
-use Rattle.patch.proofs.AnswerLaws.{patches-long, result-list, twins-left}
 use Rattle.tangent.proofs.FaceLaws.{drawn}
-use Rattle.tangent.proofs.AnswerLaws.{ownTwins, ownPatches, refused, patch-refused, formed, own-refused, face-below, face-closed, list-long, done}
+use Rattle.tangent.proofs.AnswerLaws.{ownTwins, refused, check-refused, formed, twinned, own-refused, face-below, face-closed, list-long, done}
 use Rattle.tangent.proofs.tangents.Statement.{statement}
 use Rattle.tangent.proofs.tangents.Tie as tie
 
@@ -29,24 +27,24 @@ module _ (s : tie.Start) where
   abbrev face : ℕ
   face = s .args .g
 
--- ---- the patch call has answered
-abbrev start : tie.After-patches2 → tie.Start
-start c = c .before .before .before .before .before
+-- ---- the check has answered
+abbrev start : tie.After-check → tie.Start
+start c = c .before .before .before .before
 
 -- ---- it accepted
 module _ (c : tie.After-enum-told) where
-  abbrev asked : tie.After-patches2
-  asked = c .before .before .before .before
+  abbrev asked : tie.After-check
+  asked = c .before .before .before
 
   abbrev entry : tie.Start
   entry = start asked
 
   -- the counts that it gave
-  accepted : (m : Mesh) × (result m ≡ patchAnswer (mesh entry) ownTwins ownPatches)
-  accepted = (_, sym (ap checked (c .enum-told .given .1)) ∙ asked .patches2 .ensures .answer-is)
+  accepted : (m : Mesh) × (result m ≡ checkAnswer (mesh entry) ownTwins)
+  accepted = (_, sym (ap checked (c .enum-told .given .1)) ∙ asked .check .ensures .answer-is)
 
-  twinned : Twins (mesh entry .indices) (asked .patches2 .last .1 .1 .1 .1 .1 .0)
-  twinned = twins-left (mesh entry) ownTwins ownPatches (accepted .1) _ (asked .patches2 .ensures .twins-are)
+  twins-left : Twins (mesh entry .indices) (asked .check .last .1 .1 .1 .1 .1 .0)
+  twins-left = twinned (mesh entry) (face entry) (lent entry) (accepted .1) _ (asked .check .ensures .twins-are)
 
 -- ---- nothing of its own is met
 module _ (c : tie.Else1) where
@@ -54,24 +52,21 @@ module _ (c : tie.Else1) where
   told = c .before .before .before
 
 -- ---- the answers, in the order of the code
-slice-aggregate-patches : tie.Need-slice-aggregate-patches
-slice-aggregate-patches c = search needs
+slice-aggregate-check : tie.Need-slice-aggregate-check
+slice-aggregate-check c = search needs
 
-slice-aggregate-patches-2 : tie.Need-slice-aggregate-patches-2
-slice-aggregate-patches-2 c = search needs
-
-patches-requires : tie.Need-patches-requires
-patches-requires c κs = search needs
+check-requires : tie.Need-check-requires
+check-requires c κs = tt
 
 enum-known-answer : tie.Need-enum-known-answer
 enum-known-answer c = search needs
 
 returns : tie.Need-returns
 returns c =
-    let k = c .before .before .before .before .before in
+    let k = c .before .before .before .before in
     let s = start k in
     refused (mesh s) (face s) (lent s)
-    (patch-refused (mesh s) (face s) (lent s) (sym (ap checked (c .before .answer .given .1)) ∙ k .patches2 .ensures .answer-is)) _ refl
+    (check-refused (mesh s) (face s) (lent s) (sym (ap checked (c .before .answer .given .1)) ∙ k .check .ensures .answer-is)) _ refl
 
 enum-told : tie.Need-enum-told
 enum-told c = search needs
@@ -82,7 +77,7 @@ slice-aggregate-own-refusal c = search needs
 own-refusal-requires : tie.Need-own-refusal-requires
 own-refusal-requires c κs =
     let k = c .before in
-    (twinned k, formed (mesh (entry k)) (face (entry k)) (lent (entry k)) (accepted k .1) .sized .indices-are)
+    (twins-left k, formed (mesh (entry k)) (face (entry k)) (lent (entry k)) (accepted k .1) .sized .indices-are)
 
 returns-2 : tie.Need-returns-2
 returns-2 c =
@@ -95,21 +90,16 @@ returns-2 c =
 slice-aggregate-fill-tangents : tie.Need-slice-aggregate-fill-tangents
 slice-aggregate-fill-tangents c = search needs
 
-slice-aggregate-fill-tangents-2 : tie.Need-slice-aggregate-fill-tangents-2
-slice-aggregate-fill-tangents-2 c = search needs
-
 fill-tangents-requires : tie.Need-fill-tangents-requires
 fill-tangents-requires c κs =
-    let e = c .before .before .before in
+    let e = c .before .before in
     let o = e .before in
     let k = told e in
     let s = entry k in
     let w = formed (mesh s) (face s) (lent s) (accepted k .1) in
     let ok = o .own-refusal .ensures in (
       drawn w (face s) (face-below (mesh s) (face s) (lent s) (accepted k .1) _ ok (e .if1 .left))
-          (face-closed (mesh s) (face s) (lent s) (accepted k .1) _ ok (e .if1 .left)) (twinned k) ownPatches _
-          (asked k .patches2 .ensures .patches-are ∙ result-list (mesh s) ownTwins ownPatches (accepted k .1))
-          (patches-long (mesh s) ownTwins ownPatches (accepted k .1)),
+          (face-closed (mesh s) (face s) (lent s) (accepted k .1) _ ok (e .if1 .left)) (twins-left k),
       le-of-eq (sym (list-long (mesh s) (face s) (lent s) (accepted k .1) _ ok (e .if1 .left))),
     )
 
@@ -119,7 +109,7 @@ same-length c = search needs
 returns-3 : tie.Need-returns-3
 returns-3 c =
     let f = c .before in
-    let e = f .before .before .before .before in
+    let e = f .before .before .before in
     let k = told e in
     let s = entry k in
     done (mesh s) (face s) (lent s) (accepted k .1) _ (e .before .own-refusal .ensures) (e .if1 .left) _ refl (f .fill-tangents .ensures)
@@ -128,9 +118,8 @@ pub tangents-spec : {M : Type 1} → statement M
 tangents-spec =
     tie.close
     (tie.spec
-    slice-aggregate-patches
-    slice-aggregate-patches-2
-    patches-requires
+    slice-aggregate-check
+    check-requires
     enum-known-answer
     returns
     enum-told
@@ -138,7 +127,6 @@ tangents-spec =
     own-refusal-requires
     returns-2
     slice-aggregate-fill-tangents
-    slice-aggregate-fill-tangents-2
     fill-tangents-requires
     same-length
     returns-3)

@@ -1,76 +1,64 @@
--- `fill_tangents` meets its contract: the lists are filled from the mesh, its twins and its patches, and the numbers are written from them.
-use mathlib.Core.Path.{_≡_, refl, _∙_}
-use mathlib.Core.List.{List}
-use Prim.Native.Nat.{ℕ}
+-- `fill_tangents` meets its contract: the parts of the sides are filled from the mesh and its twins, and the numbers are written from them.
+use mathlib.Core.Path.{refl, _∙_}
 use native.Mathlib.Omega.{arith}
 use borrow.Author.Needs.{needs}
 use Rattle.finite.proofs.FilledLaws.{filled-ext}
-use Rattle.tangent.specs.Lists.{Face, Known}
-use Rattle.tangent.proofs.FillLaws.{partFrom, face, known, number-is}
+use Rattle.tangent.specs.Lists.{Face}
+use Rattle.tangent.proofs.FillLaws.{weighing, valences-long, face, known, number-is}
 use Rattle.tangent.proofs.fill.fill_tangents.Statement.{statement}
 use Rattle.tangent.proofs.fill.fill_tangents.Tie as tie
 
--- ---- all lists are filled
-module _ (c : tie.After-write-numbers-arg2) where
+-- ---- the weights are known
+module _ (c : tie.After-weights) where
   abbrev cosines-at : tie.After-cosines-of
-  cosines-at = c .before .before .before .before .before
-
-  abbrev ends-at : tie.After-fill-ends
-  ends-at = cosines-at .before .before .before
-
-  abbrev starts-at : tie.After-fill-starts
-  starts-at = ends-at .before .before .before .before
+  cosines-at = c .before
 
   abbrev valences-at : tie.After-face-valences
-  valences-at = starts-at .before .before .before
+  valences-at = cosines-at .before .before
 
   abbrev start : tie.Start
   start = valences-at .before .before .before
+
+  whole : Face (start .args .positions .now) (start .args .faces .now) (start .args .twins .now) (valences-at .face-valences .result) (start .args .g)
+  whole = face (start .pre .0) _ (valences-at .face-valences .ensures)
+
+-- ---- the parts are filled
+module _ (c : tie.After-write-numbers-arg) where
+  abbrev filled-at : tie.After-fill-parts
+  filled-at = c .before .before .before .before
+
+  abbrev weights-at : tie.After-weights
+  weights-at = filled-at .before .before .before .before .before .before .before
 
 -- ---- the answers, in the order of the code
 face-valences-requires : tie.Need-face-valences-requires
 face-valences-requires c κs = c .before .before .pre .0 .listed
 
-slice-aggregate-fill-starts : tie.Need-slice-aggregate-fill-starts
-slice-aggregate-fill-starts c = search needs
-
-slice-aggregate-fill-starts-2 : tie.Need-slice-aggregate-fill-starts-2
-slice-aggregate-fill-starts-2 c = search needs
-
-fill-starts-requires : tie.Need-fill-starts-requires
-fill-starts-requires c κs =
-    let v = c .before .before in (face (v .before .before .before .pre .0) _ (v .face-valences .ensures), omega arith)
-
-slice-aggregate-fill-ends : tie.Need-slice-aggregate-fill-ends
-slice-aggregate-fill-ends c = search needs
-
-slice-aggregate-fill-ends-2 : tie.Need-slice-aggregate-fill-ends-2
-slice-aggregate-fill-ends-2 c = search needs
-
-fill-ends-requires : tie.Need-fill-ends-requires
-fill-ends-requires c κs =
-    let v = c .before .before .before .before .before .before in (face (v .before .before .before .pre .0) _ (v .face-valences .ensures), omega arith)
-
 slice-aggregate-cosines-of : tie.Need-slice-aggregate-cosines-of
 slice-aggregate-cosines-of c = search needs
 
 cosines-of-requires : tie.Need-cosines-of-requires
-cosines-of-requires c κs = search needs
+cosines-of-requires c κs =
+    let v = c .before in valences-long (v .before .before .before .pre .0) _ (v .face-valences .ensures)
 
-mul-at : tie.Need-mul-at
-mul-at c = search needs
+weights-requires : tie.Need-weights-requires
+weights-requires c κs = tt
 
-mul-write-numbers : tie.Need-mul-write-numbers
-mul-write-numbers c = search needs
+slice-aggregate-fill-parts : tie.Need-slice-aggregate-fill-parts
+slice-aggregate-fill-parts c = search needs
 
-sub-write-numbers : tie.Need-sub-write-numbers
-sub-write-numbers c = search needs
+slice-aggregate-fill-parts-2 : tie.Need-slice-aggregate-fill-parts-2
+slice-aggregate-fill-parts-2 c = search needs
 
-part-write-numbers-start : tie.Need-part-write-numbers-start
-part-write-numbers-start c = search needs
+slice-aggregate-fill-parts-3 : tie.Need-slice-aggregate-fill-parts-3
+slice-aggregate-fill-parts-3 c = search needs
 
-part-write-numbers-end : tie.Need-part-write-numbers-end
-part-write-numbers-end c = search needs
+slice-aggregate-fill-parts-4 : tie.Need-slice-aggregate-fill-parts-4
+slice-aggregate-fill-parts-4 c = search needs
+
+fill-parts-requires : tie.Need-fill-parts-requires
+fill-parts-requires c κs =
+    let w = c .before .before .before .before .before .before in (whole w, weighing _ (w .weights .ensures), omega arith)
 
 slice-aggregate-write-numbers : tie.Need-slice-aggregate-write-numbers
 slice-aggregate-write-numbers c = search needs
@@ -78,49 +66,42 @@ slice-aggregate-write-numbers c = search needs
 slice-aggregate-write-numbers-2 : tie.Need-slice-aggregate-write-numbers-2
 slice-aggregate-write-numbers-2 c = search needs
 
-slice-aggregate-write-numbers-3 : tie.Need-slice-aggregate-write-numbers-3
-slice-aggregate-write-numbers-3 c = search needs
-
 write-numbers-requires : tie.Need-write-numbers-requires
-write-numbers-requires c κs = (
-  known (start c .pre .0) _ (valences-at c .face-valences .ensures) _ _ _ _ _ refl refl
-      (starts-at c .fill-starts .ensures) (ends-at c .fill-ends .ensures) (cosines-at c .cosines-of .ensures),
-  start c .pre .1,
-)
+write-numbers-requires c κs =
+    let w = weights-at c in (
+      known (start w .pre .0) _ (valences-at w .face-valences .ensures) _ _ _ refl (filled-at c .fill-parts .ensures)
+          (cosines-at w .cosines-of .ensures),
+      start w .pre .1,
+    )
 
 same-length : tie.Need-same-length
 same-length c = search needs
 
 returns : tie.Need-returns
 returns c =
-    let w = c .before in
-    let a = w .before in
-    w .write-numbers .ensures
-    ∙ filled-ext 72 (start a .args .tangents .now)
-    (number-is (start a .pre .0) _ (valences-at a .face-valences .ensures) _ _ _ _ _ refl refl
-    (starts-at a .fill-starts .ensures) (ends-at a .fill-ends .ensures) (cosines-at a .cosines-of .ensures))
+    let n = c .before in
+    let a = n .before in
+    let w = weights-at a in
+    n .write-numbers .ensures
+    ∙ filled-ext 72 (start w .args .tangents .now)
+    (number-is (start w .pre .0) _ (valences-at w .face-valences .ensures) _ _ _ refl (filled-at a .fill-parts .ensures)
+    (cosines-at w .cosines-of .ensures))
 
 pub fill-tangents-spec : {M : Type 1} → statement M
 fill-tangents-spec =
     tie.close
     (tie.spec
     face-valences-requires
-    slice-aggregate-fill-starts
-    slice-aggregate-fill-starts-2
-    fill-starts-requires
-    slice-aggregate-fill-ends
-    slice-aggregate-fill-ends-2
-    fill-ends-requires
     slice-aggregate-cosines-of
     cosines-of-requires
-    mul-at
-    mul-write-numbers
-    sub-write-numbers
-    part-write-numbers-start
-    part-write-numbers-end
+    weights-requires
+    slice-aggregate-fill-parts
+    slice-aggregate-fill-parts-2
+    slice-aggregate-fill-parts-3
+    slice-aggregate-fill-parts-4
+    fill-parts-requires
     slice-aggregate-write-numbers
     slice-aggregate-write-numbers-2
-    slice-aggregate-write-numbers-3
     write-numbers-requires
     same-length
     returns)

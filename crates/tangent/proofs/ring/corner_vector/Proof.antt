@@ -29,7 +29,7 @@ module _ (c : tie.After-ring-sum) where
   S = seen (start .args .positions .now) (start .args .faces .now) (start .args .k)
 
   sum-is : c .ring-sum .result ≡ sumBelowℤ (tangentTerm S (start .args .c)) (facesAt S (start .args .c))
-  sum-is = c .ring-sum .ensures .0 ∙ ap (sumBelowℤ (tangentTerm S (start .args .c))) (start .pre .counted)
+  sum-is = c .ring-sum .ensures .0 ∙ ap (sumBelowℤ (tangentTerm S (start .args .c))) (start .pre .0 .counted)
 
 -- ---- the answers, in the order of the code
 ring-sum-requires : tie.Need-ring-sum-requires

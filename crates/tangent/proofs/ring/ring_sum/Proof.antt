@@ -22,11 +22,11 @@ use Rattle.tangent.proofs.ring.ring_sum.Statement.{statement}
 use Rattle.tangent.proofs.ring.ring_sum.Tie as tie
 
 abbrev Inv-loop : tie.InvT-loop
-Inv-loop positions faces twins n k c e₀ sum₀ i₀ e sum i =
+Inv-loop positions faces twins edge face n k c e₀ sum₀ i₀ e sum i =
     (i ≤ n) × (e ≡ turned (seen positions faces k) c i) × (sum ≡ ofZ w64 (sumBelowℤ (tangentTerm (seen positions faces k) c) i))
 
 abbrev μ-loop : tie.MeasureT-loop
-μ-loop positions faces twins n k c e₀ sum₀ i₀ e sum i = n - i
+μ-loop positions faces twins edge face n k c e₀ sum₀ i₀ e sum i = n - i
 
 -- ---- at the loop's head: what the function was given, and the sum so far
 module _ (l : tie.At-loop Inv-loop μ-loop) where
@@ -43,7 +43,7 @@ module _ (l : tie.At-loop Inv-loop μ-loop) where
   partial = sumBelowℤ (tangentTerm S (given .args .c)) i
 
   size : natAbs partial ≤ 2 ^ 47
-  size = partial-size (given .pre) i (l .loop .inv .0)
+  size = partial-size (given .pre .0) i (l .loop .inv .0)
 
   sum-is : toZ w64 (l .loop .sum) ≡ partial
   sum-is = ap (toZ w64) (l .loop .inv .2) ∙ toZ-ofZ (sfits-abs partial (omega (arith, size)))
@@ -56,17 +56,17 @@ module _ (c : tie.After-term Inv-loop μ-loop) where
   added : toZ w64 (ofZ w64 (c .term .result)) ≡ tangentTerm (S head) (given head .args .c) (i head)
   added =
       read-back w64 (c .term .ok)
-      (rw (head .loop .inv .1) at (c .term .ensures .0) ∙ term-is (given head .pre) (i head))
+      (rw (head .loop .inv .1) at (c .term .ensures .0) ∙ term-is (given head .pre .0) (i head))
 
 -- ---- the answers, in the order of the code
 loop-holds : tie.Need-loop-holds Inv-loop μ-loop
-loop-holds c = (omega arith, sym (turned-start (c .before .before .pre)), ap (ofZ w64) (sym (fold-zero (pos 0) _+ℤ_ _)))
+loop-holds c = (omega arith, sym (turned-start (c .before .before .pre .0)), ap (ofZ w64) (sym (fold-zero (pos 0) _+ℤ_ _)))
 
 term-requires : tie.Need-term-requires Inv-loop μ-loop
 term-requires c κs =
     let h = c .before in
-    let r = given h .pre in
-    rw (h .loop .inv .1) (r .placed, reached r (i h) 1, reached r (i h) 2)
+    let r = given h .pre .0 in
+    (rw (h .loop .inv .1) (r .placed, reached r (i h) 1, reached r (i h) 2), (given h .pre .1, r .least, r .most, c .loop-test .taken))
 
 plus-requires : tie.Need-plus-requires Inv-loop μ-loop
 plus-requires c κs = (rw (sum-is (head c)) (size (head c)), rw (read-back w64 (c .term .ok) refl) (omega (arith, c .term .ensures .1)))
@@ -74,7 +74,7 @@ plus-requires c κs = (rw (sum-is (head c)) (size (head c)), rw (read-back w64 (
 around-requires : tie.Need-around-requires Inv-loop μ-loop
 around-requires c κs =
     let h = head (c .before) in
-    let r = given h .pre in
+    let r = given h .pre .0 in
     rw (h .loop .inv .1) (omega (arith, reached r (i h) 3, r .twinned .listed))
 
 add-i : tie.Need-add-i Inv-loop μ-loop
@@ -87,7 +87,7 @@ loop-again : tie.Need-loop-again Inv-loop μ-loop
 loop-again c =
     let d = c .before .before in
     let h = head d in
-    let r = given h .pre in (
+    let r = given h .pre .0 in (
       omega arith,
       c .around .ensures
           ∙ ap (λ (e : ℕ). twinOf (given h .args .twins .now) (prev e)) (h .loop .inv .1)

@@ -1,102 +1,101 @@
--- `term` meets its contract: the two weights are read and the two coordinates are looked up, and all four are small.
+-- `term` meets its contract: the two weights of n and i stand at one place of their lists.
 use mathlib.Core.Path.{_≡_, refl, ap, ap₂, _∙_}
-use Prim.Native.Nat.{ℕ, _<_}
-use lib.IntN.{ℤ, _+ℤ_, _*ℤ_}
-use lib.ListN.{length}
+use Prim.Native.Nat.{ℕ, _+_, _-_, _*_, _<_}
+use native.Mathlib.Omega.{arith}
+use lib.IntN.{ℤ, pos, _+ℤ_, _*ℤ_}
+use lib.ListN.{length, getD}
 use mir.Syntax.{w32, w64}
 use mir.Val.{toZ, ofZ}
+use mir.Facts.{toZ-ofZ}
 use Rattle.integer.proofs.Laws.{read-back}
 use Rattle.corner.specs.Corner.{next, across}
-use Rattle.cosine.specs.Weight.{edgeWeight, faceWeight}
+use Rattle.cosine.specs.Weight.{edgeNumerator, faceNumerator, edgeWeight, faceWeight, place}
+use Rattle.cosine.proofs.WeightLaws.{Weighed, place-below, all-length, at-place}
 use Rattle.cosine.proofs.WeightSize.{edge-weight-size, face-weight-size}
 use Rattle.patch.specs.Point.{View, x}
 use Rattle.patch.specs.Lists.{seen}
 use Rattle.tangent.proofs.ring.term.Statement.{statement}
 use Rattle.tangent.proofs.ring.term.Tie as tie
 
--- ---- all four numbers are known
-module _ (c : tie.After-value2) where
-  abbrev across-at : tie.After-across-corner
-  across-at = c .before
+-- ---- at the start: the place of the weights
+module _ (s : tie.Start) where
+  weighed : Weighed (s .args .n) (s .args .i)
+  weighed = record { least = s .pre .1 .1; most = s .pre .1 .2; place = s .pre .1 .3 }
 
-  abbrev face-at : tie.After-face-weight
-  face-at = across-at .before
+  below : place (s .args .n) (s .args .i) < 224
+  below = place-below (s .args .n) (s .args .i) weighed
 
-  abbrev value-at : tie.After-value
-  value-at = face-at .before
+  edge-is : getD (s .args .edge .now) (place (s .args .n) (s .args .i)) (pos 0) ≡ edgeWeight (s .args .n) (s .args .i)
+  edge-is = rw (s .pre .1 .0 .edges) (at-place edgeNumerator (s .args .n) (s .args .i) weighed)
 
-  abbrev next-at : tie.After-next-corner
-  next-at = value-at .before
+  face-is : getD (s .args .face .now) (place (s .args .n) (s .args .i)) (pos 0) ≡ faceWeight (s .args .n) (s .args .i)
+  face-is = rw (s .pre .1 .0 .faces) (at-place faceNumerator (s .args .n) (s .args .i) weighed)
 
-  abbrev edge-at : tie.After-edge-weight
-  edge-at = next-at .before
+  edge-long : length (s .args .edge .now) ≡ 224
+  edge-long = rw (s .pre .1 .0 .edges) (all-length edgeNumerator)
 
+  face-long : length (s .args .face .now) ≡ 224
+  face-long = rw (s .pre .1 .0 .faces) (all-length faceNumerator)
+
+-- ---- both weights are read
+module _ (c : tie.After-pair-arg2) where
   abbrev start : tie.Start
-  start = edge-at .before .before
+  start = c .before .before .before
 
-  abbrev S : View
-  S = seen (start .args .positions .now) (start .args .faces .now) (start .args .k)
+  a-is : toZ w32 (ofZ w32 (getD (start .args .edge .now) (place (start .args .n) (start .args .i)) (pos 0))) ≡ edgeWeight (start .args .n) (start .args .i)
+  a-is = toZ-ofZ (record { sfits = c .before .pair-arg .given }) ∙ edge-is start
 
-  a-is : toZ w32 (ofZ w32 (edge-at .edge-weight .result)) ≡ edgeWeight (start .args .n) (start .args .i)
-  a-is = read-back w32 (edge-at .edge-weight .ok) (edge-at .edge-weight .ensures)
-
-  x-is : toZ w32 (ofZ w32 (value-at .value .result)) ≡ x S (next (start .args .e))
-  x-is = read-back w32 (value-at .value .ok) (value-at .value .ensures .0 ∙ ap (x S) (next-at .next-corner .ensures))
-
-  b-is : toZ w32 (ofZ w32 (face-at .face-weight .result)) ≡ faceWeight (start .args .n) (start .args .i)
-  b-is = read-back w32 (face-at .face-weight .ok) (face-at .face-weight .ensures)
-
-  y-is : toZ w32 (ofZ w32 (c .value2 .result)) ≡ x S (across (start .args .e))
-  y-is = read-back w32 (c .value2 .ok) (c .value2 .ensures .0 ∙ ap (x S) (across-at .across-corner .ensures))
+  b-is : toZ w32 (ofZ w32 (getD (start .args .face .now) (place (start .args .n) (start .args .i)) (pos 0))) ≡ faceWeight (start .args .n) (start .args .i)
+  b-is = toZ-ofZ (record { sfits = c .pair-arg2 .given }) ∙ face-is start
 
 -- ---- the answers, in the order of the code
-edge-weight-requires : tie.Need-edge-weight-requires
-edge-weight-requires c κs = tt
+sub-at : tie.Need-sub-at
+sub-at c = omega (arith, c .before .pre .1 .1)
 
-next-corner-requires : tie.Need-next-corner-requires
-next-corner-requires c κs = tt
+mul-at : tie.Need-mul-at
+mul-at c = omega (arith, c .before .pre .1 .2)
 
-value-requires : tie.Need-value-requires
-value-requires c κs = let s = c .before .before .before in (s .pre .0, rw (c .next-corner .ensures) (s .pre .1))
+add-at : tie.Need-add-at
+add-at c = omega (arith, below (c .before))
 
-face-weight-requires : tie.Need-face-weight-requires
-face-weight-requires c κs = tt
+mul-pair : tie.Need-mul-pair
+mul-pair c = omega (arith, below (c .before))
 
-across-corner-requires : tie.Need-across-corner-requires
-across-corner-requires c κs = tt
+shared-slice-copy-out-pair : tie.Need-shared-slice-copy-out-pair
+shared-slice-copy-out-pair c = omega (arith, below (c .before), edge-long (c .before))
 
-value-requires-2 : tie.Need-value-requires-2
-value-requires-2 c κs =
-    let s = c .before .before .before .before .before .before in (s .pre .0, rw (c .across-corner .ensures) (s .pre .2))
+mul-pair-2 : tie.Need-mul-pair-2
+mul-pair-2 c = omega (arith, below (c .before .before))
 
-weighted-requires : tie.Need-weighted-requires
-weighted-requires c κs =
+shared-slice-copy-out-pair-2 : tie.Need-shared-slice-copy-out-pair-2
+shared-slice-copy-out-pair-2 c = omega (arith, below (c .before .before), face-long (c .before .before))
+
+pair-requires : tie.Need-pair-requires
+pair-requires c κs =
     let s = start c in
-    let small = s .pre .0 .small in (
-      rw (a-is c) (edge-weight-size (s .args .n) (s .args .i)),
-      rw (x-is c) (small (next (s .args .e)) (s .pre .1)),
-      rw (b-is c) (face-weight-size (s .args .n) (s .args .i)),
-      rw (y-is c) (small (across (s .args .e)) (s .pre .2)),
-    )
+    (s .pre .0, (rw (a-is c) (edge-weight-size (s .args .n) (s .args .i)), rw (b-is c) (face-weight-size (s .args .n) (s .args .i))))
 
 returns : tie.Need-returns
 returns c =
-    let v = c .before in
-    let is = read-back w64 (c .weighted .ok)
-    (c .weighted .ensures .0 ∙ ap₂ _+ℤ_ (ap₂ _*ℤ_ (a-is v) (x-is v)) (ap₂ _*ℤ_ (b-is v) (y-is v))) in (
-      is,
-      rw (read-back w64 (c .weighted .ok) refl) (c .weighted .ensures .1),
+    let d = c .before in
+    let s = start d in
+    let S : View = seen (s .args .positions .now) (s .args .faces .now) (s .args .k) in (
+      read-back w64 (c .pair .ok)
+          (c .pair .ensures .0
+          ∙ ap₂ (λ (a b : ℤ). a *ℤ x S (next (s .args .e)) +ℤ b *ℤ x S (across (s .args .e))) (a-is d) (b-is d)),
+      rw (read-back w64 (c .pair .ok) refl) (c .pair .ensures .1),
     )
 
 pub term-spec : {M : Type 1} → statement M
 term-spec =
     tie.close
     (tie.spec
-    edge-weight-requires
-    next-corner-requires
-    value-requires
-    face-weight-requires
-    across-corner-requires
-    value-requires-2
-    weighted-requires
+    sub-at
+    mul-at
+    add-at
+    mul-pair
+    shared-slice-copy-out-pair
+    mul-pair-2
+    shared-slice-copy-out-pair-2
+    pair-requires
     returns)

@@ -1,4 +1,4 @@
--- `corrected` meets its contract: what is rounded is below 2^58 in size, and rounding does not make it larger.
+-- `corrected` meets its contract: what is rounded is below 2^61 in size, and rounding does not make it larger.
 use mathlib.Core.Path.{_≡_, refl, ap, _∙_}
 use Prim.Native.Nat.{_^_, _≤_}
 use native.Mathlib.Omega.{arith}
@@ -15,16 +15,16 @@ use Rattle.tangent.proofs.side.corrected.Tie as tie
 
 module _ (s : tie.Start) where
   abbrev multiple : Term
-  multiple = times 3145728 (wide (s .args .x) (2 ^ 34))
+  multiple = times 3145728 (wide (s .args .x) (2 ^ 38))
 
   abbrev num : Term
-  num = wide (s .args .term) (2 ^ 57) ⊞ multiple
+  num = wide (s .args .term) (2 ^ 60) ⊞ multiple
 
   ranged : Ranged num
   ranged = s .pre
 
-  rounded-size : natAbs (corrected (s .args .term) (s .args .x)) ≤ 2 ^ 58
-  rounded-size = nearest-bounded _ correctedDivisor (2 ^ 58) (omega arith) (omega (arith, size num ranged))
+  rounded-size : natAbs (corrected (s .args .term) (s .args .x)) ≤ 2 ^ 61
+  rounded-size = nearest-bounded _ correctedDivisor (2 ^ 61) (omega arith) (omega (arith, size num ranged))
 
 mul-round : tie.Need-mul-round
 mul-round s = fits (multiple s) (ranged s .1) refl

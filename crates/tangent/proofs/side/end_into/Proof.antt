@@ -49,7 +49,8 @@ module _ (c : tie.After-second-term) where
 
 -- ---- the answers, in the order of the code
 steps-requires : tie.Need-steps-requires
-steps-requires c κs = tt
+steps-requires c κs =
+    let s = c .before .before in (rw (toZ-ofZ (whole s .far)) (s .pre .far), rw (toZ-ofZ (whole s .near)) (s .pre .near))
 
 second-term-requires : tie.Need-second-term-requires
 second-term-requires c κs =
@@ -62,7 +63,8 @@ second-term-requires c κs =
     )
 
 steps-requires-2 : tie.Need-steps-requires-2
-steps-requires-2 c κs = tt
+steps-requires-2 c κs =
+    let s = entry (c .before .before) in (rw (toZ-ofZ (whole s .inner-far)) (s .pre .inner-far), rw (toZ-ofZ (whole s .far)) (s .pre .far))
 
 corrected-requires : tie.Need-corrected-requires
 corrected-requires c κs =

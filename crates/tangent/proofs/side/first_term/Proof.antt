@@ -1,4 +1,4 @@
--- `first_term` meets its contract: cosines of at most 2^20 and vectors of at most 2^35 in size leave every product below 2^57.
+-- `first_term` meets its contract: cosines of at most 2^20 and vectors of at most 2^38 in size leave every product below 2^60.
 use mathlib.Core.Path.{refl}
 use Prim.Native.Nat.{_^_}
 use native.Mathlib.Omega.{arith}
@@ -14,7 +14,7 @@ module _ (s : tie.Start) where
   end = narrow (s .args .end) (2 ^ 20)
 
   abbrev left : Term
-  left = times 2 start ⊠ wide (s .args .u1) (2 ^ 35)
+  left = times 2 start ⊠ wide (s .args .u1) (2 ^ 38)
 
   abbrev right : Term
   right = end ⊠ wide (s .args .u0) (2 ^ 35)

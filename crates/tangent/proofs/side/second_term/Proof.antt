@@ -1,4 +1,4 @@
--- `second_term` meets its contract: cosines of at most 2^20 and vectors of at most 2^35 in size leave every product below 2^57.
+-- `second_term` meets its contract: cosines of at most 2^20 and vectors of at most 2^38 in size leave every product below 2^60.
 use mathlib.Core.Path.{refl}
 use Prim.Native.Nat.{_^_}
 use native.Mathlib.Omega.{arith}
@@ -17,7 +17,7 @@ module _ (s : tie.Start) where
   left = start ⊠ wide (s .args .u2) (2 ^ 35)
 
   abbrev right : Term
-  right = times 2 end ⊠ wide (s .args .u1) (2 ^ 35)
+  right = times 2 end ⊠ wide (s .args .u1) (2 ^ 38)
 
   start-ranged : Ranged start
   start-ranged = (s .fits .start, s .pre .0)

@@ -49,7 +49,8 @@ module _ (c : tie.After-first-term) where
 
 -- ---- the answers, in the order of the code
 steps-requires : tie.Need-steps-requires
-steps-requires c κs = tt
+steps-requires c κs =
+    let s = c .before .before in (rw (toZ-ofZ (whole s .far)) (s .pre .far), rw (toZ-ofZ (whole s .near)) (s .pre .near))
 
 first-term-requires : tie.Need-first-term-requires
 first-term-requires c κs =
@@ -62,7 +63,8 @@ first-term-requires c κs =
     )
 
 steps-requires-2 : tie.Need-steps-requires-2
-steps-requires-2 c κs = tt
+steps-requires-2 c κs =
+    let s = entry (c .before .before) in (rw (toZ-ofZ (whole s .inner-near)) (s .pre .inner-near), rw (toZ-ofZ (whole s .near)) (s .pre .near))
 
 corrected-requires : tie.Need-corrected-requires
 corrected-requires c κs =

@@ -25,7 +25,8 @@ enum-told-2 : tie.Need-enum-told-2
 enum-told-2 c = search needs
 
 steps-requires : tie.Need-steps-requires
-steps-requires c κs = tt
+steps-requires c κs =
+    let s = c .before .before .before .before in (rw (toZ-ofZ (whole s .far)) (s .pre .far), rw (toZ-ofZ (whole s .near)) (s .pre .near))
 
 enum-told-3 : tie.Need-enum-told-3
 enum-told-3 c = search needs
@@ -34,7 +35,9 @@ enum-told-4 : tie.Need-enum-told-4
 enum-told-4 c = search needs
 
 steps-requires-2 : tie.Need-steps-requires-2
-steps-requires-2 c κs = tt
+steps-requires-2 c κs =
+    let s = c .before .before .before .before in
+    (rw (toZ-ofZ (whole s .inner-far)) (s .pre .inner-far), rw (toZ-ofZ (whole s .inner-near)) (s .pre .inner-near))
 
 enum-told-5 : tie.Need-enum-told-5
 enum-told-5 c = search needs

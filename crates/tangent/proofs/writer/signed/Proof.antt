@@ -1,4 +1,4 @@
--- `signed` meets its contract: a number of at most 2^58 in size has a negation.
+-- `signed` meets its contract: a number of at most 2^61 in size has a negation.
 use mathlib.Core.Path.{_≡_, ap, _∙_}
 use native.Mathlib.Omega.{arith}
 use lib.IntN.{ℤ, pos, negℤ, _-ℤ_}

@@ -12,11 +12,11 @@ use Rattle.tangent.proofs.writer.write_numbers.Statement.{statement}
 use Rattle.tangent.proofs.writer.write_numbers.Tie as tie
 
 abbrev Inv-loop : tie.InvT-loop
-Inv-loop patch starts ends cosines tangents₀ i₀ tangents i =
-    (i ≤ 72) × (length tangents ≡ length tangents₀) × (tangents ≡ filled (numberFrom patch starts ends cosines) i tangents₀)
+Inv-loop parts cosines tangents₀ i₀ tangents i =
+    (i ≤ 72) × (length tangents ≡ length tangents₀) × (tangents ≡ filled (numberFrom parts cosines) i tangents₀)
 
 abbrev μ-loop : tie.MeasureT-loop
-μ-loop patch starts ends cosines tangents₀ i₀ tangents i = 72 - i
+μ-loop parts cosines tangents₀ i₀ tangents i = 72 - i
 
 -- the loop's head, from past the call
 abbrev head : tie.After-number Inv-loop μ-loop → tie.At-loop Inv-loop μ-loop
@@ -28,8 +28,8 @@ loop-holds c = (omega arith, refl, filled-start _ _)
 number-requires : tie.Need-number-requires Inv-loop μ-loop
 number-requires c κs = (c .before .before .pre .0, omega arith)
 
-mul-t9 : tie.Need-mul-t9 Inv-loop μ-loop
-mul-t9 c = omega arith
+mul-t7 : tie.Need-mul-t7 Inv-loop μ-loop
+mul-t7 c = omega arith
 
 slice-set-from-tangents : tie.Need-slice-set-from-tangents Inv-loop μ-loop
 slice-set-from-tangents c = omega (arith, head c .loop .inv .1, head c .before .pre .1)
@@ -66,7 +66,7 @@ write-numbers-spec =
     μ-loop
     loop-holds
     number-requires
-    mul-t9
+    mul-t7
     slice-set-from-tangents
     add-i
     loop-less

@@ -4,8 +4,8 @@ use mir.Syntax.{w32}
 use Rattle.integer.proofs.Laws.{read-back}
 use Rattle.cosine.proofs.UniqueLaws.{entry-is}
 use Rattle.tangent.proofs.SideLaws.{list-of-four}
-use Rattle.tangent.proofs.fill.cosines_of.Statement.{statement}
-use Rattle.tangent.proofs.fill.cosines_of.Tie as tie
+use Rattle.tangent.proofs.corners.cosines_of.Statement.{statement}
+use Rattle.tangent.proofs.corners.cosines_of.Tie as tie
 
 shared-slice-read-cosine : tie.Need-shared-slice-read-cosine
 shared-slice-read-cosine c = omega (arith, c .before .before .pre)

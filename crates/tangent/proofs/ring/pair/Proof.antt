@@ -1,0 +1,82 @@
+-- `pair` meets its contract: the two coordinates are looked up, and all four numbers are small.
+use mathlib.Core.Path.{_≡_, refl, ap, ap₂, _∙_}
+use lib.IntN.{_+ℤ_, _*ℤ_}
+use mir.Syntax.{w32, w64}
+use mir.Val.{toZ, ofZ}
+use mir.Facts.{toZ-ofZ}
+use Rattle.integer.proofs.Laws.{read-back}
+use Rattle.corner.specs.Corner.{next, across}
+use Rattle.patch.specs.Point.{View, x}
+use Rattle.patch.specs.Lists.{seen}
+use Rattle.tangent.proofs.ring.pair.Statement.{statement}
+use Rattle.tangent.proofs.ring.pair.Tie as tie
+
+-- ---- the two coordinates are known
+module _ (c : tie.After-value2) where
+  abbrev across-at : tie.After-across-corner
+  across-at = c .before
+
+  abbrev value-at : tie.After-value
+  value-at = across-at .before
+
+  abbrev next-at : tie.After-next-corner
+  next-at = value-at .before
+
+  abbrev start : tie.Start
+  start = next-at .before .before
+
+  abbrev S : View
+  S = seen (start .args .positions .now) (start .args .faces .now) (start .args .k)
+
+  a-is : toZ w32 (ofZ w32 (start .args .a)) ≡ start .args .a
+  a-is = toZ-ofZ (start .fits .a)
+
+  x-is : toZ w32 (ofZ w32 (value-at .value .result)) ≡ x S (next (start .args .e))
+  x-is = read-back w32 (value-at .value .ok) (value-at .value .ensures .0 ∙ ap (x S) (next-at .next-corner .ensures))
+
+  b-is : toZ w32 (ofZ w32 (start .args .b)) ≡ start .args .b
+  b-is = toZ-ofZ (start .fits .b)
+
+  y-is : toZ w32 (ofZ w32 (c .value2 .result)) ≡ x S (across (start .args .e))
+  y-is = read-back w32 (c .value2 .ok) (c .value2 .ensures .0 ∙ ap (x S) (across-at .across-corner .ensures))
+
+-- ---- the answers, in the order of the code
+next-corner-requires : tie.Need-next-corner-requires
+next-corner-requires c κs = tt
+
+value-requires : tie.Need-value-requires
+value-requires c κs = let s = c .before .before in (s .pre .0 .0, rw (c .next-corner .ensures) (s .pre .0 .1))
+
+across-corner-requires : tie.Need-across-corner-requires
+across-corner-requires c κs = tt
+
+value-requires-2 : tie.Need-value-requires-2
+value-requires-2 c κs = let s = c .before .before .before .before in (s .pre .0 .0, rw (c .across-corner .ensures) (s .pre .0 .2))
+
+weighted-requires : tie.Need-weighted-requires
+weighted-requires c κs =
+    let s = start c in
+    let small = s .pre .0 .0 .small in (
+      rw (a-is c) (s .pre .1 .0),
+      rw (x-is c) (small (next (s .args .e)) (s .pre .0 .1)),
+      rw (b-is c) (s .pre .1 .1),
+      rw (y-is c) (small (across (s .args .e)) (s .pre .0 .2)),
+    )
+
+returns : tie.Need-returns
+returns c =
+    let v = c .before in (
+      read-back w64 (c .weighted .ok) (c .weighted .ensures .0 ∙ ap₂ _+ℤ_ (ap₂ _*ℤ_ (a-is v) (x-is v)) (ap₂ _*ℤ_ (b-is v) (y-is v))),
+      rw (read-back w64 (c .weighted .ok) refl) (c .weighted .ensures .1),
+    )
+
+pub pair-spec : {M : Type 1} → statement M
+pair-spec =
+    tie.close
+    (tie.spec
+    next-corner-requires
+    value-requires
+    across-corner-requires
+    value-requires-2
+    weighted-requires
+    returns)
