@@ -29,7 +29,7 @@ impl<'a> Tangents<'a> {
         self.vectors[12 + i + 4 * j]
     }
 
-    /// All 24 in their order: u(i, j) at i + 3j, then v(i, j) at 12 + i + 4j.
+    /// All 24 by their numbers: number i + 3j is u(i, j), and number 12 + i + 4j is v(i, j).
     pub fn vectors(self) -> &'a [[i64; 3]] {
         self.vectors
     }
