@@ -7,7 +7,7 @@ use rusketja::{Counts, Mesh, Refusal, NO_TWIN, PATCH_VALUES};
 
 /// A fraction in units, rounded once.
 #[inline(always)]
-fn in_units(num: i64, den: u32) -> i32 {
+pub fn in_units(num: i64, den: u32) -> i32 {
     round(256 * num, den) as i32
 }
 

@@ -1,10 +1,10 @@
-//! The tangent vectors of a face, in Rust: the patches of the mesh, then for each side of the face six vectors, from two corner vectors and
-//! four control points.
+//! The tangent vectors of a face, in Rust: for each side six vectors, from two corner vectors, two edge points and two inner points.
 
 use crate::access::Access;
+use crate::check::check;
 use crate::limits::*;
-use crate::patch::patches;
-use rusketja::{Mesh, Refusal, NO_TWIN, PATCH_VALUES, TANGENT_VALUES};
+use crate::patch::in_units;
+use rusketja::{Mesh, Refusal, NO_TWIN, TANGENT_VALUES};
 
 /// 1 as a cosine, and as a weight.
 const ONE: i64 = 1 << 20;
@@ -30,12 +30,11 @@ impl Weights {
     }
 }
 
-/// A checked mesh with its twins, and the patch of the face.
+/// A checked mesh with its twins.
 struct Around<'a> {
     positions: &'a [i32],
     indices: &'a [u16],
     twins: &'a [u16],
-    patch: &'a [i32; PATCH_VALUES],
     weights: &'a Weights,
 }
 
@@ -51,8 +50,6 @@ struct Corner {
 /// the first four run against u or v; the others point against it on the second and the third side.
 const NUMBERS: [[usize; 6]; 4] =
     [[0, 1, 2, 4, 13, 14], [15, 19, 23, 18, 5, 8], [11, 10, 9, 7, 22, 21], [20, 16, 12, 17, 6, 3]];
-/// The control points of each side: its two edge points, and the inner points behind them.
-const POINTS: [[usize; 4]; 4] = [[1, 2, 5, 6], [7, 11, 6, 10], [14, 13, 10, 9], [8, 4, 9, 5]];
 const ALONG_SIGNS: [i64; 4] = [1, 1, -1, -1];
 const INTO_SIGNS: [i64; 4] = [1, -1, -1, 1];
 
@@ -96,13 +93,29 @@ impl Around<'_> {
         round(256 * sum, ONE as u32)
     }
 
+    /// The edge point of half-edge c near its start.
+    #[inline(always)]
+    fn edge_point<A: Access>(&self, k: usize, c: usize, valence: usize) -> i64 {
+        let (value, d) = (|i, c| self.value::<A>(k, i, c), self.twin::<A>(c));
+        let near = 2 * valence as i64 * value(0, c) + 4 * value(1, c);
+        in_units(near + 2 * value(3, c) + 2 * value(2, d) + value(2, c) + value(3, d), 2 * valence as u32 + 10).into()
+    }
+
+    /// The inner point of corner c.
+    #[inline(always)]
+    fn inner_point<A: Access>(&self, k: usize, c: usize, valence: usize) -> i64 {
+        let value = |i| self.value::<A>(k, i, c);
+        in_units(valence as i64 * value(0) + 2 * value(1) + 2 * value(3) + value(2), valence as u32 + 5).into()
+    }
+
     /// Coordinate k of the six vectors of the side from one corner to the next.
     #[inline(always)]
-    fn side<A: Access>(&self, k: usize, s: usize, from: Corner, to: Corner) -> [i64; 6] {
+    fn side<A: Access>(&self, k: usize, from: Corner, to: Corner) -> [i64; 6] {
         let d = self.twin::<A>(from.c);
         let (start, end) =
             (self.corner_vector::<A>(k, from.c, from.valence), -self.corner_vector::<A>(k, d, to.valence));
-        let [b1, b2, b5, b6] = POINTS[s].map(|m| i64::from(A::get(self.patch, 3 * m + k)));
+        let (b1, b2) = (self.edge_point::<A>(k, from.c, from.valence), self.edge_point::<A>(k, d, to.valence));
+        let (b5, b6) = (self.inner_point::<A>(k, from.c, from.valence), self.inner_point::<A>(k, to.c, to.valence));
         let middle = 3 * (b2 - b1);
         let corrected = |term: i64, x: i64| round(term + 9 * ONE * x, 3 * ONE as u32);
         let from_start = corrected(2 * from.cosine * middle - to.cosine * start, b5 - b1);
@@ -115,13 +128,11 @@ impl Around<'_> {
 #[inline(never)]
 pub fn tangents<A: Access>(mesh: &Mesh, weights: &Weights, face: usize, tangents: &mut [i64]) -> Result<(), Refusal> {
     let mut twins = [0; 4 * MAX_FACES];
-    let mut controls = [0; PATCH_VALUES * MAX_FACES];
-    patches::<A>(mesh, &mut twins, &mut controls)?;
+    check::<A>(mesh, &mut twins)?;
     if mesh.faces <= face {
         return Err(Refusal(12));
     }
-    let patch = A::array(&controls, PATCH_VALUES * face);
-    let around = Around { positions: mesh.positions, indices: mesh.indices, twins: &twins, patch, weights };
+    let around = Around { positions: mesh.positions, indices: mesh.indices, twins: &twins, weights };
     let mut corners = [Corner::default(); 4];
     for (s, corner) in corners.iter_mut().enumerate() {
         let c = 4 * face + s;
@@ -133,7 +144,7 @@ pub fn tangents<A: Access>(mesh: &Mesh, weights: &Weights, face: usize, tangents
     }
     for s in 0..4 {
         for k in 0..3 {
-            let side = around.side::<A>(k, s, corners[s], corners[(s + 1) % 4]);
+            let side = around.side::<A>(k, corners[s], corners[(s + 1) % 4]);
             for (which, number) in side.into_iter().enumerate() {
                 let sign = if which < 4 { ALONG_SIGNS[s] } else { INTO_SIGNS[s] };
                 *A::at(tangents, 3 * NUMBERS[s][which] + k) = sign * number;
