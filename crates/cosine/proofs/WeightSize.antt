@@ -1,7 +1,6 @@
 -- No weight is above 2^22 in size: the numerator is at most 2^44, the divisor at least 3 * 2^21. (The largest is 434,298.)
 use mathlib.Core.Path.{sym}
-use mathlib.Core.Bool.{true, false}
-use Prim.Native.Nat.{ℕ, _*_, _^_, _≤_, _<_}
+use Prim.Native.Nat.{ℕ, _*_, _^_, _≤_}
 use native.Mathlib.Omega.{arith}
 use lib.IntN.{ℤ, pos, natAbs, _+ℤ_}
 use Rattle.integer.proofs.Laws.{abs-*-≤}

@@ -3,23 +3,22 @@ use native.Mathlib.Numerals.{add-one}
 use mathlib.Core.Path.{_≡_, refl, sym, ap, _∙_}
 use mathlib.Core.Bool.{false}
 use mathlib.Core.List.{List}
-use Prim.Native.Nat.{ℕ, zero, suc, _+_, _*_, _/_, _%_, _≤_, _<_}
+use Prim.Native.Nat.{ℕ, _+_, _*_, _%_, _≤_, _<_}
 use native.Mathlib.Omega.{arith}
-use lib.IntN.{ℤ, pos, negℤ}
+use lib.IntN.{negℤ}
 use lib.ListN.{length, getD}
 use Rattle.finite.proofs.AnyAll.{any-false}
 use Rattle.corner.specs.Corner.{turn, next}
-use Rattle.mesh.specs.Fan.{onBoundary, valence}
+use Rattle.mesh.specs.Fan.{onBoundary}
 use Rattle.mesh.specs.IndexedMesh.{IndexedMesh, corners, at}
 use Rattle.mesh.specs.WellFormed.{WellFormed}
 use Rattle.mesh.specs.Tables.{vertexOf}
-use Rattle.mesh.proofs.CornerLaws.{turn-below}
 use Rattle.mesh.proofs.TwinLaws.{twin-ends}
 use Rattle.mesh.proofs.BoundaryLaws.{InnerVertex}
 use Rattle.mask.specs.Mask.{cornerWeight}
 use Rattle.patch.specs.Point.{View, faces, weight, sharp, point, innerPoint, edgePoint, alongPoint, beforePoint}
 use Rattle.patch.specs.Patch.{owner, kind, patchPoint, controlValue, view}
-use Rattle.patch.specs.Lists.{shapeOf, seen, Coordinates, Twins}
+use Rattle.patch.specs.Lists.{shapeOf, seen, Twins}
 use Rattle.patch.proofs.NeighbourLaws.{twin-below}
 use Rattle.patch.proofs.TableLaws.{accepted-whole, accepted-coordinates}
 use Rattle.tangent.specs.Vector.{twinOf, cornerVector, endVector, middleVector, innerVector, cosineAt, startInto, endInto}

@@ -1,10 +1,10 @@
 -- The numbers that are written are the tangents: the lists that the code has filled say of each side what its six vectors are made of.
 use native.Mathlib.Numerals.{add-one}
-use mathlib.Core.Path.{_≡_, refl, sym, ap, _∙_}
+use mathlib.Core.Path.{_≡_, sym, ap, _∙_}
 use mathlib.Core.List.{List}
-use Prim.Native.Nat.{ℕ, zero, suc, _+_, _*_, _/_, _%_, _^_, _≤_, _<_}
+use Prim.Native.Nat.{ℕ, _+_, _*_, _/_, _%_, _<_}
 use native.Mathlib.Omega.{arith}
-use lib.IntN.{ℤ, pos, natAbs}
+use lib.IntN.{ℤ, pos}
 use lib.ListN.{length, getD}
 use Rattle.finite.specs.Filled.{listBelow, filled}
 use Rattle.finite.proofs.FilledLaws.{length-listBelow, listBelow-at, length-filled, filled-at}

@@ -16,7 +16,7 @@ use lib.IntN.{ℤ, pos, negsuc, negℤ, natAbs, _+ℤ_, _-ℤ_, _*ℤ_}
 use borrow.Author.Tests.{ltb-true}
 use mir.Syntax.{w32, w64}
 use mir.Val.{SFits, toZ, ofZ}
-use mir.Facts.{toZ-ofZ, toZ-pos, sfits-widen}
+use mir.Facts.{toZ-ofZ, toZ-pos}
 use Rattle.integer.proofs.Difference.{int, nat, _⊝_, ~, prove-eq}
 use Rattle.integer.proofs.Laws.{abs-neg, abs-+, abs--, abs-*, abs-*-≤, sfits-abs}
 use Rattle.finite.proofs.AnyAll.{and-true}

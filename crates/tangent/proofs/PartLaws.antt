@@ -1,14 +1,12 @@
 -- The parts of a side of a face with no corner on the boundary: each control value by its mask, and all of them small.
-use mathlib.Core.Path.{_≡_, refl, sym, ap, _∙_}
-use mathlib.Core.Bool.{false}
+use mathlib.Core.Path.{_≡_, refl}
 use mathlib.Core.List.{List}
-use Prim.Native.Nat.{ℕ, _+_, _*_, _%_, _^_, _≤_, _<_}
+use Prim.Native.Nat.{ℕ, _*_, _^_, _≤_, _<_}
 use native.Mathlib.Omega.{arith}
 use lib.IntN.{ℤ, pos, natAbs, _*ℤ_}
-use lib.ListN.{length, getD}
 use Rattle.integer.proofs.Laws.{abs-neg, abs-*}
 use Rattle.integer.proofs.NearestLaws.{nearest-bounded}
-use Rattle.corner.specs.Corner.{turn, next, across, prev}
+use Rattle.corner.specs.Corner.{turn, next}
 use Rattle.limits.specs.Limits.{maxCoordinate}
 use Rattle.mesh.proofs.CornerLaws.{turn-none, turn-below, prev-next}
 use Rattle.mask.specs.Mask.{Fraction}

@@ -6,7 +6,7 @@
 --   k S c s             the cosine at corner s
 --   AsWritten S c       each of the 24 as it is written: eight at the corners, eight differences, four corrected vectors of u and four of v
 use mathlib.Core.Path.{_≡_}
-use Prim.Native.Nat.{ℕ, suc, _+_, _*_, _<_}
+use Prim.Native.Nat.{ℕ, _+_, _*_, _<_}
 use lib.IntN.{ℤ, pos, negℤ, _-ℤ_, _*ℤ_}
 use Rattle.corner.specs.Corner.{turn}
 use Rattle.patch.specs.Point.{View}

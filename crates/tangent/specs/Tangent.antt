@@ -8,7 +8,7 @@
 --   tangentList M g  all 72
 use mathlib.Core.Bool.{Bool, true, false, cond}
 use mathlib.Core.List.{List, [], _∷_}
-use Prim.Native.Nat.{ℕ, _+_, _*_, _/_, _%_}
+use Prim.Native.Nat.{ℕ, _*_, _/_, _%_}
 use lib.IntN.{ℤ, negℤ}
 use lib.ListN.{getD}
 use Rattle.finite.specs.Filled.{listBelow}

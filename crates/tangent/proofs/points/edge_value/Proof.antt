@@ -1,5 +1,5 @@
 -- `edge_value` meets its contract: the mask is passed the weight of the corner and the values of both faces, and its fraction is rounded once.
-use mathlib.Core.Path.{_≡_, ap, _∙_}
+use mathlib.Core.Path.{ap, _∙_}
 use native.Mathlib.Omega.{arith}
 use mir.Syntax.{w64}
 use Rattle.integer.proofs.Laws.{read-back}

@@ -1,12 +1,12 @@
 -- `in_units` meets its contract: 256 times the numerator fits 64 bits.
-use mathlib.Core.Path.{_≡_, refl, ap, _∙_}
+use mathlib.Core.Path.{refl, ap, _∙_}
 use Prim.Native.Nat.{_^_, _≤_}
 use native.Mathlib.Omega.{arith}
 use lib.IntN.{ℤ, natAbs}
 use mir.Syntax.{w64}
 use Rattle.integer.specs.Nearest.{nearest}
 use Rattle.integer.proofs.Laws.{read-back}
-use Rattle.tangent.proofs.MachineLaws.{Term, wide, times, Ranged, result, fits}
+use Rattle.tangent.proofs.MachineLaws.{Term, wide, times, result, fits}
 use Rattle.tangent.proofs.points.in_units.Statement.{statement}
 use Rattle.tangent.proofs.points.in_units.Tie as tie
 

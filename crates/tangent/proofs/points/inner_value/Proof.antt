@@ -1,9 +1,8 @@
 -- `inner_value` meets its contract: the mask is passed the weight of the corner and the values of its face, and its fraction is rounded once.
-use mathlib.Core.Path.{_≡_, ap, _∙_}
+use mathlib.Core.Path.{ap, _∙_}
 use native.Mathlib.Omega.{arith}
 use mir.Syntax.{w64}
 use Rattle.integer.proofs.Laws.{read-back}
-use Rattle.mask.specs.Mask.{Fraction}
 use Rattle.patch.specs.Point.{innerPoint}
 use Rattle.patch.specs.Patch.{units}
 use Rattle.patch.specs.Lists.{seen}

@@ -1,6 +1,5 @@
 -- `around` meets its contract: it reads the twin of the half-edge before e.
 use mathlib.Core.Path.{ap, _∙_}
-use Prim.Native.Nat.{ℕ}
 use borrow.Author.Needs.{needs}
 use Rattle.mesh.specs.Tables.{twinOf}
 use Rattle.tangent.proofs.ring.around.Statement.{statement}

@@ -1,19 +1,17 @@
 -- `ring_sum` meets its contract: after i turns e is i steps about the vertex from c, and the sum has the terms passed.
 use mathlib.Core.Path.{_≡_, refl, sym, ap, ap₂, _∙_}
-use Prim.Native.Nat.{ℕ, _+_, _-_, _*_, _^_, _≤_, _<_}
+use Prim.Native.Nat.{ℕ, _+_, _-_, _^_, _≤_}
 use native.Mathlib.Nat.{le-antisymm}
 use native.Mathlib.Omega.{arith}
 use lib.IntN.{ℤ, pos, natAbs, _+ℤ_}
-use lib.ListN.{length}
 use mir.Syntax.{w64}
-use mir.Val.{SFits, toZ, ofZ}
+use mir.Val.{toZ, ofZ}
 use mir.Facts.{toZ-ofZ}
 use Rattle.integer.proofs.Laws.{sfits-abs, read-back}
 use Rattle.finite.specs.Fold.{sumBelowℤ}
 use Rattle.finite.proofs.FoldLaws.{fold-zero, fold-step}
 use Rattle.corner.specs.Corner.{prev}
 use Rattle.mesh.specs.Tables.{twinOf}
-use Rattle.cosine.specs.Weight.{edgeWeight, faceWeight}
 use Rattle.patch.specs.Point.{View}
 use Rattle.patch.specs.Lists.{seen}
 use Rattle.tangent.specs.Vector.{turned, tangentTerm}

@@ -1,5 +1,5 @@
 -- `corrected` meets its contract: what is rounded is below 2^61 in size, and rounding does not make it larger.
-use mathlib.Core.Path.{_≡_, refl, ap, _∙_}
+use mathlib.Core.Path.{refl, ap, _∙_}
 use Prim.Native.Nat.{_^_, _≤_}
 use native.Mathlib.Omega.{arith}
 use lib.IntN.{ℤ, natAbs}
@@ -9,7 +9,7 @@ use Rattle.integer.specs.Nearest.{nearest}
 use Rattle.integer.proofs.Laws.{read-back}
 use Rattle.integer.proofs.NearestLaws.{nearest-bounded}
 use Rattle.tangent.specs.Vector.{correctedDivisor, corrected}
-use Rattle.tangent.proofs.MachineLaws.{Term, wide, times, _⊞_, Ranged, stored, size, result, fits}
+use Rattle.tangent.proofs.MachineLaws.{Term, wide, times, _⊞_, Ranged, size, result, fits}
 use Rattle.tangent.proofs.side.corrected.Statement.{statement}
 use Rattle.tangent.proofs.side.corrected.Tie as tie
 

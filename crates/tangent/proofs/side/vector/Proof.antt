@@ -1,13 +1,11 @@
 -- `vector` meets its contract: each kind of vector has its own way, and the numbers of the side fit their bits.
-use mathlib.Core.Path.{_≡_, refl, ap, _∙_}
-use Prim.Native.Nat.{_^_, _≤_}
+use mathlib.Core.Path.{refl}
 use native.Mathlib.Omega.{arith}
 use mir.Syntax.{w64}
 use mir.Facts.{toZ-ofZ}
 use borrow.Author.Needs.{needs}
 use Rattle.integer.proofs.Laws.{read-back}
 use Rattle.tangent.specs.Lists.{vectorOf}
-use Rattle.tangent.specs.declared.side.Side.{Side}
 use Rattle.tangent.proofs.SideLaws.{Fitting, fitting}
 use Rattle.tangent.proofs.side.vector.Statement.{statement}
 use Rattle.tangent.proofs.side.vector.Tie as tie
