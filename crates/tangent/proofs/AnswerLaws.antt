@@ -2,7 +2,7 @@
 use mathlib.Core.Path.{_≡_, sym, ap, _∙_}
 use mathlib.Core.Bool.{false, not, _||_}
 use mathlib.Core.List.{List, [], _∷_}
-use mathlib.Core.Option.{none, some}
+use mathlib.Core.Option.{Option, none, some}
 use Prim.Native.Nat.{ℕ, _*_, _/_, _%_, _≤_, _<_}
 use native.Mathlib.Omega.{arith}
 use lib.Dec.{eqb, leb}
@@ -10,7 +10,7 @@ use lib.IntN.{ℤ}
 use lib.ListN.{length, replicate, length-replicate}
 use borrow.Author.Tests.{le-ltb, leb-false, eqb-true, not-false}
 use Rattle.finite.specs.Filled.{filled}
-use Rattle.finite.specs.Table.{row, firstMet, result, refusal, refusalOf, outcome}
+use Rattle.finite.specs.Table.{row, firstMet, result, refusal, answerBy, writtenBy, refusalOf, outcome}
 use Rattle.finite.specs.declared.model.Outcome.{Outcome}
 use Rattle.finite.proofs.TableLaws.{skipped, none-met, append-none, result-none, refusal-met, refusal-some}
 use Rattle.finite.proofs.AnyAll.{or-false}
@@ -26,7 +26,7 @@ use Rattle.mesh.proofs.AcceptedLaws.{accepted-from}
 use Rattle.mesh.proofs.SizeLaws.{mesh-sizes-false}
 use Rattle.mesh.proofs.PhaseLaws.{refusal-alike, refusal-split, twins-accepted}
 use Rattle.patch.specs.Lists.{seen, Twins}
-use Rattle.tangent.specs.Tangent.{tangent, tangentNumber}
+use Rattle.tangent.specs.Tangent.{tangent, tangentNumber, tangentList}
 use Rattle.tangent.specs.Answer.{faceOff, faceOpen, notGiven, tangentRows, tangentRefusal, TangentsGiven}
 use Rattle.tangent.specs.Lists.{openIn}
 use Rattle.tangent.proofs.FaceLaws.{tangent-same}
@@ -47,7 +47,10 @@ module _ (M : IndexedMesh) where
   module _ (g : ℕ) (d : List ℤ) where
     -- ---- a refusal that is met is the answer, and the list is as it was
     pub refused : {k : ℕ} → tangentRefusal M g d ≡ some k → (r : Outcome) → outcome r ≡ refusal k → TangentsGiven M g d r d
-    refused met r e = record { answer-is = e ∙ rw met; list-is = rw met }
+    refused met r e = record {
+      answer-is = e ∙ ap (λ (m : Option ℕ). answerBy m tt) (sym met);
+      list-is = ap (λ (m : Option ℕ). writtenBy m d (tangentList M g)) (sym met);
+    }
 
     pub check-refused : {k : ℕ} → refusal k ≡ checkAnswer M ownTwins → tangentRefusal M g d ≡ some k
     check-refused e =

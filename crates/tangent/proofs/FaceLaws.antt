@@ -5,7 +5,6 @@ use mathlib.Core.Bool.{false}
 use mathlib.Core.List.{List}
 use Prim.Native.Nat.{ℕ, _+_, _*_, _%_, _≤_, _<_}
 use native.Mathlib.Omega.{arith}
-use lib.IntN.{negℤ}
 use lib.ListN.{length, getD}
 use Rattle.finite.proofs.AnyAll.{any-false}
 use Rattle.corner.specs.Corner.{turn, next}
@@ -57,8 +56,8 @@ module _ {M : IndexedMesh} (a : WellFormed M) where
   corner-same k c = rw whole
 
   end-same : (k c : ℕ) → endVector (S k) c ≡ endVector (view M k) c
-  unfolding endVector
-  end-same k c = ap negℤ (corner-same k (twinOf (S k) c) ∙ ap (cornerVector (view M k)) (rw whole))
+  unfolding endVector cornerVector
+  end-same k c = rw whole
 
   cosine-same : (k c : ℕ) → cosineAt (S k) c ≡ cosineAt (view M k) c
   cosine-same k c = rw whole
