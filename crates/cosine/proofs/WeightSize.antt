@@ -7,7 +7,8 @@ use Rattle.integer.proofs.Laws.{abs-*-≤}
 use Rattle.integer.proofs.NearestLaws.{nearest-bounded}
 use Rattle.finite.proofs.FoldLaws.{bool-cases}
 use Rattle.cosine.specs.Cosine.{scale}
-use Rattle.cosine.specs.Weight.{multipleCosine, halfCosine, hypotenuse, divisor, edgeNumerator, halfAngles, faceNumerator, weighed, weightBy, edgeWeight, faceWeight}
+use Rattle.cosine.specs.Weight.{multipleCosine, halfCosine, hypotenuse, divisor, edgeNumerator, halfAngles, faceNumerator}
+use Rattle.cosine.specs.Weight.{weighed, weightBy, edgeWeight, faceWeight}
 use Rattle.cosine.proofs.SizeLaws.{divisor-size, multiple-size, sum-size}
 use Rattle.cosine.proofs.WeightLaws.{Weighed, weighed-is, weight-is, weight-off}
 

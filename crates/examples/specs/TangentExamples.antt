@@ -48,9 +48,12 @@ cubeTangents =
     ++ vec (neg 6322) (pos 1893) (pos 7502) ++ vec (neg 9216) (pos 0) (pos 0) ++ vec (neg 6322) (neg 1893) (neg 7502)
     ++ vec (neg 6322) (neg 1893) (pos 7502) ++ vec (neg 9216) (pos 0) (pos 0) ++ vec (neg 6322) (pos 1893) (neg 7502)
     ++ vec (neg 7076) (neg 3538) (pos 3538) ++ vec (neg 9216) (pos 0) (pos 0) ++ vec (neg 7076) (pos 3538) (neg 3538)
-    ++ vec (pos 3538) (neg 7076) (pos 3538) ++ vec (pos 1893) (neg 6322) (pos 7502) ++ vec (neg 1893) (neg 6322) (pos 7502) ++ vec (neg 3538) (neg 7076) (pos 3538)
-    ++ vec (pos 0) (neg 9216) (pos 0) ++ vec (pos 0) (neg 9216) (pos 0) ++ vec (pos 0) (neg 9216) (pos 0) ++ vec (pos 0) (neg 9216) (pos 0)
-    ++ vec (neg 3538) (neg 7076) (neg 3538) ++ vec (neg 1893) (neg 6322) (neg 7502) ++ vec (pos 1893) (neg 6322) (neg 7502) ++ vec (pos 3538) (neg 7076) (neg 3538)
+    ++ vec (pos 3538) (neg 7076) (pos 3538) ++ vec (pos 1893) (neg 6322) (pos 7502)
+    ++ vec (neg 1893) (neg 6322) (pos 7502) ++ vec (neg 3538) (neg 7076) (pos 3538)
+    ++ vec (pos 0) (neg 9216) (pos 0) ++ vec (pos 0) (neg 9216) (pos 0)
+    ++ vec (pos 0) (neg 9216) (pos 0) ++ vec (pos 0) (neg 9216) (pos 0)
+    ++ vec (neg 3538) (neg 7076) (neg 3538) ++ vec (neg 1893) (neg 6322) (neg 7502)
+    ++ vec (pos 1893) (neg 6322) (neg 7502) ++ vec (pos 3538) (neg 7076) (neg 3538)
 
 -- the boxes, face 2: corners of three, four, five and four faces
 abbrev boxTangents : List ℤ
@@ -59,9 +62,12 @@ boxTangents =
     ++ vec (pos 4601) (neg 1749) (pos 5308) ++ vec (pos 6879) (neg 927) (pos 372) ++ vec (pos 7964) (pos 422) (pos 983)
     ++ vec (pos 4069) (neg 853) (pos 5124) ++ vec (pos 8781) (pos 744) (pos 1068) ++ vec (pos 7256) (pos 1682) (pos 1058)
     ++ vec (pos 4224) (pos 384) (pos 5376) ++ vec (pos 8730) (pos 0) (pos 1407) ++ vec (pos 5911) (neg 264) (neg 2309)
-    ++ vec (neg 2032) (pos 4496) (pos 2831) ++ vec (neg 2016) (pos 4747) (pos 5308) ++ vec (neg 1068) (pos 4098) (pos 5124) ++ vec (pos 256) (pos 4096) (pos 5376)
-    ++ vec (neg 123) (pos 6543) (pos 780) ++ vec (neg 543) (pos 6495) (pos 372) ++ vec (pos 1359) (pos 8166) (pos 1068) ++ vec (pos 561) (pos 8166) (pos 1407)
-    ++ vec (pos 427) (pos 7424) (pos 213) ++ vec (pos 945) (pos 7465) (pos 983) ++ vec (pos 2257) (pos 6681) (pos 1058) ++ vec (pos 170) (pos 5444) (neg 2309)
+    ++ vec (neg 2032) (pos 4496) (pos 2831) ++ vec (neg 2016) (pos 4747) (pos 5308)
+    ++ vec (neg 1068) (pos 4098) (pos 5124) ++ vec (pos 256) (pos 4096) (pos 5376)
+    ++ vec (neg 123) (pos 6543) (pos 780) ++ vec (neg 543) (pos 6495) (pos 372)
+    ++ vec (pos 1359) (pos 8166) (pos 1068) ++ vec (pos 561) (pos 8166) (pos 1407)
+    ++ vec (pos 427) (pos 7424) (pos 213) ++ vec (pos 945) (pos 7465) (pos 983)
+    ++ vec (pos 2257) (pos 6681) (pos 1058) ++ vec (pos 170) (pos 5444) (neg 2309)
 
 unfoldable pub answers : List Example
 answers =

@@ -39,17 +39,20 @@ module _ {positions : List ℤ} {indices twins : List ℕ} {k c n : ℕ} (r : Ri
   inner-size : natAbs (units (innerPoint seen-here c)) ≤ 2 ^ 35
   unfolding innerPoint
   inner-size =
-      units-size (innerPoint seen-here c) (inner-mask (bounds maxCoordinate) (weight (shapeOf indices) c) here-small (value-small 1) (value-small 3) (value-small 2))
+      units-size (innerPoint seen-here c)
+      (inner-mask (bounds maxCoordinate) (weight (shapeOf indices) c) here-small (value-small 1) (value-small 3) (value-small 2))
 
 edge-size : {positions : List ℤ} {indices twins : List ℕ} {k c n d m : ℕ} → Ring positions indices twins k c n → Ring positions indices twins k d m
     → natAbs (units (edgePoint (seen positions indices k) c d)) ≤ 2 ^ 35
 unfolding edgePoint
 edge-size {positions} {indices} {k = k} {c = c} {d = d} r q =
     units-size (edgePoint (seen positions indices k) c d)
-    (edge-mask (bounds maxCoordinate) (weight (shapeOf indices) c) (here-small r) (value-small r 1) (value-small r 3) (value-small q 2) (value-small r 2) (value-small q 3))
+    (edge-mask (bounds maxCoordinate) (weight (shapeOf indices) c)
+    (here-small r) (value-small r 1) (value-small r 3) (value-small q 2) (value-small r 2) (value-small q 3))
 
 -- ---- the control values of side s
-module _ {positions : List ℤ} {indices twins valences : List ℕ} {g : ℕ} (f : Face positions indices twins valences g) (s k : ℕ) (b : s < 4) (h : k < 3) where
+module _ {positions : List ℤ} {indices twins valences : List ℕ} {g : ℕ} (f : Face positions indices twins valences g)
+    (s k : ℕ) (b : s < 4) (h : k < 3) where
   abbrev S : View
   S = seen positions indices k
 

@@ -2,7 +2,7 @@
 -- its patch are numbered with c as the first corner, so the side has the values 0 to 3, and the row behind it 4 to 7.
 --
 --   turned S c i       the corner i steps about its vertex from corner c: its half-edge is edge i of the vertex, its face is face i (rule D4)
---   tangentTerm S c i  A(n, i) times the far end of edge i, and B(n, i) times the vertex across in face i
+--   tangentTerm S c i  what edge i and face i add: the far end of the edge, with its weight A(n, i), and the vertex across, with B(n, i)
 --   cornerVector S c   the corner vector along half-edge c, at its start: 256/2^20 times the sum of the n terms, rounded once (rule D7)
 --   endVector S c      at the end of the half-edge, still along it: the corner vector of the twin, negated (rule D7)
 --   difference S c m l   three times the difference of two control values

@@ -7,26 +7,40 @@ use Rattle.tangent.proofs.SideLaws.{list-of-four}
 use Rattle.tangent.proofs.corners.cosines_of.Statement.{statement}
 use Rattle.tangent.proofs.corners.cosines_of.Tie as tie
 
+-- ---- the function's entry, from each corner's place
+abbrev start₁ : tie.After-shared-slice-known2 → tie.Start
+start₁ c = c .before .before
+
+abbrev start₂ : tie.After-shared-slice-known3 → tie.Start
+start₂ c = start₁ (c .before .before)
+
+abbrev start₃ : tie.After-shared-slice-known4 → tie.Start
+start₃ c = start₂ (c .before .before)
+
+abbrev start₄ : tie.After-shared-slice-known5 → tie.Start
+start₄ c = start₃ (c .before .before)
+
+-- ---- the answers, in the order of the code
 shared-slice-read-cosine : tie.Need-shared-slice-read-cosine
-shared-slice-read-cosine c = omega (arith, c .before .before .pre)
+shared-slice-read-cosine c = omega (arith, start₁ c .pre)
 
 cosine-requires : tie.Need-cosine-requires
 cosine-requires c κs = tt
 
 shared-slice-read-cosine-2 : tie.Need-shared-slice-read-cosine-2
-shared-slice-read-cosine-2 c = omega (arith, c .before .before .before .before .pre)
+shared-slice-read-cosine-2 c = omega (arith, start₂ c .pre)
 
 cosine-requires-2 : tie.Need-cosine-requires-2
 cosine-requires-2 c κs = tt
 
 shared-slice-read-cosine-3 : tie.Need-shared-slice-read-cosine-3
-shared-slice-read-cosine-3 c = omega (arith, c .before .before .before .before .before .before .pre)
+shared-slice-read-cosine-3 c = omega (arith, start₃ c .pre)
 
 cosine-requires-3 : tie.Need-cosine-requires-3
 cosine-requires-3 c κs = tt
 
 shared-slice-read-cosine-4 : tie.Need-shared-slice-read-cosine-4
-shared-slice-read-cosine-4 c = omega (arith, c .before .before .before .before .before .before .before .before .pre)
+shared-slice-read-cosine-4 c = omega (arith, start₄ c .pre)
 
 cosine-requires-4 : tie.Need-cosine-requires-4
 cosine-requires-4 c κs = tt

@@ -22,13 +22,17 @@ module _ (c : tie.After-weights) where
   whole : Face (start .args .positions .now) (start .args .faces .now) (start .args .twins .now) (valences-at .face-valences .result) (start .args .g)
   whole = face (start .pre .0) _ (valences-at .face-valences .ensures)
 
+-- ---- the way back from the list of parts
+abbrev weighed : tie.After-parts → tie.After-weights
+weighed c = let lent : tie.After-valences2 = c .before .before .before in lent .before .before .before
+
 -- ---- the parts are filled
 module _ (c : tie.After-write-numbers-arg) where
   abbrev filled-at : tie.After-fill-parts
   filled-at = c .before .before .before .before
 
   abbrev weights-at : tie.After-weights
-  weights-at = filled-at .before .before .before .before .before .before .before
+  weights-at = weighed (filled-at .before)
 
 -- ---- the answers, in the order of the code
 face-valences-requires : tie.Need-face-valences-requires
@@ -58,7 +62,7 @@ slice-aggregate-fill-parts-4 c = search needs
 
 fill-parts-requires : tie.Need-fill-parts-requires
 fill-parts-requires c κs =
-    let w = c .before .before .before .before .before .before in (whole w, weighing _ (w .weights .ensures), omega arith)
+    let w = weighed c in (whole w, weighing _ (w .weights .ensures), omega arith)
 
 slice-aggregate-write-numbers : tie.Need-slice-aggregate-write-numbers
 slice-aggregate-write-numbers c = search needs

@@ -11,16 +11,19 @@ use Rattle.tangent.proofs.TableLaws.{part-is}
 use Rattle.tangent.proofs.parts.listed_part.Statement.{statement}
 use Rattle.tangent.proofs.parts.listed_part.Tie as tie
 
+abbrev start : tie.After-p → tie.Start
+start c = c .before .before .before .before
+
 array-copy-out-p : tie.Need-array-copy-out-p
 array-copy-out-p c = omega (arith, c .before .before .before .pre .2)
 
 part-of-requires : tie.Need-part-of-requires
 part-of-requires c κs =
-    let s = c .before .before .before .before in (s .pre .0, s .pre .1, omega arith, omega arith)
+    let s = start c in (s .pre .0, s .pre .1, omega arith, omega arith)
 
 returns : tie.Need-returns
 returns c =
-    let s = c .before .before .before .before .before in
+    let s = start (c .before) in
     read-back w64 (c .part-of .ok)
     (c .part-of .ensures
     ∙ ap (partOf (seen (s .args .positions .now) (s .args .faces .now) (s .args .j % 3)) (turn (s .args .j % 12 / 3) (4 * s .args .g)))

@@ -43,13 +43,17 @@ module _ (s : tie.Start) where
       (getD (s .args .valences .now) ((s .args .s + 1) % 4) 0)
   at-next = s .pre .0 .next-ring (s .args .s) (s .args .k) (s .pre .2) (s .pre .3)
 
+-- ---- the function's entry, from where the twin is read
+abbrev entry : tie.After-shared-slice-known4 → tie.Start
+entry c = c .before .before .before .before
+
 -- ---- the twin is known
 module _ (c : tie.After-shared-slice-known6) where
   abbrev twinned : tie.After-wide
   twinned = c .before .before
 
   abbrev start : tie.Start
-  start = twinned .before .before .before .before .before
+  start = entry (twinned .before)
 
   twin-is : twinned .wide .result ≡ twinOf (S start) (half start)
   twin-is = twinned .wide .ensures ∙ start .pre .0 .twinned .are _ (corner-listed start) ∙ ap (twinOf (S start)) (corner-is start)
@@ -65,19 +69,19 @@ mul-wide : tie.Need-mul-wide
 mul-wide c = let s = c .before .before .before in omega (arith, corner-listed s, s .pre .0 .twinned .listed)
 
 shared-slice-read-wide : tie.Need-shared-slice-read-wide
-shared-slice-read-wide c = let s = c .before .before .before .before in omega (arith, corner-listed s, s .pre .0 .twinned .listed)
+shared-slice-read-wide c = let s = entry c in omega (arith, corner-listed s, s .pre .0 .twinned .listed)
 
 wide-requires : tie.Need-wide-requires
 wide-requires c κs = tt
 
 mul-n : tie.Need-mul-n
-mul-n c = let s = c .before .before .before .before .before in omega (arith, s .pre .2)
+mul-n c = let s = entry (c .before) in omega (arith, s .pre .2)
 
 shared-slice-read-n : tie.Need-shared-slice-read-n
-shared-slice-read-n c = let s = c .before .before .before .before .before .before in omega (arith, s .pre .2, s .pre .0 .valences-listed)
+shared-slice-read-n c = let s = entry (c .before .before) in omega (arith, s .pre .2, s .pre .0 .valences-listed)
 
 add-m : tie.Need-add-m
-add-m c = let s = c .before .before .before .before .before .before in omega (arith, s .pre .2)
+add-m c = let s = entry (c .before .before) in omega (arith, s .pre .2)
 
 mul-m : tie.Need-mul-m
 mul-m c = omega arith

@@ -17,7 +17,8 @@ module _ (c : tie.After-edge-mask) where
   abbrev start : tie.Start
   start = c .before .before .before .before
 
-  point : Made (edgePoint (seen (start .args .positions .now) (start .args .faces .now) (start .args .k)) (start .args .c) (start .args .d)) (c .edge-mask .result)
+  point : Made (edgePoint (seen (start .args .positions .now) (start .args .faces .now) (start .args .k)) (start .args .c) (start .args .d))
+      (c .edge-mask .result)
   point =
       let b = c .before .face-values2 in
       let a = c .before .before .face-values in

@@ -28,6 +28,16 @@ module _ (s : tie.Start) where
   small : (i : ℕ) (z : ℤ) → z ≡ x S (turn i (s .args .c)) → natAbs z ≤ maxCoordinate
   small i z e = rw e (s .pre .0 .small (turn i (s .args .c)) (below i))
 
+-- ---- the function's entry, from each corner's place
+abbrev start₁ : tie.After-next-corner → tie.Start
+start₁ c = c .before .before .before
+
+abbrev start₂ : tie.After-across-corner → tie.Start
+start₂ c = start₁ (c .before .before)
+
+abbrev start₃ : tie.After-prev-corner → tie.Start
+start₃ c = start₂ (c .before .before)
+
 -- ---- the answers, in the order of the code
 value-requires : tie.Need-value-requires
 value-requires c κs = c .before .pre
@@ -36,19 +46,19 @@ next-corner-requires : tie.Need-next-corner-requires
 next-corner-requires c κs = tt
 
 value-requires-2 : tie.Need-value-requires-2
-value-requires-2 c κs = asked (c .before .before .before) 1 _ (c .next-corner .ensures)
+value-requires-2 c κs = asked (start₁ c) 1 _ (c .next-corner .ensures)
 
 across-corner-requires : tie.Need-across-corner-requires
 across-corner-requires c κs = tt
 
 value-requires-3 : tie.Need-value-requires-3
-value-requires-3 c κs = asked (c .before .before .before .before .before) 2 _ (c .across-corner .ensures)
+value-requires-3 c κs = asked (start₂ c) 2 _ (c .across-corner .ensures)
 
 prev-corner-requires : tie.Need-prev-corner-requires
 prev-corner-requires c κs = tt
 
 value-requires-4 : tie.Need-value-requires-4
-value-requires-4 c κs = asked (c .before .before .before .before .before .before .before) 3 _ (c .prev-corner .ensures)
+value-requires-4 c κs = asked (start₃ c) 3 _ (c .prev-corner .ensures)
 
 returns : tie.Need-returns
 returns c =

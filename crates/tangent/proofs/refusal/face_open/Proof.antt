@@ -22,6 +22,10 @@ Inv-loop faces twins g s₀ s = (s ≤ 4) × (anyBelow (corner-open faces g) s �
 abbrev μ-loop : tie.MeasureT-loop
 μ-loop faces twins g s₀ s = 4 - s
 
+-- ---- the function's entry, from inside the loop
+abbrev entry : tie.In-loop Inv-loop μ-loop → tie.Start Inv-loop μ-loop
+entry c = c .before .before .before .before
+
 -- ---- corner s has been asked
 module _ (c : tie.After-on-boundary Inv-loop μ-loop) where
   abbrev passing : tie.In-loop Inv-loop μ-loop
@@ -31,7 +35,7 @@ module _ (c : tie.After-on-boundary Inv-loop μ-loop) where
   head = passing .before
 
   abbrev start : tie.Start Inv-loop μ-loop
-  start = head .before .before .before
+  start = entry passing
 
   abbrev asked : ℕ → Bool
   asked = corner-open (start .args .faces .now) (start .args .g)
@@ -46,22 +50,22 @@ loop-holds : tie.Need-loop-holds Inv-loop μ-loop
 loop-holds c = let s = c .before .before in (omega arith, any-start (corner-open (s .args .faces .now) (s .args .g)))
 
 mul-wide : tie.Need-mul-wide Inv-loop μ-loop
-mul-wide c = omega (arith, c .before .before .before .before .pre .1)
+mul-wide c = omega (arith, entry c .pre .1)
 
 add-wide : tie.Need-add-wide Inv-loop μ-loop
-add-wide c = omega (arith, c .before .before .before .before .pre .1)
+add-wide c = omega (arith, entry c .pre .1)
 
 mul-wide-2 : tie.Need-mul-wide-2 Inv-loop μ-loop
-mul-wide-2 c = omega (arith, c .before .before .before .before .pre .1)
+mul-wide-2 c = omega (arith, entry c .pre .1)
 
 shared-slice-read-wide : tie.Need-shared-slice-read-wide Inv-loop μ-loop
-shared-slice-read-wide c = omega (arith, c .before .before .before .before .before .pre .1)
+shared-slice-read-wide c = omega (arith, entry (c .before) .pre .1)
 
 wide-requires : tie.Need-wide-requires Inv-loop μ-loop
 wide-requires c κs = tt
 
 on-boundary-requires : tie.Need-on-boundary-requires Inv-loop μ-loop
-on-boundary-requires c κs = c .before .before .before .before .before .before .pre .0
+on-boundary-requires c κs = entry (c .before .before) .pre .0
 
 returns : tie.Need-returns Inv-loop μ-loop
 returns c = let d = c .before in any-found (asked d) 4 (head d .loop .s) _ (passing d .loop-test .taken) (told d) (c .if1 .taken)

@@ -48,7 +48,9 @@ returns c =
     ∙ ap₂ signed (reversed-is _ m l)
     (read-back w64 (v .vector .ok)
     (v .vector .ensures .0
-    ∙ ap₂ vectorOf (d .side-of .ensures ∙ ap (λ (t : ℕ). sideFrom (s .args .parts .now) (s .args .cosines .now) t (s .args .i % 3)) (side-is m l)) (kind-is _ m l))))
+    ∙ ap₂ vectorOf
+    (d .side-of .ensures ∙ ap (λ (t : ℕ). sideFrom (s .args .parts .now) (s .args .cosines .now) t (s .args .i % 3)) (side-is m l))
+    (kind-is _ m l))))
 
 pub number-spec : {M : Type 1} → statement M
 number-spec =

@@ -1,5 +1,8 @@
 -- `side_of` meets its contract: the lists have the places that are read.
+use mathlib.Core.Path.{_≡_}
+use Prim.Native.Nat.{ℕ, _<_}
 use native.Mathlib.Omega.{arith}
+use lib.ListN.{length}
 use mir.Syntax.{w64}
 use mir.Facts.{toZ-ofZ}
 use Rattle.integer.proofs.Laws.{read-back}
@@ -7,38 +10,53 @@ use Rattle.tangent.specs.Lists.{sideFrom}
 use Rattle.tangent.proofs.writer.side_of.Statement.{statement}
 use Rattle.tangent.proofs.writer.side_of.Tie as tie
 
+-- ---- what each look-up asks, and the function's entry from behind two, four and six of them
+module _ (s : tie.Start) where
+  asked : (t : ℕ) → t < 6 → (length (s .args .parts .now) ≡ 72) × (t < 6) × (s .args .s < 4) × (s .args .k < 3)
+  asked t l = (s .pre .0 .parts-listed, l, s .pre .1, s .pre .2)
+
+abbrev start₂ : tie.After-listed2 → tie.Start
+start₂ c = c .before .before
+
+abbrev start₄ : tie.After-listed4 → tie.Start
+start₄ c = start₂ (c .before .before)
+
+abbrev start₆ : tie.After-listed6 → tie.Start
+start₆ c = start₄ (c .before .before)
+
+-- ---- the answers, in the order of the code
 listed-requires : tie.Need-listed-requires
-listed-requires c κs = let s = c in (s .pre .0 .parts-listed, omega arith, s .pre .1, s .pre .2)
+listed-requires c κs = asked c 0 (omega arith)
 
 listed-requires-2 : tie.Need-listed-requires-2
-listed-requires-2 c κs = let s = c .before in (s .pre .0 .parts-listed, omega arith, s .pre .1, s .pre .2)
+listed-requires-2 c κs = asked (c .before) 1 (omega arith)
 
 listed-requires-3 : tie.Need-listed-requires-3
-listed-requires-3 c κs = let s = c .before .before in (s .pre .0 .parts-listed, omega arith, s .pre .1, s .pre .2)
+listed-requires-3 c κs = asked (start₂ c) 2 (omega arith)
 
 listed-requires-4 : tie.Need-listed-requires-4
-listed-requires-4 c κs = let s = c .before .before .before in (s .pre .0 .parts-listed, omega arith, s .pre .1, s .pre .2)
+listed-requires-4 c κs = asked (start₂ (c .before)) 3 (omega arith)
 
 listed-requires-5 : tie.Need-listed-requires-5
-listed-requires-5 c κs = let s = c .before .before .before .before in (s .pre .0 .parts-listed, omega arith, s .pre .1, s .pre .2)
+listed-requires-5 c κs = asked (start₄ c) 4 (omega arith)
 
 listed-requires-6 : tie.Need-listed-requires-6
-listed-requires-6 c κs = let s = c .before .before .before .before .before in (s .pre .0 .parts-listed, omega arith, s .pre .1, s .pre .2)
+listed-requires-6 c κs = asked (start₄ (c .before)) 5 (omega arith)
 
 mul-t11 : tie.Need-mul-t11
-mul-t11 c = omega (arith, c .before .before .before .before .before .before .pre .1)
+mul-t11 c = omega (arith, start₆ c .pre .1)
 
 shared-slice-copy-out-t13 : tie.Need-shared-slice-copy-out-t13
-shared-slice-copy-out-t13 c = let s = c .before .before .before .before .before .before in omega (arith, s .pre .1, s .pre .0 .cosines-listed)
+shared-slice-copy-out-t13 c = let s = start₆ c in omega (arith, s .pre .1, s .pre .0 .cosines-listed)
 
 add-t14 : tie.Need-add-t14
-add-t14 c = omega (arith, c .before .before .before .before .before .before .before .pre .1)
+add-t14 c = omega (arith, start₆ (c .before) .pre .1)
 
 mul-t16 : tie.Need-mul-t16
 mul-t16 c = omega arith
 
 shared-slice-copy-out-t18 : tie.Need-shared-slice-copy-out-t18
-shared-slice-copy-out-t18 c = let s = c .before .before .before .before .before .before .before in omega (arith, s .pre .0 .cosines-listed)
+shared-slice-copy-out-t18 c = let s = start₆ (c .before) in omega (arith, s .pre .0 .cosines-listed)
 
 returns : tie.Need-returns
 unfolding sideFrom
