@@ -2,11 +2,11 @@
 use crate::points::edge_value;
 use crate::points::inner_value;
 use crate::ring::corner_vector;
+use crate::side::negated;
 use corner::next_corner;
 use corner::wide;
 ghost use mathlib.Core.Path.{_≡_};
-ghost use Prim.Native.Nat.{_*_, _≤_, _<_, _^_};
-ghost use lib.IntN.{negℤ, natAbs};
+ghost use Prim.Native.Nat.{_*_, _≤_, _<_};
 ghost use lib.ListN.{length};
 ghost use Rattle.finite.specs.Filled.{filled};
 ghost use Rattle.corner.specs.Corner.{turn};
@@ -32,14 +32,6 @@ const PARTS: [Part; 6] = [
     Part::InnerNear,
     Part::InnerFar,
 ];
-
-// The negation of a number.
-fn negated(z: i64) -> i64
-    requires { ⌜ natAbs z ≤ 2 ^ 35 ⌝ }
-    ensures { λ r. ⌜ r ≡ negℤ z ⌝ }
-{
-    -z
-}
 
 // A part of side s of face g, coordinate k.
 fn part_of(

@@ -1,9 +1,8 @@
 // The six tangent vectors of a side, of one coordinate, from the numbers that they are made of.
 ghost use mathlib.Core.Path.{_≡_};
 ghost use Prim.Native.Nat.{_≤_, _^_};
-ghost use lib.IntN.{pos, natAbs, _-ℤ_, _*ℤ_};
-ghost use Rattle.tangent.specs.Vector.{firstTerm, secondTerm, corrected as correctedBy};
-ghost use Rattle.tangent.specs.Tangent.{startIn, endIn};
+ghost use lib.IntN.{pos, negℤ, natAbs, _-ℤ_, _*ℤ_};
+ghost use Rattle.tangent.specs.Vector.{firstTerm, corrected as correctedBy};
 ghost use Rattle.tangent.specs.Lists.{kindOf, vectorOf, Sized};
 
 // The six vectors of a side.
@@ -36,20 +35,12 @@ fn steps(y: i64, z: i64) -> i64
     3 * (y - z)
 }
 
-// The cosine term near the start of a side, times 3 * 2^20.
-fn first_term(start: i32, end: i32, u0: i64, u1: i64) -> i64
-    requires { ⌜ (natAbs start ≤ 2 ^ 20) × (natAbs end ≤ 2 ^ 20) × (natAbs u0 ≤ 2 ^ 35) × (natAbs u1 ≤ 2 ^ 38) ⌝ }
-    ensures { λ r. ⌜ (r ≡ firstTerm start end u0 u1) × (natAbs r ≤ 2 ^ 60) ⌝ }
+// The cosine term near an end of a side, times 3 * 2^20.
+fn cosine_term(k0: i32, k1: i32, u0: i64, u1: i64) -> i64
+    requires { ⌜ (natAbs k0 ≤ 2 ^ 20) × (natAbs k1 ≤ 2 ^ 20) × (natAbs u0 ≤ 2 ^ 35) × (natAbs u1 ≤ 2 ^ 38) ⌝ }
+    ensures { λ r. ⌜ (r ≡ firstTerm k0 k1 u0 u1) × (natAbs r ≤ 2 ^ 60) ⌝ }
 {
-    2 * start as i64 * u1 - end as i64 * u0
-}
-
-// The cosine term near the end of a side, times 3 * 2^20.
-fn second_term(start: i32, end: i32, u1: i64, u2: i64) -> i64
-    requires { ⌜ (natAbs start ≤ 2 ^ 20) × (natAbs end ≤ 2 ^ 20) × (natAbs u1 ≤ 2 ^ 38) × (natAbs u2 ≤ 2 ^ 35) ⌝ }
-    ensures { λ r. ⌜ (r ≡ secondTerm start end u1 u2) × (natAbs r ≤ 2 ^ 60) ⌝ }
-{
-    start as i64 * u2 - 2 * end as i64 * u1
+    2 * k0 as i64 * u1 - k1 as i64 * u0
 }
 
 // The vector with this cosine term and this difference, rounded once.
@@ -60,25 +51,26 @@ fn corrected(term: i64, x: i64) -> i64
     integer::round(term + 3145728 * x, 3145728)
 }
 
-// The vector into the face near the start of the side.
-fn start_into(a: Side) -> i64
-    requires { ⌜ Sized a ⌝ }
-    ensures { λ r. ⌜ (r ≡ vectorOf a startIn) × (natAbs r ≤ 2 ^ 61) ⌝ }
+// The vector into the face near an end of a side: the cosines there and at the other end, the corner vector there, the edge points near that end
+// and near the other, and the inner point near it.
+fn into(k0: i32, k1: i32, u0: i64, near: i64, far: i64, inner: i64) -> i64
+    requires { ⌜ (natAbs k0 ≤ 2 ^ 20) × (natAbs k1 ≤ 2 ^ 20) × (natAbs u0 ≤ 2 ^ 35) ⌝ }
+    requires { ⌜ (natAbs near ≤ 2 ^ 35) × (natAbs far ≤ 2 ^ 35) × (natAbs inner ≤ 2 ^ 35) ⌝ }
+    ensures { λ r. ⌜ (r ≡ correctedBy (firstTerm k0 k1 u0 (pos 3 *ℤ (far -ℤ near))) (pos 3 *ℤ (inner -ℤ near))) × (natAbs r ≤ 2 ^ 61) ⌝ }
 {
-    let term = first_term(a.start_cosine, a.end_cosine, a.start, steps(a.far, a.near));
-    corrected(term, steps(a.inner_near, a.near))
+    let term = cosine_term(k0, k1, u0, steps(far, near));
+    corrected(term, steps(inner, near))
 }
 
-// The vector into the face near the end of the side.
-fn end_into(a: Side) -> i64
-    requires { ⌜ Sized a ⌝ }
-    ensures { λ r. ⌜ (r ≡ vectorOf a endIn) × (natAbs r ≤ 2 ^ 61) ⌝ }
+// The negation of a number.
+pub(crate) fn negated(z: i64) -> i64
+    requires { ⌜ natAbs z ≤ 2 ^ 35 ⌝ }
+    ensures { λ r. ⌜ r ≡ negℤ z ⌝ }
 {
-    let term = second_term(a.start_cosine, a.end_cosine, steps(a.far, a.near), a.end);
-    corrected(term, steps(a.inner_far, a.far))
+    -z
 }
 
-// A vector of the side.
+// A vector of the side. Seen from its other end, the side has its two ends exchanged, and what runs along it reversed.
 pub(crate) fn vector(a: Side, kind: Kind) -> i64
     requires { ⌜ Sized a ⌝ }
     ensures { λ r. ⌜ (r ≡ vectorOf a (kindOf kind)) × (natAbs r ≤ 2 ^ 61) ⌝ }
@@ -88,7 +80,21 @@ pub(crate) fn vector(a: Side, kind: Kind) -> i64
         Kind::Middle => steps(a.far, a.near),
         Kind::End => a.end,
         Kind::Inner => steps(a.inner_far, a.inner_near),
-        Kind::StartIn => start_into(a),
-        Kind::EndIn => end_into(a),
+        Kind::StartIn => into(
+            a.start_cosine,
+            a.end_cosine,
+            a.start,
+            a.near,
+            a.far,
+            a.inner_near,
+        ),
+        Kind::EndIn => into(
+            a.end_cosine,
+            a.start_cosine,
+            negated(a.end),
+            a.far,
+            a.near,
+            a.inner_far,
+        ),
     }
 }

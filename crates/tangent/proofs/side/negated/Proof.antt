@@ -6,8 +6,8 @@ use mir.Syntax.{w64}
 use mir.Val.{SFits, toZ, ofZ}
 use mir.Facts.{toZ-ofZ}
 use Rattle.tangent.proofs.MachineLaws.{negation, negation-fits}
-use Rattle.tangent.proofs.parts.negated.Statement.{statement}
-use Rattle.tangent.proofs.parts.negated.Tie as tie
+use Rattle.tangent.proofs.side.negated.Statement.{statement}
+use Rattle.tangent.proofs.side.negated.Tie as tie
 
 module _ (s : tie.Start) where
   small : SFits w64 (negℤ (s .args .z))
