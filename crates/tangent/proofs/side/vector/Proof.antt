@@ -1,15 +1,16 @@
 -- `vector` meets its contract: each kind of vector has its own way, and the numbers of the side fit their bits.
-use mathlib.Core.Path.{_≡_, refl, ap, _∙_}
+use mathlib.Core.Path.{_≡_, refl, ap, ap₂, _∙_}
 use native.Mathlib.Omega.{arith}
 use lib.IntN.{ℤ, pos, negℤ, _-ℤ_, _*ℤ_}
 use mir.Syntax.{w64}
 use mir.Val.{toZ, ofZ}
 use mir.Facts.{toZ-ofZ}
 use borrow.Author.Needs.{needs}
-use Rattle.integer.proofs.Difference.{int, nat, _⊝_, _⊛_, ~, prove-eq}
+use Rattle.integer.proofs.Difference.{int, ~, prove-eq}
 use Rattle.integer.proofs.Laws.{abs-neg, read-back}
 use Rattle.tangent.specs.Vector.{firstTerm, secondTerm, corrected}
 use Rattle.tangent.specs.Lists.{vectorOf}
+use Rattle.tangent.proofs.DocumentLaws.{steps-back, first-back}
 use Rattle.tangent.proofs.SideLaws.{Fitting, fitting}
 use Rattle.tangent.proofs.side.vector.Statement.{statement}
 use Rattle.tangent.proofs.side.vector.Tie as tie
@@ -23,10 +24,9 @@ whole s =
 -- ---- from its other end, the first formula gives the second
 from-the-end : (k0 k1 near far end : ℤ)
     → firstTerm k1 k0 (negℤ end) (pos 3 *ℤ (near -ℤ far)) ≡ secondTerm k0 k1 (pos 3 *ℤ (far -ℤ near)) end
-from-the-end k0 k1 near far end = prove-eq
-    (nat 2 ⊛ int k1 ⊛ (nat 3 ⊛ (int near ⊝ int far)) ⊝ int k0 ⊛ ~ (int end))
-    (int k0 ⊛ int end ⊝ nat 2 ⊛ int k1 ⊛ (nat 3 ⊛ (int far ⊝ int near)))
-    (omega arith)
+from-the-end k0 k1 near far end =
+    first-back k1 k0 (negℤ end) (pos 3 *ℤ (near -ℤ far))
+    ∙ ap₂ (secondTerm k0 k1) (steps-back near far) (prove-eq (~ (~ (int end))) (int end) (omega arith))
 
 -- ---- the end vector, reversed
 reversed-is : (c : tie.After-negated) → toZ w64 (ofZ w64 (c .negated .result)) ≡ negℤ (c .before .before .before .before .args .a .end)
