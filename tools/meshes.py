@@ -8,7 +8,7 @@ import struct
 from dataclasses import dataclass
 from functools import cached_property
 
-from patches import Surface, assert_seams, exact_samples, rounded
+from patches import Surface, assert_seams, exact_samples, rounded, sample_marks
 from shapes import Shape, bow_tie, cube, isolated, join, pillow, square
 
 # The limits of rules M1 to M3, T3, T6, B3 and S1.
@@ -126,7 +126,7 @@ class MeshReading:
 
 
 class PatchReading(MeshReading):
-    """The patches and the samples of a mesh that has the N of rule S1 too."""
+    """The patches and the samples of a mesh that has the N of rule S1 too, and the marks of both."""
 
     def __init__(self, mesh):
         super().__init__(mesh)
@@ -134,14 +134,22 @@ class PatchReading(MeshReading):
         self.faces = [tuple(quad) for quad in self.quads]
 
     @cached_property
+    def surface(self):
+        return Surface(self.points, self.mesh.tags, self.faces)
+
+    @cached_property
     def patches(self):
         """The patch of each face; none of a refused mesh."""
         if self.causes():
             return []
-        surface = Surface(self.points, self.mesh.tags, self.faces)
-        patches = [surface.patch(f) for f in range(self.mesh.f)]
+        patches = [self.surface.patch(f) for f in range(self.mesh.f)]
         assert all(x in CONTROLS for patch in patches for x in patch)
         return patches
+
+    @cached_property
+    def marks(self):
+        """The marks of each patch; none of a refused mesh."""
+        return [self.surface.marks(f) for f in range(len(self.patches))]
 
     @cached_property
     def exact(self):
@@ -154,6 +162,11 @@ class PatchReading(MeshReading):
         if samples:
             assert_seams(samples, self.mates, self.mesh.n)
         return samples
+
+    @cached_property
+    def marked(self):
+        """The mark of each sample of each face."""
+        return [sample_marks(marks, exact) for marks, exact in zip(self.marks, self.exact)]
 
 
 # ---- Meshes that are refused.

@@ -132,7 +132,7 @@ def done():
 
 
 def refused():
-    """The causes that concern the mesh; the lent lists are as long as those of the mesh, and no image needs patches."""
+    """The causes that concern the mesh; the lent lists are as long as those of the mesh, and no image needs patches or marks."""
     trials = {
         "vertices-0-refused-1": changed(mesh(square()), v=0, positions=[], tags=[]),
         "vertices-3-refused-1": changed(mesh(square()), v=3, positions=[0] * 9, tags=[0] * 3),
@@ -147,7 +147,7 @@ def refused():
     for one in (1, *MESH_FAULTS):
         trials[f"{FAULTS[one]}-refused-{one}"] = with_faults({one})
     for name, trial in trials.items():
-        yield f"mirror-{name}", changed(mirroring(patched(trial)), patches=0)
+        yield f"mirror-{name}", changed(mirroring(patched(trial)), patches=0, marks=0)
 
 
 # ---- The lent lists.
@@ -190,7 +190,7 @@ def lent_and_refused():
     trial = with_lent(patched(with_faults({1})), tags=-1)
     assert trial.lent == [3 * trial.v, trial.v, 4 * trial.f]
     yield "mirror-lent-for-the-sizes-and-long-tags-refused-1", trial
-    nothing = PatchTrial(0, 0, [], [], [], twins=0, n=1, patches=0)
+    nothing = PatchTrial(0, 0, [], [], [], twins=0, n=1, patches=0, marks=0)
     yield "mirror-lent-places-and-nothing-at-all-refused-1", changed(mirroring(nothing), lent=[3, 1, 4])
 
 
@@ -208,8 +208,8 @@ def files():
         yield f"mirror-lent-{name}-{PLACES + 1}-too-long", content, "too long"
     for words, content in (
         ("first-number-only", whole[:2]),
-        ("head-one-byte-short", whole[:13]),
-        ("head-only", whole[:14]),
+        ("head-one-byte-short", whole[:15]),
+        ("head-only", whole[:16]),
         ("one-byte-short", whole[:-1]),
         ("one-byte-long", whole + b"\0"),
     ):

@@ -1,4 +1,4 @@
-"""The rules of docs/SPECIFICATION.md read once more: control points as fractions, samples, seams, renumbering and mirror images.
+"""The rules of docs/SPECIFICATION.md read once more: control points as fractions, samples, marks, seams, renumbering and mirror images.
 
 A mask is read off its rule (B6 to B11), over the sets of vertices and faces that the rule names; there are no half-edges,
 twins or fans here. tools/meshes.py, tools/trial_forms.py with the trials, and tools/vectors.py use it.
@@ -8,8 +8,14 @@ from dataclasses import dataclass
 from fractions import Fraction
 from itertools import product
 
-# The places of a patch, x, y and z of sixteen points.
+# The places of a patch, x, y and z of each of its points, and their number.
 PATCH = 48
+POINTS = 16
+
+
+def whole(point):
+    """Whether rounding leaves nothing in any coordinate of a point."""
+    return all(x.denominator == 1 for x in point)
 
 
 class Surface:
@@ -86,9 +92,22 @@ class Surface:
             return self.edge_point(p, corner(near_u, not near_v))
         return self.corner_point(p)
 
+    def controls(self, f):
+        """The control points of patch f in 1/256 micrometre before they are rounded, b(i,j) at place i + 4j."""
+        return [[256 * x for x in self.point(self.faces[f], i, j)] for j, i in product(range(4), repeat=2)]
+
     def patch(self, f):
-        """The control values of patch f: each fraction in 1/256 micrometre, rounded once; Python's round takes halves to even."""
-        return [round(256 * x) for j, i in product(range(4), repeat=2) for x in self.point(self.faces[f], i, j)]
+        """The control values of patch f, each rounded once; Python's round takes halves to even."""
+        return [round(x) for point in self.controls(f) for x in point]
+
+    def marks(self, f):
+        """The marks of patch f (rule B13), a byte a point: 1 where rounding left nothing in any coordinate, else 0."""
+        return [int(whole(point)) for point in self.controls(f)]
+
+
+def points(marks):
+    """The marks of a patch by the places of its points, {(i, j): mark}."""
+    return {(i, j): marks[i + 4 * j] for j, i in product(range(4), repeat=2)}
 
 
 # ---- Samples.
@@ -104,6 +123,15 @@ def exact_samples(patch, n):
 
 def rounded(samples):
     return {place: [round(x) for x in sample] for place, sample in samples.items()}
+
+
+def sample_mark(marks, sample):
+    """The mark of a sample (rule S7), from the bytes of its patch and the sample before it is rounded: 1 where it is exact, else 0."""
+    return int(marks == [1] * POINTS and whole(sample))
+
+
+def sample_marks(marks, samples):
+    return {place: sample_mark(marks, sample) for place, sample in samples.items()}
 
 
 def side_place(s, t, n):
@@ -141,7 +169,7 @@ class Renumbering:
         return [tuple(self.vertices[p] for p in face) for face in turned]
 
     def assert_same(self, old, new, n):
-        """That the samples of each face, as a list, are the same at the places that match."""
+        """That the samples of each face, as a list, or their marks are the same at the places that match."""
         for g, (f, start) in enumerate(zip(self.order, self.starts)):
             for place, sample in old[f].items():
                 a, b = place
@@ -173,6 +201,11 @@ def mirrored_patch(patch):
     """The patch of a face in the image: point b(i,j) is what b(j,i) was, with x negated."""
     point = lambda i, j: patch[3 * (i + 4 * j) : 3 * (i + 4 * j) + 3]
     return [x for j, i in product(range(4), repeat=2) for x in mirrored_point(point(j, i))]
+
+
+def mirrored_marks(marks):
+    """The marks of a face in the image: that of b(i,j) is what that of b(j,i) was."""
+    return [marks[j + 4 * i] for j, i in product(range(4), repeat=2)]
 
 
 def mirrored_samples(samples):

@@ -1,18 +1,19 @@
-"""The forms of the trials of the sample call, with the reading, and of the line call: their files and what the program has to print.
+"""The forms of the trials of the sample call, with the reading, of the marked sample and of the line call: their files and what the
+program has to print.
 
-What is expected is computed here by rules S1 to S6 of docs/SPECIFICATION.md, in fractions that are rounded once. tools/trials.py and
-tools/line_trials.py have the trials.
+What is expected is computed here by rules S1 to S7 of docs/SPECIFICATION.md, in fractions that are rounded once. tools/trials.py,
+tools/marked_sample_trials.py and tools/line_trials.py have the trials.
 """
 
 import struct
-from dataclasses import dataclass
+from dataclasses import dataclass, field
 from fractions import Fraction
 from itertools import product
 from math import comb
 
 from meshes import CONTROL, CONTROLS, STEPS
-from patches import PATCH
-from trial_forms import FILLING, LINE, SAMPLE, doubles, filled, spaced, summed
+from patches import PATCH, POINTS, sample_mark
+from trial_forms import FILLING, LINE, MARKED, SAMPLE, doubles, filled, spaced, summed
 
 # ---- Control values.
 
@@ -79,11 +80,15 @@ class SampleAnswer:
         self.trial = trial
         self.patch = trial.numbers[PATCH * trial.f : PATCH * trial.f + PATCH]
 
+    def short(self):
+        """Whether a list ends before the face does."""
+        return PATCH * self.trial.f + PATCH > len(self.trial.numbers)
+
     def causes(self):
         """The numbers of all causes that are met, in order; the answer is the first."""
         t = self.trial
         met = {
-            12: PATCH * t.f + PATCH > len(t.numbers),
+            12: self.short(),
             13: any(x not in CONTROLS for x in self.patch),
             14: t.n not in STEPS or t.a > t.n or t.b > t.n,
         }
@@ -100,12 +105,50 @@ class SampleAnswer:
         """The point of the patch. A fraction is rounded once, ties to even."""
         return [round(x) for x in self.exact()]
 
+    def words(self):
+        """The answer of the sample call."""
+        causes = self.causes()
+        return ["refused", causes[0]] if causes else self.sample()
+
     def line(self):
         """What the program prints after the trial's name."""
-        causes = self.causes()
-        if causes:
-            return f"refused {causes[0]} reading refused {causes[0]}"
-        return spaced(self.sample(), doubles(self.sample()))
+        reading = ["reading", *self.words()] if self.causes() else doubles(self.sample())
+        return spaced(self.words(), reading)
+
+
+# ---- Marked sample trials: the arguments of the marked sample call.
+
+
+@dataclass
+class MarkedTrial(SampleTrial):
+    # The bytes of the points, sixteen a face.
+    marks: list = field(default_factory=lambda: [1] * POINTS)
+
+    def bytes(self):
+        """The trial's file, as crates/trials/src/reading.rt has it."""
+        head = struct.pack("<H4QH", MARKED, self.f, self.n, self.a, self.b, len(self.marks))
+        return head + bytes(self.marks) + packed(self.numbers)
+
+    def answer(self):
+        return MarkedAnswer(self)
+
+
+class MarkedAnswer(SampleAnswer):
+    """What the rules say of the marked sample call, and of the sample call, which needs no marks."""
+
+    def short(self):
+        return super().short() or POINTS * self.trial.f + POINTS > len(self.trial.marks)
+
+    def mark(self):
+        """1 where the sample is exact, else 0."""
+        t = self.trial
+        return sample_mark(t.marks[POINTS * t.f : POINTS * t.f + POINTS], self.exact())
+
+    def line(self):
+        """What the program prints after the trial's name."""
+        causes, plain = self.causes(), SampleAnswer(self.trial)
+        words = ["refused", causes[0]] if causes else [*self.sample(), "mark", self.mark()]
+        return spaced(words, ["sample"], plain.words())
 
 
 # ---- Line trials: the arguments of the line call.

@@ -2,32 +2,35 @@
 
 What is expected is computed here, in meshes.py and in patches.py by the rules of docs/SPECIFICATION.md, of a mesh by sets and
 dictionaries over the whole of it and of control points and samples by fractions, and not as the library does it, so the gate compares
-two readings of the rules. tools/trials.py, tools/mirror_trials.py and tools/fan_trials.py have the trials. The forms of the sample call
-and of the line call are in sample_forms.py, that of the cosines and weights in weight_trials.py, that of the tangent call in
-tangent_trials.py.
+two readings of the rules. tools/trials.py, tools/mark_trials.py, tools/mirror_trials.py and tools/fan_trials.py have the trials. The
+forms of the sample call, of the marked sample and of the line call are in sample_forms.py, that of the cosines and weights in
+weight_trials.py, that of the tangent call in tangent_trials.py.
 """
 
 import struct
 from dataclasses import dataclass
 
 from meshes import MESH_FAULTS, NO_MATE, Mesh, MeshReading, PatchReading, changed, mirrored, numbered, spoiled
-from patches import PATCH, mirrored_patch, mirrored_samples, mirrored_side, rounded, shuffled
+from patches import PATCH, POINTS, mirrored_marks, mirrored_patch, mirrored_samples, mirrored_side, points, rounded, sample_marks, shuffled
 from shapes import Shape, cube, notched, square
 
-# What the program fills the lent lists with, the places that it has for a list and for that of patches, and how many of a list of
-# control values or positions it prints in clear.
+# What the program fills the lent lists with, the places that it has for a list, for that of patches and for that of marks, and how many
+# of a list of control values or positions it prints in clear.
 FILLING = 7
 PLACES = 2048
 PATCH_PLACES = 12291
+MARK_PLACES = 4099
 CLEAR = 816
 
-# What a sample trial's file begins with, a patch trial's, a mirror trial's, a line trial's, a weight trial's, and a tangent trial's.
+# What a sample trial's file begins with, a patch trial's, a mirror trial's, a line trial's, a weight trial's, a tangent trial's, and a marked
+# sample trial's.
 SAMPLE = 65535
 HEAD = 65533
 MIRROR = 65531
 LINE = 65529
 WEIGHTS = 65527
 TANGENT = 65525
+MARKED = 65523
 
 
 # ---- Mesh trials: the arguments of the check.
@@ -39,7 +42,7 @@ class MeshTrial(Mesh):
 
     def bytes(self):
         """The trial's file, as crates/trials/src/reading.rt has it."""
-        assert self.v not in (SAMPLE, HEAD, MIRROR, LINE, WEIGHTS, TANGENT)
+        assert self.v not in (SAMPLE, HEAD, MIRROR, LINE, WEIGHTS, TANGENT, MARKED)
         sizes = struct.pack("<6H", self.v, self.f, len(self.positions), len(self.tags), len(self.faces), self.twins)
         return sizes + self.packed()
 
@@ -85,19 +88,21 @@ def with_faults(causes):
 @dataclass
 class PatchTrial(MeshTrial):
     n: int
+    # The lengths of the lent lists of patches and of marks.
     patches: int
+    marks: int
 
     def bytes(self):
         """The trial's file, as crates/trials/src/reading.rt has it."""
-        return struct.pack("<3H", HEAD, self.patches, self.n) + super().bytes()
+        return struct.pack("<4H", HEAD, self.patches, self.marks, self.n) + super().bytes()
 
     def answer(self):
         return PatchAnswer(self)
 
 
 def patched(trial, n=2):
-    """A mesh trial as one of the patch call, with a list of patches three places longer than need be."""
-    return PatchTrial(**vars(trial), n=n, patches=PATCH * trial.f + 3)
+    """A mesh trial as one of the patch call, with lists of patches and of marks three places longer than need be."""
+    return PatchTrial(**vars(trial), n=n, patches=PATCH * trial.f + 3, marks=POINTS * trial.f + 3)
 
 
 def placed(shape, points, n=2):
@@ -122,6 +127,17 @@ def shuffled_trial(random, trial):
     old = trial.answer()
     other = placed(Shape(change.faces(old.faces)), change.moved(old.points), trial.n)
     return change, changed(other, tags=change.moved(trial.tags))
+
+
+def renumbered_too(random, name, trial):
+    """A patch trial by its name, and the same one renumbered, whose samples and marks are held against its own place by place."""
+    change, other = shuffled_trial(random, trial)
+    old, new = trial.answer(), other.answer()
+    change.assert_same(old.samples, new.samples, trial.n)
+    change.assert_same(old.marked, new.marked, trial.n)
+    change.assert_same(*([points(marks) for marks in answer.marks] for answer in (old, new)), 3)
+    yield name, trial
+    yield f"{name}-renumbered", other
 
 
 def the_square(n=2):
@@ -173,7 +189,7 @@ def mirroring(trial):
 
 def image_of(trial):
     """The patch trial of a patch trial's mirror image."""
-    return PatchTrial(**vars(mirrored(trial)), twins=trial.twins, n=trial.n, patches=trial.patches)
+    return PatchTrial(**vars(mirrored(trial)), twins=trial.twins, n=trial.n, patches=trial.patches, marks=trial.marks)
 
 
 # ---- The rules, read once more.
@@ -203,13 +219,18 @@ def summed(word, numbers):
     return [spaced([word], two_sums(numbers)), *(spaced([""], shown[at : at + PATCH]) for at in range(0, len(shown), PATCH))]
 
 
-def patch_lines(words, twins, patches, samples, n):
-    """The lines of the patch call: its answer, the two lists afterwards, and the samples of each face."""
-    lines = [spaced(words, ["twins"], twins), *summed(" patches", patches)]
-    for face in samples:
+def patch_lines(words, twins, patches, marks, samples, marked, n):
+    """The lines of the patch call: its answer, the three lists afterwards, and the samples of each face with their marks."""
+    lines = [spaced(words, ["twins"], twins), *summed(" patches", patches), spaced([" marks"], marks)]
+    for face, exact in zip(samples, marked):
         sums, half = two_sums(x for sample in face.values() for x in sample), face[n // 2, n // 2]
-        lines.append(spaced([" samples"], sums, half, doubles(half)))
+        lines.append(spaced([" samples"], sums, half, doubles(half), ["marked"], two_sums(exact.values())))
     return lines
+
+
+def joined(lists):
+    """The numbers of some lists in one."""
+    return [x for numbers in lists for x in numbers]
 
 
 def filled(written, length):
@@ -250,13 +271,17 @@ class PatchAnswer(MeshAnswer, PatchReading):
     """What the rules say of the patch call, and of the samples of what it wrote."""
 
     def lent_short(self):
-        return super().lent_short() or self.mesh.patches < PATCH * self.mesh.f
+        t = self.mesh
+        return super().lent_short() or t.patches < PATCH * t.f or t.marks < POINTS * t.f
+
+    def lists(self):
+        """The three lent lists after the call."""
+        t = self.mesh
+        return self.twins(), filled(joined(self.patches), t.patches), filled(joined(self.marks), t.marks)
 
     def line(self):
         """What the program prints after the trial's name."""
-        t = self.mesh
-        patches = filled([x for patch in self.patches for x in patch], t.patches)
-        return "\n".join(patch_lines(self.words(), self.twins(), patches, self.samples, t.n))
+        return "\n".join(patch_lines(self.words(), *self.lists(), self.samples, self.marked, self.mesh.n))
 
 
 class MirrorAnswer(PatchReading):
@@ -276,9 +301,11 @@ class MirrorAnswer(PatchReading):
         t = self.mesh
         mates = [self.mates[mirrored_side(side)] for side in range(4 * t.f)]
         twins = [NO_MATE if mate is None else mirrored_side(mate) for mate in mates]
-        patches = [x for patch in self.patches for x in mirrored_patch(patch)]
-        samples = [rounded(mirrored_samples(exact)) for exact in self.exact]
-        return patch_lines(self.counts(), filled(twins, t.twins), filled(patches, t.patches), samples, t.n)
+        patches, marks = [mirrored_patch(patch) for patch in self.patches], [mirrored_marks(marks) for marks in self.marks]
+        exact = [mirrored_samples(exact) for exact in self.exact]
+        marked = [sample_marks(*face) for face in zip(marks, exact)]
+        lists = filled(twins, t.twins), filled(joined(patches), t.patches), filled(joined(marks), t.marks)
+        return patch_lines(self.counts(), *lists, [rounded(face) for face in exact], marked, t.n)
 
     def line(self):
         """What the program prints after the trial's name."""

@@ -3,8 +3,9 @@
 
 What is expected is computed in trial_forms.py and sample_forms.py from an independent reading of the rules. A trial's name says what
 it is, and ends in -refused-N where the call says no. The trials of the mirror call are in mirror_trials.py, those of the line call in
-line_trials.py, those of circulating, which the mesh check does, in fan_trials.py, those of the cosines and weights in weight_trials.py, and
-those of the tangent call in tangent_trials.py.
+line_trials.py, those of circulating, which the mesh check does, in fan_trials.py, those of the cosines and weights in weight_trials.py,
+those of the tangent call in tangent_trials.py, those of the marks of the patch call in mark_trials.py, and those of the marked sample in
+marked_sample_trials.py.
 """
 
 import argparse
@@ -14,6 +15,8 @@ from pathlib import Path
 
 import fan_trials
 import line_trials
+import mark_trials
+import marked_sample_trials
 import mirror_trials
 import tangent_trials
 import weight_trials
@@ -52,9 +55,9 @@ from trial_forms import (
     mesh,
     patched,
     placed,
+    renumbered_too,
     scattered,
     shortened,
-    shuffled_trial,
     tagged,
     the_cube,
     the_reentrant,
@@ -84,11 +87,7 @@ def varied(shape, n):
 
 
 def with_renumbered(name, trial):
-    """The trial, and the same one renumbered, whose samples are held against its own place by place."""
-    yield name, trial
-    change, other = shuffled_trial(PATCH_RANDOM, trial)
-    change.assert_same(trial.answer().samples, other.answer().samples, trial.n)
-    yield f"{name}-renumbered", other
+    return renumbered_too(PATCH_RANDOM, name, trial)
 
 
 # ---- The trials of the mesh check.
@@ -457,7 +456,7 @@ def patch_lent():
     yield "patch-both-lists-one-short-refused-2", changed(patched(mesh(cube())), twins=23, patches=287)
     yield "patch-list-one-short-twins-exact-refused-2", changed(patched(mesh(cube())), twins=24, patches=287)
     yield "patch-both-lists-empty-faces-0-refused-1", changed(patched(mesh(square())), f=0, faces=[], twins=0, patches=0)
-    yield "patch-faces-257-refused-1", changed(patched(mesh(grid(257, 1))), patches=48)
+    yield "patch-faces-257-refused-1", changed(patched(mesh(grid(257, 1))), patches=48, marks=16)
 
 
 def patch_refused():
@@ -510,8 +509,8 @@ def files():
     head = placed(square(), [(0, 0, 0)] * 4).bytes()
     yield "patch-12292-numbers-too-long", changed(patched(mesh(square())), patches=PATCH_PLACES + 1).bytes(), "too long"
     yield "patch-file-first-number-only-not-whole", head[:2], "not whole"
-    yield "patch-file-head-one-byte-short-not-whole", head[:5], "not whole"
-    yield "patch-file-head-only-not-whole", head[:6], "not whole"
+    yield "patch-file-head-one-byte-short-not-whole", head[:7], "not whole"
+    yield "patch-file-head-only-not-whole", head[:8], "not whole"
     yield "patch-file-one-byte-short-not-whole", head[:-1], "not whole"
     yield "patch-file-one-byte-long-not-whole", head + b"\0", "not whole"
     yield "file-missing", None, "no file"
@@ -561,7 +560,9 @@ def main():
     mirrors, lines, fans = trials(mirror_trials.GROUPS), trials(line_trials.GROUPS), trials(fan_trials.GROUPS)
     earlier = chain(trials(MESHES + SAMPLES + PATCHES), files(), mirrors, mirror_trials.files(), lines, line_trials.files(), fans)
     weights, tangents = trials(weight_trials.GROUPS), trials(tangent_trials.GROUPS)
-    write(chain(earlier, weights, weight_trials.files(), tangents, tangent_trials.files()))
+    marks, samples = trials(mark_trials.GROUPS), trials(marked_sample_trials.GROUPS)
+    later = chain(marks, mark_trials.files(), samples, marked_sample_trials.files())
+    write(chain(earlier, weights, weight_trials.files(), tangents, tangent_trials.files(), later))
 
 
 if __name__ == "__main__":

@@ -3,26 +3,31 @@
 --
 --   code answer           what a call returns: 0 for a result, else the number of the refusal
 --   counted answer d      the four lent numbers afterwards, which held d: V, F, E and B, or d after a refusal
+--   coordinates p         x, y and z of a point
 --   placed answer d       the three lent numbers afterwards, which held d: x, y and z of the sample, or d after a refusal
+--   unmarked answer       the answer without the mark: the sample, or the refusal
+--   markStored answer m   the lent byte afterwards, which held m: 1 for an exact sample and 0 for another (rule S7), or m after a refusal
 --   Read answer x y z x' y' z'   the three lent doubles x', y', z' afterwards, which held x, y, z: each exactly the sample over 256 (rule S5),
 --                         or as they were after a refusal (rule R5)
 --   firstCorner corners f d   the lent place of a face's first corner afterwards, which held d: 4f, or d where the face has no corners
---   CornersTold, CountsStored, CheckStored, PatchesStored, SampleStored, ReadingStored, LineStored, MirrorStored, TangentsStored   for each call, what
---                         it returns, and every lent number and list afterwards
+--   CornersTold, CountsStored, CheckStored, PatchesStored, SampleStored, MarkedStored, ReadingStored, LineStored, MirrorStored, TangentsStored   for
+--                         each call, what it returns, and every lent number and list afterwards
 use mathlib.Core.Path.{_≡_}
 use mathlib.Core.List.{List, [], _∷_}
 use Prim.Native.Nat.{ℕ, _*_}
 use lib.IntN.{ℤ}
 use lib.Ieee.{Float}
 use lib.ListN.{length, take, drop}
+use Rattle.finite.specs.Fold.{indicator}
 use Rattle.finite.specs.Table.{Answer, result, refusal}
 use Rattle.limits.specs.declared.model.Mesh.{Mesh}
 use Rattle.corner.specs.Corner.{faceCorners}
 use Rattle.mesh.specs.IndexedMesh.{IndexedMesh}
 use Rattle.mesh.specs.Answer.{checkAnswer, checkTwins}
-use Rattle.patch.specs.Answer.{patchAnswer, patchTwins, patchList}
+use Rattle.patch.specs.Answer.{patchAnswer, patchTwins, patchList, exactList}
 use Rattle.sample.specs.Answer.{Over256}
 use Rattle.sample.specs.declared.model.Point.{Point}
+use Rattle.sample.specs.declared.model.MarkedPoint.{MarkedPoint}
 use Rattle.sample.specs.Line.{lineAnswer, LineLeft}
 use Rattle.edit.specs.Mirror.{mirrorAnswer, MirrorLeft}
 use Rattle.tangent.specs.Answer.{tangentAnswer, tangentsAfter}
@@ -35,9 +40,20 @@ abbrev pub counted : Answer Mesh → List ℕ → List ℕ
 counted (result m) d = m .vertices ∷ (m .faces ∷ (m .edges ∷ (m .boundary ∷ [])))
 counted (refusal k) d = d
 
+abbrev pub coordinates : Point → List ℤ
+coordinates p = p .x ∷ (p .y ∷ (p .z ∷ []))
+
 abbrev pub placed : Answer Point → List ℤ → List ℤ
-placed (result p) d = p .x ∷ (p .y ∷ (p .z ∷ []))
+placed (result p) d = coordinates p
 placed (refusal k) d = d
+
+abbrev pub unmarked : Answer MarkedPoint → Answer Point
+unmarked (result p) = result (p .point)
+unmarked (refusal k) = refusal k
+
+abbrev pub markStored : Answer MarkedPoint → ℕ → ℕ
+markStored (result p) m = indicator (p .exact)
+markStored (refusal k) m = m
 
 abbrev pub Read : Answer Point → Float → Float → Float → Float → Float → Float → Type 0
 Read (result p) x y z x' y' z' = Over256 x' (p .x) × Over256 y' (p .y) × Over256 z' (p .z)
@@ -60,14 +76,20 @@ pub record CheckStored (M : IndexedMesh) (d c : List ℕ) (r : ℕ) (d' c' : Lis
   pub stored : CountsStored (checkAnswer M d) c r c'
   pub twins-are : d' ≡ checkTwins M d
 
-pub record PatchesStored (M : IndexedMesh) (d : List ℕ) (e : List ℤ) (c : List ℕ) (r : ℕ) (d' : List ℕ) (e' : List ℤ) (c' : List ℕ) : Type 0 where
-  pub stored : CountsStored (patchAnswer M d e) c r c'
-  pub twins-are : d' ≡ patchTwins M d e
-  pub patches-are : e' ≡ patchList M d e
+pub record PatchesStored (M : IndexedMesh) (d : List ℕ) (e : List ℤ) (x c : List ℕ) (r : ℕ) (d' : List ℕ) (e' : List ℤ) (x' c' : List ℕ) : Type 0 where
+  pub stored : CountsStored (patchAnswer M d e x) c r c'
+  pub twins-are : d' ≡ patchTwins M d e x
+  pub patches-are : e' ≡ patchList M d e x
+  pub exact-are : x' ≡ exactList M d e x
 
 pub record SampleStored (answer : Answer Point) (d : List ℤ) (r : ℕ) (d' : List ℤ) : Type 0 where
   pub code-is : r ≡ code answer
   pub point-is : d' ≡ placed answer d
+
+pub record MarkedStored (answer : Answer MarkedPoint) (d : List ℤ) (m r : ℕ) (d' : List ℤ) (m' : ℕ) : Type 0 where
+  pub code-is : r ≡ code answer
+  pub point-is : d' ≡ placed (unmarked answer) d
+  pub mark-is : m' ≡ markStored answer m
 
 pub record ReadingStored (answer : Answer Point) (x y z : Float) (r : ℕ) (x' y' z' : Float) : Type 0 where
   pub code-is : r ≡ code answer

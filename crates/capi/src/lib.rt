@@ -1,17 +1,22 @@
 //! The calls of the library for C: each returns a number, and the results go into numbers that the caller lends.
 use finite::model::Outcome;
 use limits::model::Checked;
+use sample::model::Marked;
+use sample::model::Point;
 use sample::model::Reading;
 use sample::model::Sampled;
 ghost use mathlib.Core.Path.{_≡_};
 ghost use mathlib.Core.List.{_∷_, []};
+ghost use Rattle.finite.specs.Fold.{indicator};
 ghost use Rattle.finite.specs.Table.{outcome};
 ghost use Rattle.mesh.specs.IndexedMesh.{indexed};
 ghost use Rattle.mesh.specs.Answer.{checked};
 ghost use Rattle.sample.specs.Answer.{sampleAnswer};
+ghost use Rattle.sample.specs.Marked.{markedAnswer};
 ghost use Rattle.cosine.specs.Cosine.{Entry};
 ghost use Rattle.cosine.specs.Weight.{edgeWeight, faceWeight};
-ghost use Rattle.capi.specs.Answer.{code, CornersTold, CountsStored, CheckStored, PatchesStored, SampleStored, ReadingStored, LineStored, MirrorStored, TangentsStored};
+ghost use Rattle.capi.specs.Answer.{code, coordinates, CornersTold, CountsStored, CheckStored, PatchesStored, SampleStored};
+ghost use Rattle.capi.specs.Answer.{MarkedStored, ReadingStored, LineStored, MirrorStored, TangentsStored};
 
 // The corners of face f: `corner::face_corners`, whose part of the face list C is told by its first place and its length.
 // Returns: the number of corners, 4, or 0 where 4f + 4 is above the length of indices.
@@ -81,9 +86,9 @@ pub extern "C" fn rusketja_check(
 
 // The patches of a mesh of v vertices and f faces, which is checked first: `patch::patches`.
 // Returns: 0 for an accepted mesh, or the number of the refusal.
-// Writes: V, F, E and B of an accepted mesh into vertices, faces, edges and boundary; the twins and the patches as
+// Writes: V, F, E and B of an accepted mesh into vertices, faces, edges and boundary; the twins, the patches and their marks as
 // `patch::patches` does.
-// Leaves alone: the four lent numbers after a refusal; the twins and the patches as `patch::patches` does.
+// Leaves alone: the four lent numbers after a refusal; the twins, the patches and their marks as `patch::patches` does.
 // Refuses, and units: as `patch::patches`.
 #[no_mangle]
 pub extern "C" fn rusketja_patches(
@@ -94,17 +99,32 @@ pub extern "C" fn rusketja_patches(
     indices: &[u16],
     twins: &mut [u16],
     patches: &mut [i32],
+    exact: &mut [u8],
     vertices: &mut usize,
     faces: &mut usize,
     edges: &mut usize,
     boundary: &mut usize,
 ) -> u8
-    ensures { λ r. ⌜ PatchesStored (indexed v f (now (positions .entry)) (now (tags .entry)) (now (indices .entry))) (now (twins .entry)) (now (patches .entry))
-        (now (vertices .entry) ∷ (now (faces .entry) ∷ (now (edges .entry) ∷ (now (boundary .entry) ∷ [])))) r (now (twins .exit)) (now (patches .exit))
+    ensures { λ r. ⌜ PatchesStored (indexed v f (now (positions .entry)) (now (tags .entry)) (now (indices .entry)))
+        (now (twins .entry)) (now (patches .entry)) (now (exact .entry))
+        (now (vertices .entry) ∷ (now (faces .entry) ∷ (now (edges .entry) ∷ (now (boundary .entry) ∷ [])))) r
+        (now (twins .exit)) (now (patches .exit)) (now (exact .exit))
         (now (vertices .exit) ∷ (now (faces .exit) ∷ (now (edges .exit) ∷ (now (boundary .exit) ∷ [])))) ⌝ }
 {
-    let answer = patch::patches(v, f, positions, tags, indices, twins, patches);
+    let answer = patch::patches(v, f, positions, tags, indices, twins, patches, exact);
     store_counts(answer, vertices, faces, edges, boundary)
+}
+
+// Stores a sample into the three lent numbers.
+fn store_point(p: Point, x: &mut i32, y: &mut i32, z: &mut i32)
+    ensures { λ _. ⌜ now (x .exit) ∷ (now (y .exit) ∷ (now (z .exit) ∷ [])) ≡ coordinates p ⌝ }
+{
+    let px = p.x;
+    let py = p.y;
+    let pz = p.z;
+    *x = px;
+    *y = py;
+    *z = pz;
 }
 
 // The sample of face f at (a, b), for N = n (rules S1 to S4): `sample::sample`.
@@ -128,15 +148,53 @@ pub extern "C" fn rusketja_sample(
 {
     match sample::sample(patches, f, n, a, b) {
         Sampled::At(p) => {
-            let px = p.x;
-            let py = p.y;
-            let pz = p.z;
-            *x = px;
-            *y = py;
-            *z = pz;
+            store_point(p, x, y, z);
             0
         }
         Sampled::Refused(k) => k,
+    }
+}
+
+// A mark as a byte: 1 for yes, 0 for no.
+fn mark_byte(exact: bool) -> u8
+    ensures { λ r. ⌜ r ≡ indicator exact ⌝ }
+{
+    if exact {
+        return 1;
+    }
+    0
+}
+
+// The sample of face f at (a, b), for N = n, and whether it is exact (rule S7): `sample::marked_sample`.
+// Returns: 0, or the number of the refusal.
+// Writes: the sample into x, y and z, and its mark into mark: 1 where it is exact, else 0.
+// Leaves alone: x, y, z and mark after a refusal; the patch list and the list of its marks.
+// Refuses, and units: as `sample::marked_sample`.
+#[no_mangle]
+pub extern "C" fn rusketja_marked_sample(
+    patches: &[i32],
+    exact: &[u8],
+    f: usize,
+    n: usize,
+    a: usize,
+    b: usize,
+    x: &mut i32,
+    y: &mut i32,
+    z: &mut i32,
+    mark: &mut u8,
+) -> u8
+    ensures { λ r. ⌜ MarkedStored (markedAnswer (now (patches .entry)) (now (exact .entry)) f n a b)
+        (now (x .entry) ∷ (now (y .entry) ∷ (now (z .entry) ∷ []))) (now (mark .entry)) r
+        (now (x .exit) ∷ (now (y .exit) ∷ (now (z .exit) ∷ []))) (now (mark .exit)) ⌝ }
+{
+    match sample::marked_sample(patches, exact, f, n, a, b) {
+        Marked::At(p) => {
+            let whole = p.exact;
+            store_point(p.point, x, y, z);
+            *mark = mark_byte(whole);
+            0
+        }
+        Marked::Refused(k) => k,
     }
 }
 

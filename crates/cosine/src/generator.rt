@@ -28,7 +28,7 @@ fn following(c: i64, last: i64, before: i64) -> i64
     requires { ⌜ (natAbs c ≤ 2 ^ 20) × (natAbs last ≤ 2 ^ 21) × (natAbs before ≤ 2 ^ 21) ⌝ }
     ensures { λ r. ⌜ r ≡ nearest (pos 2 *ℤ c *ℤ last) scale -ℤ before ⌝ }
 {
-    integer::round(2 * c * last, ONE as u32) - before
+    integer::round(2 * c * last, ONE as u32).value - before
 }
 
 // Number j of the recurrence for m.
@@ -74,7 +74,7 @@ fn over_divisor(factor: i64, value: i64, n: usize) -> i32
     ensures { λ r. ⌜ r ≡ nearest (factor *ℤ value) (divisor n) ⌝ }
 {
     let over = n as u64 * hypotenuse(n);
-    integer::round(factor * value, over as u32) as i32
+    integer::round(factor * value, over as u32).value as i32
 }
 
 // R + H for n faces.

@@ -1,32 +1,42 @@
 -- The mirror image of a mesh is of one shape with it, its faces turned the other way: it is accepted with the same counts, and has the samples
--- of the mesh with a and b exchanged and x negated.
+-- of the mesh with a and b exchanged and x negated, and the same marks.
 --
 --   alike a          the two meshes are of one shape, their faces turned the other way
 --   Reflects k       the relation of coordinate k of the mesh to that of its image
 use mathlib.Core.Path.{_≡_, refl, sym, ap, ap₂, _∙_, subst}
-use Prim.Native.Nat.{ℕ, zero, suc, _+_, _-_, _*_, _/_, _%_, _≤_, _<_}
+use mathlib.Core.Bool.{true, _&&_}
+use Prim.Native.Nat.{ℕ, zero, suc, _+_, _-_, _*_, _/_, _%_, _^_, _≤_, _<_}
+use native.Mathlib.Nat.{one-le-pow}
 use native.Mathlib.Omega.{arith}
 use lib.IntN.{ℤ, pos, natAbs, _+ℤ_, _*ℤ_}
-use Rattle.integer.specs.Nearest.{nearest}
+use Rattle.integer.specs.Nearest.{nearest, whole}
 use Rattle.integer.proofs.Difference.{int, _⊕_, ~, prove-eq}
 use Rattle.integer.proofs.Laws.{abs-neg, *ℤ-negℤ}
 use Rattle.integer.proofs.NearestLaws.{nearest-odd}
+use Rattle.integer.proofs.WholeLaws.{whole-odd}
+use Rattle.finite.specs.Fold.{allBelow}
+use Rattle.finite.specs.Filled.{listBelow}
 use Rattle.finite.specs.Permutation.{Permutation}
-use Rattle.finite.proofs.FilledLaws.{length-listBelow, listBelow-at}
+use Rattle.finite.proofs.FoldLaws.{fold-ext, fold-reindex}
+use Rattle.finite.proofs.AnyAll.{all-monoid}
+use Rattle.finite.proofs.FilledLaws.{length-listBelow, listBelow-at, agree}
 use Rattle.corner.specs.Corner.{turn, next, prev}
 use Rattle.mesh.specs.IndexedMesh.{IndexedMesh, corners, at, coordinate}
 use Rattle.mesh.specs.WellFormed.{WellFormed}
 use Rattle.sample.specs.Bernstein.{rounded}
-use Rattle.sample.proofs.SampleLaws.{rounded-ext, rounded-swap}
+use Rattle.sample.proofs.SampleLaws.{numerator-ext, numerator-swap, rounded-ext, rounded-swap}
 use Rattle.mask.proofs.LinearLaws.{Linear}
-use Rattle.patch.specs.Patch.{patchPoint, units, controlValue, view}
-use Rattle.patch.proofs.Related.{valued}
+use Rattle.patch.specs.Patch.{patchPoint, units, exactly, controlValue, view}
+use Rattle.patch.proofs.Related.{valued, patch-related}
 use Rattle.symmetry.proofs.Sense.{reversed}
 use Rattle.symmetry.proofs.WellFormedMoves.{Alike}
 use Rattle.correspondence.proofs.PointSense.{pointIn}
 use Rattle.correspondence.proofs.PointMoves.{patch-moves}
 use Rattle.edit.specs.Mirror.{reflectedCorner, reflected, mirrored}
-use Rattle.effect.proofs.SampleRelated.{Rounds, sample-related, control-related}
+use Rattle.surface.specs.Renumbering.{place}
+use Rattle.surface.proofs.FaceSamples.{sumFrom}
+use Rattle.surface.proofs.MarkLaws.{pointsExact, markFrom}
+use Rattle.effect.proofs.SampleRelated.{Rounds, numerator-related, sample-related, control-related}
 
 -- ---- corners
 reflected-below : (f c : ℕ) → c < 4 * f → reflectedCorner c < 4 * f
@@ -80,12 +90,28 @@ nearest-reflected : (k : ℕ) (z : ℤ) (d : ℕ) → 0 < d → nearest (reflect
 nearest-reflected zero z d h = nearest-odd z d h
 nearest-reflected (suc k) z d h = refl
 
+whole-reflected : (k : ℕ) (z : ℤ) (d : ℕ) → 0 < d → whole (reflected k z) d ≡ whole z d
+whole-reflected zero z d h = whole-odd z d h
+whole-reflected (suc k) z d h = refl
+
 reflects : (k : ℕ) → Rounds (Reflects k)
 reflects k = record { linear = reflects-linear k; rounds = λ d {y} h e. ap (λ (t : ℤ). nearest t d) e ∙ nearest-reflected k y d h }
 
 -- ---- the image of a mesh
 same-numbers : (n : ℕ) → Permutation n
 same-numbers n = record { to = λ k. k; from = λ k. k; to-below = λ k l. l; from-below = λ k l. l; from-to = λ k l. refl; to-from = λ k l. refl }
+
+-- the points of a patch with i and j exchanged
+exchange : Permutation 16
+unfolding listBelow
+exchange = record {
+  to = pointIn reversed;
+  from = pointIn reversed;
+  to-below = λ m l. omega arith;
+  from-below = λ m l. omega arith;
+  from-to = agree (λ m. pointIn reversed (pointIn reversed m)) (λ m. m) 16 refl;
+  to-from = agree (λ m. pointIn reversed (pointIn reversed m)) (λ m. m) 16 refl;
+}
 
 module _ {M : IndexedMesh} (a : WellFormed M) where
   reflectedCorners : Permutation (corners M)
@@ -149,3 +175,36 @@ module _ {M : IndexedMesh} (a : WellFormed M) where
       ∙ rounded-swap n x y (controlValue (valued M (X k)) (4 * f))
       ∙ sample-related (reflects k) n x y some hx hy (controlValue (view M k) (4 * f)) (controlValue (valued M (X k)) (4 * f))
       (λ m _. control-reflected k f m l)
+
+  -- ---- the marks
+  -- nothing is left in a coordinate that is reflected where nothing was left in it
+  point-reflected : (k f m : ℕ) → f < M .faces → exactly (patchPoint (valued M (X k)) (4 * f) m) ≡ exactly (patchPoint (view M k) (4 * f) m)
+  point-reflected k f m l =
+      let w = patch-related (reflects-linear k) a (view M k .value) (X k) (λ p _. refl) (4 * f) m (omega arith) in
+      let q = patchPoint (view M k) (4 * f) m in
+      ap₂ whole (reflects-linear k .scale 256 {k = q .den} (w .related)) (w .same) ∙ whole-reflected k (pos 256 *ℤ q .num) (q .den) (w .positive)
+
+  points-mirrored : (f : ℕ) → f < M .faces → pointsExact (view (mirrored M)) (4 * f) ≡ pointsExact (view M) (4 * f)
+  unfolding exchange
+  points-mirrored f l =
+      fold-ext true _&&_ 16 (λ m b. fold-ext true _&&_ 3 (λ k h.
+      ap exactly (patch-mirrored k f m h l b) ∙ point-reflected k f (pointIn reversed m) l))
+      ∙ fold-reindex all-monoid exchange (λ m. allBelow (λ k. exactly (patchPoint (view M k) (4 * f) m)) 3)
+
+  sum-mirrored : (n f x y k : ℕ) → f < M .faces → x ≤ n → y ≤ n → k < 3
+      → sumFrom (view (mirrored M) k) n (4 * f) (place y x) ≡ reflected k (sumFrom (view M k) n (4 * f) (place x y))
+  sum-mirrored n f x y k l hx hy h =
+      numerator-ext n y x (λ m r. ap units (patch-mirrored k f m h l r))
+      ∙ numerator-swap n x y (controlValue (valued M (X k)) (4 * f))
+      ∙ numerator-related (reflects k) n x y hx hy (controlValue (view M k) (4 * f)) (controlValue (valued M (X k)) (4 * f))
+      (λ m _. control-reflected k f m l)
+
+  -- and so does its mark
+  pub mark-mirrored : (n : ℕ) → 0 < n → (f x y : ℕ) → f < M .faces → x ≤ n → y ≤ n
+      → markFrom (view (mirrored M)) n (4 * f) (place y x) ≡ markFrom (view M) n (4 * f) (place x y)
+  mark-mirrored n some f x y l hx hy =
+      ap₂ _&&_
+      (points-mirrored f l)
+      (fold-ext true _&&_ 3 (λ k h.
+      ap (λ (z : ℤ). whole z (n ^ 6)) (sum-mirrored n f x y k l hx hy h)
+      ∙ whole-reflected k (sumFrom (view M k) n (4 * f) (place x y)) (n ^ 6) (one-le-pow 6 n some)))

@@ -13,24 +13,26 @@ use Rattle.mesh.specs.WellFormed.{WellFormed}
 use Rattle.mesh.specs.Answer.{countsOf}
 use Rattle.mesh.proofs.AcceptedLaws.{accepted-well-formed, well-formed-accepted}
 use Rattle.sample.specs.Answer.{sampled}
+use Rattle.sample.specs.Marked.{marked}
 use Rattle.sample.proofs.RefusalLaws.{place-on}
 use Rattle.patch.specs.Patch.{view}
-use Rattle.patch.specs.Answer.{listsShort, patchList}
+use Rattle.patch.specs.Answer.{listsShort, patchList, exactList}
 use Rattle.symmetry.proofs.WellFormedMoves.{alike-well-formed, alike-counts}
 use Rattle.edit.specs.Mirror.{reflected, mirrored, outputsOff, mirrorRefusal, MeshMirrored}
 use Rattle.edit.proofs.AnswerLaws.{nothing-met}
 use Rattle.surface.specs.Claim.{OnMesh}
 use Rattle.surface.specs.Renumbering.{place}
-use Rattle.surface.specs.Witness.{sampleAt, Evaluated}
+use Rattle.surface.specs.Witness.{sampleAt, markedAt, Evaluated}
 use Rattle.surface.specs.declared.model.SamplePlace.{SamplePlace}
 use Rattle.surface.specs.declared.model.Evaluation.{Evaluation}
 use Rattle.surface.proofs.FaceSamples.{sampleFrom}
+use Rattle.surface.proofs.MarkLaws.{markFrom}
 use Rattle.surface.proofs.AnsweredLaws.{place-none}
-use Rattle.surface.proofs.ClaimLaws.{answerFrom}
-use Rattle.surface.proofs.WitnessLaws.{accepted-answer, sample-from}
-use Rattle.effect.specs.Mirroring.{exchanged, reflectedAnswer, MirrorClaim, MirrorWitnessed}
+use Rattle.surface.proofs.ClaimLaws.{answerFrom, markedAnswerFrom}
+use Rattle.surface.proofs.WitnessLaws.{accepted-answer, sample-from, marked-by}
+use Rattle.effect.specs.Mirroring.{exchanged, reflectedAnswer, reflectedMarked, MirrorClaim, MirrorWitnessed}
 use Rattle.effect.specs.declared.model.Mirroring.{Mirroring}
-use Rattle.effect.proofs.FromMirror.{alike, sample-mirrored}
+use Rattle.effect.proofs.FromMirror.{alike, sample-mirrored, mark-mirrored}
 
 -- ---- the image of an accepted mesh
 module _ {M : IndexedMesh} (a : WellFormed M) where
@@ -46,14 +48,19 @@ module _ {M : IndexedMesh} (a : WellFormed M) where
       let s = place-on n (q .a) (q .b) (on .1) in
       (on .0, place-none n (q .a) (q .b) _ _ (on .1) (omega (arith, s .2, s .3)) (omega (arith, s .2, s .3)))
 
-  image-sample : (n : ℕ) (q : SamplePlace) → OnMesh M n q
-      → answerFrom (mirrored M) n (q .face) (place (q .b) (q .a)) ≡ reflectedAnswer (answerFrom M n (q .face) (place (q .a) (q .b)))
-  image-sample n q on =
-      let s = place-on n (q .a) (q .b) (on .1) in
-      let same : (k : ℕ) → k < 3
-      → sampleFrom (view (mirrored M) k) n (4 * q .face) (place (q .b) (q .a)) ≡ reflected k (sampleFrom (view M k) n (4 * q .face) (place (q .a) (q .b))) =
-      λ k h. sample-mirrored a n (s .0) (q .face) (q .a) (q .b) k (on .0) (s .2) (s .3) h in
-      rw (same 0 (omega arith), same 1 (omega arith), same 2 (omega arith))
+  module _ (n : ℕ) (q : SamplePlace) (on : OnMesh M n q) where
+    image-coordinate : (k : ℕ) → k < 3
+        → sampleFrom (view (mirrored M) k) n (4 * q .face) (place (q .b) (q .a)) ≡ reflected k (sampleFrom (view M k) n (4 * q .face) (place (q .a) (q .b)))
+    image-coordinate k h = let s = place-on n (q .a) (q .b) (on .1) in sample-mirrored a n (s .0) (q .face) (q .a) (q .b) k (on .0) (s .2) (s .3) h
+
+    image-mark : markFrom (view (mirrored M)) n (4 * q .face) (place (q .b) (q .a)) ≡ markFrom (view M) n (4 * q .face) (place (q .a) (q .b))
+    image-mark = let s = place-on n (q .a) (q .b) (on .1) in mark-mirrored a n (s .0) (q .face) (q .a) (q .b) (on .0) (s .2) (s .3)
+
+    image-sample : answerFrom (mirrored M) n (q .face) (place (q .b) (q .a)) ≡ reflectedAnswer (answerFrom M n (q .face) (place (q .a) (q .b)))
+    image-sample = rw (image-coordinate 0 (omega arith), image-coordinate 1 (omega arith), image-coordinate 2 (omega arith))
+
+    image-marked : markedAnswerFrom (mirrored M) n (q .face) (place (q .b) (q .a)) ≡ reflectedMarked (markedAnswerFrom M n (q .face) (place (q .a) (q .b)))
+    image-marked = rw (image-coordinate 0 (omega arith), image-coordinate 1 (omega arith), image-coordinate 2 (omega arith), image-mark)
 
   -- ---- what the mirror call gave and left
   module _ {x x′ : List ℤ} {t i t′ i′ : List ℕ} {r : Outcome} (mirror : MeshMirrored M x t i r x′ t′ i′) (on : outputsOff M x t i ≡ false) where
@@ -66,42 +73,54 @@ module _ {M : IndexedMesh} (a : WellFormed M) where
     image-left : mirrored M ≡ indexed (M .vertices) (M .faces) x′ t′ i′
     image-left = let left = mirror .left in rw (left .positions-are, left .tags-are, left .indices-are, unmet)
 
--- ---- what the patch call and the sample call gave
-evaluated-sample : {M : IndexedMesh} → WellFormed M → {d b : List ℕ} {e p : List ℤ} {n : ℕ} {q : SamplePlace} {r : Evaluation}
-    → Evaluated M d e n q r b p → listsShort M d e ≡ false → OnMesh M n q → sampled (r .sample) ≡ answerFrom M n (q .face) (place (q .a) (q .b))
-evaluated-sample a {d} {e = e} {n = n} {q = q} gave long on = gave .sample-is ∙ sample-from d e a long n q on
+-- ---- what the patch call and the sample calls gave
+evaluated-sample : {M : IndexedMesh} → WellFormed M → {d h b y : List ℕ} {e p : List ℤ} {n : ℕ} {q : SamplePlace} {r : Evaluation}
+    → Evaluated M d e h n q r b p y → listsShort M d e h ≡ false → OnMesh M n q → sampled (r .sample) ≡ answerFrom M n (q .face) (place (q .a) (q .b))
+evaluated-sample a {d} {h} {e = e} {n = n} {q = q} gave long on = gave .sample-is ∙ sample-from d e h a long n q on
 
-module _ {M : IndexedMesh} (a : WellFormed M) {d d′ b b′ : List ℕ} {e e′ p p′ : List ℤ} {n : ℕ} {q q′ : SamplePlace} (w : Mirroring)
-    (first : Evaluated M d e n q (w .first) b p) (second : Evaluated (mirrored M) d′ e′ n q′ (w .second) b′ p′) where
-  -- the image's sample at the place with a and b exchanged
-  turned-up : listsShort (mirrored M) d′ e′ ≡ false → OnMesh M n q → q′ ≡ exchanged q
-      → sampled (w .second .sample) ≡ answerFrom (mirrored M) n (q .face) (place (q .b) (q .a))
-  turned-up long on at =
-      second .sample-is
-      ∙ ap (sampleAt (patchList (mirrored M) d′ e′) n) at
-      ∙ sample-from d′ e′ (image-formed a) long n (exchanged q) (image-place a n q on)
+evaluated-marked : {M : IndexedMesh} → WellFormed M → {d h b y : List ℕ} {e p : List ℤ} {n : ℕ} {q : SamplePlace} {r : Evaluation}
+    → Evaluated M d e h n q r b p y → listsShort M d e h ≡ false → OnMesh M n q → marked (r .marked) ≡ markedAnswerFrom M n (q .face) (place (q .a) (q .b))
+evaluated-marked a {d} {h} {e = e} {n = n} {q = q} gave long on = gave .marked-is ∙ marked-by d e h a long n q on
 
-  claim : outcome (w .mirror) ≡ result tt → MirrorClaim M d e (mirrored M) d′ e′ n q q′ w
+module _ {M : IndexedMesh} (a : WellFormed M) {d d′ h h′ b b′ y y′ : List ℕ} {e e′ p p′ : List ℤ} {n : ℕ} {q q′ : SamplePlace} (w : Mirroring)
+    (first : Evaluated M d e h n q (w .first) b p y) (second : Evaluated (mirrored M) d′ e′ h′ n q′ (w .second) b′ p′ y′) where
+  -- the image's samples at the place with a and b exchanged
+  module _ (long : listsShort (mirrored M) d′ e′ h′ ≡ false) (on : OnMesh M n q) (at : q′ ≡ exchanged q) where
+    turned-up : sampled (w .second .sample) ≡ answerFrom (mirrored M) n (q .face) (place (q .b) (q .a))
+    turned-up =
+        second .sample-is
+        ∙ ap (sampleAt (patchList (mirrored M) d′ e′ h′) n) at
+        ∙ sample-from d′ e′ h′ (image-formed a) long n (exchanged q) (image-place a n q on)
+
+    marked-turned-up : marked (w .second .marked) ≡ markedAnswerFrom (mirrored M) n (q .face) (place (q .b) (q .a))
+    marked-turned-up =
+        second .marked-is
+        ∙ ap (markedAt (patchList (mirrored M) d′ e′ h′) (exactList (mirrored M) d′ e′ h′) n) at
+        ∙ marked-by d′ e′ h′ (image-formed a) long n (exchanged q) (image-place a n q on)
+
+  claim : outcome (w .mirror) ≡ result tt → MirrorClaim M d e h (mirrored M) d′ e′ h′ n q q′ w
   claim done = record {
     done = done;
     accepted = well-formed-accepted (image-formed a);
-    counted = λ long. first .patched .answer-is ∙ accepted-answer d e a long;
-    image-counted = λ long. second .patched .answer-is ∙ accepted-answer d′ e′ (image-formed a) long ∙ ap result (image-counts a);
+    counted = λ long. first .patched .answer-is ∙ accepted-answer d e h a long;
+    image-counted = λ long. second .patched .answer-is ∙ accepted-answer d′ e′ h′ (image-formed a) long ∙ ap result (image-counts a);
     answered = λ long on. rw (evaluated-sample a first long on);
     reflected = λ long long′ on at. turned-up long′ on at ∙ image-sample a n q on ∙ sym (ap reflectedAnswer (evaluated-sample a first long on));
+    marks-reflected = λ long long′ on at.
+        marked-turned-up long′ on at ∙ image-marked a n q on ∙ sym (ap reflectedMarked (evaluated-marked a first long on));
   }
 
 -- what `witness_mirror` gave: the calls for the mesh, and for the lists that the mirror call left
-pub witnessed : {M : IndexedMesh} {d d′ t i b b′ t′ i′ : List ℕ} {e e′ x p p′ x′ : List ℤ} {n : ℕ} {q q′ : SamplePlace} {w : Mirroring}
-    → MeshMirrored M x t i (w .mirror) x′ t′ i′ → Evaluated M d e n q (w .first) b p
-    → Evaluated (indexed (M .vertices) (M .faces) x′ t′ i′) d′ e′ n q′ (w .second) b′ p′
-    → MirrorWitnessed M d e x t i d′ e′ n q q′ w b p x′ t′ i′ b′ p′
-witnessed {M} {d} {d′} {b′ = b′} {e = e} {e′ = e′} {p′ = p′} {n = n} {q = q} {q′ = q′} {w = w} mirror first second = record {
+pub witnessed : {M : IndexedMesh} {d d′ h h′ t i b b′ y y′ t′ i′ : List ℕ} {e e′ x p p′ x′ : List ℤ} {n : ℕ} {q q′ : SamplePlace} {w : Mirroring}
+    → MeshMirrored M x t i (w .mirror) x′ t′ i′ → Evaluated M d e h n q (w .first) b p y
+    → Evaluated (indexed (M .vertices) (M .faces) x′ t′ i′) d′ e′ h′ n q′ (w .second) b′ p′ y′
+    → MirrorWitnessed M d e h x t i d′ e′ h′ n q q′ w b p y x′ t′ i′ b′ p′ y′
+witnessed {M} {d} {d′} {h} {h′} {b′ = b′} {y′ = y′} {e = e} {e′ = e′} {p′ = p′} {n = n} {q = q} {q′ = q′} {w = w} mirror first second = record {
   mirrored-is = mirror;
   first = first;
   second = second;
   claim = λ accepted on.
       let a = accepted-well-formed accepted in
-      subst (λ (N : IndexedMesh). Evaluated N d′ e′ n q′ (w .second) b′ p′ → MirrorClaim M d e N d′ e′ n q q′ w) (image-left a mirror on)
+      subst (λ (N : IndexedMesh). Evaluated N d′ e′ h′ n q′ (w .second) b′ p′ y′ → MirrorClaim M d e h N d′ e′ h′ n q q′ w) (image-left a mirror on)
       (λ there. claim a w first there (mirror-done a mirror on)) second;
 }

@@ -12,7 +12,7 @@ use Rattle.integer.specs.Nearest.{nearest}
 use Rattle.finite.specs.Fold.{foldBelow, sumBelow, sumBelowℤ}
 use Rattle.mesh.specs.IndexedMesh.{IndexedMesh, corners}
 use Rattle.mesh.specs.WellFormed.{WellFormed}
-use Rattle.sample.specs.Bernstein.{rounded}
+use Rattle.sample.specs.Bernstein.{numerator, rounded}
 use Rattle.sample.proofs.BernsteinLaws.{bernstein-sum}
 use Rattle.sample.proofs.SampleLaws.{pointWeight, numerator-sixteen}
 use Rattle.mask.proofs.LinearLaws.{Linear, cast}
@@ -42,12 +42,15 @@ weights-sum n a b ha hb =
 
 module _ {Q : ℕ → ℤ → ℤ → Type 0} (q : Rounds Q) where
   -- ---- from the control values to the samples
+  pub numerator-related : (n a b : ℕ) → a ≤ n → b ≤ n → (f g : ℕ → ℤ) → ((m : ℕ) → m < 16 → Q 1 (f m) (g m))
+      → Q (n ^ 6) (numerator n a b f) (numerator n a b g)
+  numerator-related n a b ha hb f g h =
+      rw (numerator-sixteen n a b f, numerator-sixteen n a b g, ← weights-sum n a b ha hb) (sum-related (q .linear) (pointWeight n a b) f g 16 h)
+
   pub sample-related : (n a b : ℕ) → 0 < n → a ≤ n → b ≤ n → (f g : ℕ → ℤ) → ((m : ℕ) → m < 16 → Q 1 (f m) (g m))
       → Q 1 (rounded n a b f) (rounded n a b g)
   unfolding rounded
-  sample-related n a b some ha hb f g h =
-      q .rounds (n ^ 6) (one-le-pow 6 n some)
-      (rw (numerator-sixteen n a b f, numerator-sixteen n a b g, ← weights-sum n a b ha hb) (sum-related (q .linear) (pointWeight n a b) f g 16 h))
+  sample-related n a b some ha hb f g h = q .rounds (n ^ 6) (one-le-pow 6 n some) (numerator-related n a b ha hb f g h)
 
   -- ---- from the positions, in micrometres, to the control values, in units of 1/256
   pub control-related : {R : ℕ → ℤ → ℤ → Type 0} → Linear R → ((k : ℕ) (y z : ℤ) → R k y z → Q k (pos 256 *ℤ y) (pos 256 *ℤ z))

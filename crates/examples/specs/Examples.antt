@@ -43,7 +43,7 @@ statedAll [] = []
 statedAll (e ∷ es) = e .stated ∷ statedAll es
 
 -- the check's answer on a list of twins of the length asked for: V F E B, or the number of the refusal alone
-abbrev numbers : Answer Mesh → List ℤ
+abbrev pub numbers : Answer Mesh → List ℤ
 numbers (result m) = pos (m .vertices) ∷ pos (m .faces) ∷ pos (m .edges) ∷ pos (m .boundary) ∷ []
 numbers (refusal k) = pos k ∷ []
 
@@ -51,7 +51,7 @@ abbrev checked : IndexedMesh → List ℤ
 checked M = numbers (checkAnswer M (replicate (corners M) 0))
 
 -- control point b(i,j) of face f
-abbrev controlPoint : IndexedMesh → ℕ → ℕ → ℕ → List ℤ
+abbrev pub controlPoint : IndexedMesh → ℕ → ℕ → ℕ → List ℤ
 controlPoint M f i j =
     patchNumber M (48 * f + 3 * (i + 4 * j)) ∷ patchNumber M (48 * f + 3 * (i + 4 * j) + 1) ∷ patchNumber M (48 * f + 3 * (i + 4 * j) + 2) ∷ []
 
@@ -79,13 +79,13 @@ abbrev lined : IndexedMesh → ℕ → ℕ → ℕ → ℕ → List ℤ
 lined M n f b places = lineNumbers (patchesAfter M []) f n b (replicate places (pos 7))
 
 -- three coordinates that are not negative, and the same with x negated, which is above 0
-abbrev xyz : ℕ → ℕ → ℕ → List ℤ
+abbrev pub xyz : ℕ → ℕ → ℕ → List ℤ
 xyz x y z = pos x ∷ pos y ∷ pos z ∷ []
 
 abbrev minusX : ℕ → ℕ → ℕ → List ℤ
 minusX x y z = negsuc (x - 1) ∷ pos y ∷ pos z ∷ []
 
-abbrev naturals : List ℕ → List ℤ
+abbrev pub naturals : List ℕ → List ℤ
 naturals [] = []
 naturals (n ∷ ns) = pos n ∷ naturals ns
 

@@ -1,8 +1,8 @@
 -- The meshes of the examples, each named by its situation.
-use mathlib.Core.List.{List, [], _∷_}
-use Prim.Native.Nat.{ℕ, _*_}
+use mathlib.Core.List.{List, [], _∷_, _++_}
+use Prim.Native.Nat.{ℕ, _+_, _*_}
 use lib.IntN.{ℤ, pos, negsuc}
-use lib.ListN.{replicate}
+use lib.ListN.{replicate, take, drop}
 use Rattle.mesh.specs.IndexedMesh.{IndexedMesh, indexed}
 
 -- a square of 21 micrometres
@@ -60,6 +60,18 @@ reentrant =
 -- a mesh with tags of its own
 abbrev pub tagged : IndexedMesh → List ℕ → IndexedMesh
 tagged M tags = indexed (M .vertices) (M .faces) (M .positions) tags (M .indices)
+
+-- a mesh with the number z at place i of its positions: coordinate k of vertex p has the place 3p + k
+abbrev pub moved : IndexedMesh → ℕ → ℤ → IndexedMesh
+moved M i z = indexed (M .vertices) (M .faces) (take i (M .positions) ++ (z ∷ drop (i + 1) (M .positions))) (M .tags) (M .indices)
+
+-- the strip with z of vertex 2 at 10, which 3 does not divide, as it does 9
+abbrev pub raisedStrip : IndexedMesh
+raisedStrip = moved strip 8 (pos 10)
+
+-- the square with x at 20 for 21
+abbrev pub narrowSquare : IndexedMesh
+narrowSquare = moved (moved square 3 (pos 20)) 6 (pos 20)
 
 -- an open fan about vertex 0: each face has the centre, a spoke, an outer vertex and the next spoke
 abbrev pub openFanOfEight : IndexedMesh

@@ -4,4 +4,5 @@ pub mod Difference
 pub mod Laws
 pub mod Ring
 pub mod NearestLaws
+pub mod WholeLaws
 pub mod Rounding

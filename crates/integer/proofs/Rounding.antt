@@ -1,15 +1,18 @@
--- What the functions of `src/` use: an integer by the test of its sign, and the rounding of naturals by one comparison of the rest.
+-- What the functions of `src/` use: an integer by the test of its sign, the rounding of naturals by one comparison of the rest, and what it leaves.
+--
+--   restℕ a d   what rounding a / d leaves, of two naturals
 use mathlib.Core.Path.{_≡_, refl, subst}
-use mathlib.Core.Bool.{true, false}
+use mathlib.Core.Bool.{true, false, cond}
 use Prim.Native.Nat.{ℕ, zero, suc, _+_, _*_, _%_, _/_, _≤_, _<_}
+use native.Mathlib.Nat.{div-add-mod'}
 use native.Mathlib.Omega.{arith}
 use lib.Dec.{T}
-use lib.IntN.{ℤ, pos, negsuc, negℤ, natAbs, _-ℤ_}
+use lib.IntN.{ℤ, pos, negsuc, negℤ, natAbs, _-ℤ_, _*ℤ_}
 use lib.Signed.{ltZ, nonNeg, mag}
-use borrow.Author.Tests.{ltb-true}
-use Rattle.integer.specs.Nearest.{halfEven, nearestℕ, nearest}
-use Rattle.integer.proofs.Difference.{int, nat, _⊝_, ~, prove-eq}
-use Rattle.integer.proofs.NearestLaws.{halfEven-cases, nearestℕ-halfEven, nearest-bounded}
+use borrow.Author.Tests.{ltb-true, le-ltb}
+use Rattle.integer.specs.Nearest.{halfEven, nearestℕ, nearest, remainder}
+use Rattle.integer.proofs.Difference.{int, nat, _⊝_, _⊛_, ~, prove-eq}
+use Rattle.integer.proofs.NearestLaws.{halfEven-cases, nearestℕ-halfEven, nearest-bounded, nearest-meets}
 
 -- ---- a negative integer
 pub minus-one-minus : (z : ℤ) → ltZ z (pos 0) ≡ true → negsuc 0 -ℤ z ≡ pos (mag z)
@@ -63,3 +66,34 @@ nearestℕ-≤ a (suc d) = nearest-bounded (pos a) (suc d) a (omega arith) (le-m
   where
     le-mul : (a d : ℕ) → a ≤ a * suc d
     le-mul a d = omega arith
+
+-- ---- what the rounding leaves
+abbrev pub restℕ : ℕ → ℕ → ℤ
+restℕ a d = pos a -ℤ pos (nearestℕ a d) *ℤ pos d
+
+pub rest-up : (a d : ℕ) → 0 < d → d < 2 * (a % d) + a / d % 2 → pos (a % d) -ℤ pos d ≡ restℕ a d
+rest-up a d h t =
+    prove-eq (nat (a % d) ⊝ nat d) (nat a ⊝ nat (nearestℕ a d) ⊛ nat d)
+    (let e : nearestℕ a d * d ≡ a / d * d + d = rw (← (nearestℕ-up a d h t)) (omega arith) in omega (arith, div-add-mod' a d))
+
+pub rest-down : (a d : ℕ) → 0 < d → 2 * (a % d) + a / d % 2 ≤ d → pos (a % d) ≡ restℕ a d
+rest-down a d h t =
+    prove-eq (nat (a % d)) (nat a ⊝ nat (nearestℕ a d) ⊛ nat d)
+    (let e : nearestℕ a d * d ≡ a / d * d = rw (← (nearestℕ-down a d h t)) in omega (arith, div-add-mod' a d))
+
+-- at most half the divisor
+pub rest-small : (a d : ℕ) → 0 < d → natAbs (restℕ a d) ≤ d
+unfolding nearest
+rest-small a d h = omega (arith, nearest-meets (pos a) d h .near)
+
+-- the rest of the magnitude, with the sign put back
+pub remainder-signed : (z : ℤ) (d : ℕ) → cond (ltZ z (pos 0)) (negℤ (restℕ (natAbs z) d)) (restℕ (natAbs z) d) ≡ remainder z d
+unfolding nearest remainder
+remainder-signed (pos a) d = rw (le-ltb a 0 (omega arith))
+remainder-signed (negsuc a) d =
+    prove-eq (~ (nat (suc a) ⊝ nat (nearestℕ (suc a) d) ⊛ nat d)) (int (negsuc a) ⊝ ~ (nat (nearestℕ (suc a) d)) ⊛ nat d) (omega arith)
+
+pub remainder-0 : (z : ℤ) → z ≡ remainder z 0
+unfolding nearest nearestℕ remainder
+remainder-0 (pos a) = prove-eq (nat a) (nat a ⊝ nat 0 ⊛ nat 0) (omega arith)
+remainder-0 (negsuc a) = prove-eq (int (negsuc a)) (int (negsuc a) ⊝ nat 0 ⊛ nat 0) (omega arith)

@@ -3,10 +3,12 @@
 --   nearest num den       that whole number, computed (`proofs/NearestLaws.antt`: it is one, and there is no other)
 --   nearestℕ a d          the same for a / d of two naturals
 --   halfEven q r d        q or q + 1, by the rest r of a division by d whose quotient is q
-use mathlib.Core.Bool.{cond}
+--   remainder num den     what rounding num / den leaves (rule I5)
+--   whole num den         nothing is left: the quotient is a whole number
+use mathlib.Core.Bool.{Bool, cond}
 use mathlib.Core.Path.{_≡_}
 use Prim.Native.Nat.{ℕ, zero, suc, _+_, _*_, _/_, _%_, _≤_}
-use lib.Dec.{ltb}
+use lib.Dec.{eqb, ltb}
 use lib.IntN.{ℤ, pos, negsuc, negℤ, natAbs, _-ℤ_, _*ℤ_}
 
 -- |num/den - r| ≤ 1/2, and r is even where it is 1/2; both sides are multiplied by 2 den
@@ -27,3 +29,9 @@ nearestℕ a (suc d) = halfEven (a / suc d) (a % suc d) (suc d)
 unfoldable pub nearest : ℤ → ℕ → ℤ
 nearest (pos a) d = pos (nearestℕ a d)
 nearest (negsuc a) d = negℤ (pos (nearestℕ (suc a) d))
+
+unfoldable pub remainder : ℤ → ℕ → ℤ
+remainder num den = num -ℤ nearest num den *ℤ pos den
+
+abbrev pub whole : ℤ → ℕ → Bool
+whole num den = eqb (natAbs (remainder num den)) 0

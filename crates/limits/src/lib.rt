@@ -79,3 +79,10 @@ pub fn patches_short(f: usize, places: usize) -> bool
 {
     places / 48 < f
 }
+
+// Whether a list has too few places for the marks of the patches of f faces: cause 2. Writes: nothing. Refuses: nothing.
+pub fn marks_short(f: usize, places: usize) -> bool
+    ensures { λ r. ⌜ r ≡ ltb places (16 * f) ⌝ }
+{
+    places / 16 < f
+}

@@ -1,6 +1,6 @@
 -- From the answers of decoding and of the mesh calls to that of opening a file.
 use mathlib.Core.Path.{_≡_, refl, sym, ap, _∙_, subst}
-use mathlib.Core.Bool.{true, false}
+use mathlib.Core.Bool.{true, false, _||_, or-comm}
 use mathlib.Core.List.{List, [], _∷_, _++_}
 use mathlib.Core.Option.{Option, none, some}
 use Prim.Native.Nat.{ℕ, _-_, _*_, _≤_}
@@ -19,7 +19,7 @@ use Rattle.mesh.specs.WellFormed.{Sized}
 use Rattle.mesh.specs.Answer.{meshRefusal, twinsShort}
 use Rattle.mesh.proofs.AcceptedLaws.{sizes-none}
 use Rattle.mesh.proofs.PhaseLaws.{refusal-alike, refusal-split, refusal-own}
-use Rattle.patch.specs.Answer.{patchesShort, patchRows}
+use Rattle.patch.specs.Answer.{patchesShort, exactShort, patchRows}
 use Rattle.decoding.specs.File.{vertices, faces, steps, positionAt, tagAt, indexAt, meshOf, fileRows}
 use Rattle.decoding.specs.declared.model.Header.{Header}
 use Rattle.decoding.specs.declared.model.Decoded.{Decoded}
@@ -41,6 +41,13 @@ listRow M d = row (patchesShort M d) 2 ∷ []
 abbrev stepsRow : ℕ → List Row
 stepsRow n = row (stepsOff n) 14 ∷ []
 
+-- the lists that the code keeps and lends to the patch call: of twins, and of marks
+abbrev pub no-twins : List ℕ
+no-twins = replicate (4 * maxFaces) 0
+
+abbrev pub no-marks : List ℕ
+no-marks = replicate (16 * maxFaces) 0
+
 -- ---- the mesh and its N
 module _ (M : IndexedMesh) (n : ℕ) (d : List ℤ) where
   pub refused-mesh : (k : ℕ) → tessellateRefusal M n d ≡ some k → Tessellated M n d (OpenRefused k) d
@@ -54,16 +61,23 @@ module _ (M : IndexedMesh) (n : ℕ) (d : List ℤ) where
   pub steps-off : {k : ℕ} → patchesShort M d ≡ false → stepsOff n ≡ true → meshRefusal M [] (row true 14 ∷ []) ≡ some k → tessellateRefusal M n d ≡ some k
   steps-off long off e = refusal-alike M (listRow M d) [] (λ _. skipped 2 none long) (stepsRow n) ∙ rw off e
 
-  -- N is in its range, and the list of twins that the code keeps is long enough for every mesh
-  pub steps-on : M .faces ≤ maxFaces → stepsOff n ≡ false → tessellateRefusal M n d ≡ meshRefusal M (patchRows M (replicate (4 * maxFaces) 0) d) []
+  -- the two lists that the code keeps, of twins and of marks, are long enough for every mesh
+  twins-enough : M .faces ≤ maxFaces → twinsShort M no-twins ≡ false
+  twins-enough few = le-ltb (length no-twins) (corners M) (omega (arith, few, length-replicate {A = ℕ} (4 * maxFaces) 0))
+
+  marks-enough : M .faces ≤ maxFaces → exactShort M no-marks ≡ false
+  marks-enough few = le-ltb (length no-marks) (16 * M .faces) (omega (arith, few, length-replicate {A = ℕ} (16 * maxFaces) 0))
+
+  -- N is in its range: of the lists only the patch list can be too short
+  pub steps-on : M .faces ≤ maxFaces → stepsOff n ≡ false → tessellateRefusal M n d ≡ meshRefusal M (patchRows M no-twins d no-marks) []
   steps-on few on =
       refusal-split M (listRow M d) (stepsRow n)
       ∙ ap (orElse (meshRefusal M (listRow M d) [])) (skipped 14 none on)
       ∙ orElse-none (meshRefusal M (listRow M d) [])
-      ∙ sym (refusal-alike M (patchRows M (replicate (4 * maxFaces) 0) d) (listRow M d) (λ _. rw twins-enough) [])
+      ∙ sym (refusal-alike M (patchRows M no-twins d no-marks) (listRow M d) (λ _. rw (twins-enough few, marks-enough few, only-patches)) [])
     where
-      twins-enough : twinsShort M (replicate (4 * maxFaces) 0) ≡ false
-      twins-enough = le-ltb (length (replicate {A = ℕ} (4 * maxFaces) 0)) (corners M) (omega (arith, few, length-replicate {A = ℕ} (4 * maxFaces) 0))
+      only-patches : (patchesShort M d || false) ≡ patchesShort M d
+      only-patches = or-comm (patchesShort M d) false
 
 -- ---- what decoding into lists that are long enough for every file says of the file
 places-enough : (b : List ℕ) (p t i : ℕ) → 3 * maxVertices ≤ p → maxVertices ≤ t → 4 * maxFaces ≤ i → Whole b → placesShort b p t i ≡ false

@@ -48,7 +48,17 @@ pub(crate) fn tessellate(
         return Opened::Refused(steps_refusal(v, f, positions, tags, faces));
     }
     let mut twins = [0u16; 4 * Mesh::MAX_FACES];
-    match patch::patches(v, f, positions, tags, faces, &mut twins, patches) {
+    let mut exact = [0u8; 16 * Mesh::MAX_FACES];
+    match patch::patches(
+        v,
+        f,
+        positions,
+        tags,
+        faces,
+        &mut twins,
+        patches,
+        &mut exact,
+    ) {
         Checked::Accepted(mesh) => Opened::Ready(Tessellation { mesh, steps: n }),
         Checked::Refused(k) => Opened::Refused(k),
     }

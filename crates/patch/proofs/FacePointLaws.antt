@@ -1,7 +1,7 @@
 -- What the points of a patch are read from: the listed twins tell which half-edges are sharp, the values of the faces at a corner make its
--- points and its ring term, two tables tell which point of which corner each of the sixteen is, and three coordinates are a point.
-use mathlib.Core.Path.{_≡_, refl, ap, ap₂, subst}
-use mathlib.Core.Bool.{false}
+-- points and its ring term, two tables tell which point of which corner each of the sixteen is, and three coordinates make a point.
+use mathlib.Core.Path.{_≡_, refl, ap, subst}
+use mathlib.Core.Bool.{Bool, false, _&&_}
 use mathlib.Core.List.{List, [], _∷_, map}
 use Prim.Native.Nat.{ℕ, zero, suc, _+_, _*_, _/_, _%_, _≤_, _<_}
 use native.Mathlib.Nat.{not-suc-le-zero}
@@ -11,7 +11,7 @@ use lib.IntN.{ℤ, pos, _+ℤ_, _*ℤ_}
 use lib.ListN.{length, getD, set}
 use borrow.Author.Tests.{ltb-true}
 use Rattle.finite.specs.Fold.{foldBelow}
-use Rattle.finite.specs.Filled.{listBelow, filled}
+use Rattle.finite.specs.Filled.{filled}
 use Rattle.finite.proofs.AnyAll.{all-true}
 use Rattle.finite.proofs.FilledLaws.{filled-start, filled-more}
 use Rattle.limits.specs.Limits.{noTwin}
@@ -23,10 +23,12 @@ use Rattle.mask.specs.Mask.{Fraction, innerMask, edgeMask}
 use Rattle.mask.specs.declared.model.Fraction as code
 use Rattle.mask.specs.declared.model.FaceValues.{FaceValues}
 use Rattle.patch.specs.Point.{View, weight, sharp, ringTerm, innerPoint, edgePoint}
-use Rattle.patch.specs.Patch.{owner, kind}
+use Rattle.patch.specs.Patch.{owner, kind, units, exactly}
 use Rattle.patch.specs.Lists.{shapeOf, boundaryIn, sharpIn, Twins}
-use Rattle.patch.specs.Values.{SeenFrom, Made}
+use Rattle.patch.specs.Values.{SeenFrom, Made, inUnits}
 use Rattle.patch.specs.Written.{Source, pointFrom, numberFrom}
+use Rattle.patch.specs.declared.fraction.Value.{Value}
+use Rattle.patch.specs.declared.fraction.ControlPoint.{ControlPoint}
 use Rattle.patch.proofs.NeighbourLaws.{twin-below}
 
 -- ---- twins
@@ -62,7 +64,7 @@ ring-term-seen S c a h = rw (h .next-is, h .prev-is, h .across-is)
 
 -- ---- the two tables of a patch
 -- the corner of a face that owns a point is one of its corners
-pub owner-listed : {positions points : List ℤ} {faces twins weights : List ℕ} → Source positions faces twins weights points
+pub owner-listed : {positions points : List ℤ} {faces twins weights marks : List ℕ} → Source positions faces twins weights points marks
     → (g m c : ℕ) → 4 * g + 4 ≤ length faces → c ≡ turn m (4 * g) → c < length faces
 owner-listed t g m c l e = rw e (turn-below (t .placed 0 (omega arith) .corners) m (4 * g) (omega arith))
 
@@ -85,10 +87,21 @@ table-at f b [] a m l = absurd (not-suc-le-zero l)
 table-at f b (x ∷ xs) a zero l = refl
 table-at f b (x ∷ xs) a (suc m) l = table-at f b xs a m (omega arith)
 
--- ---- three coordinates
-pub list-of-three : {A : Type 0} (f : ℕ → A) {x y z : A} → x ≡ f 0 → y ≡ f 1 → z ≡ f 2 → x ∷ (y ∷ (z ∷ [])) ≡ listBelow f 3
-unfolding listBelow
-list-of-three f p q r = ap₂ _∷_ p (ap₂ _∷_ q (ap₂ _∷_ r refl))
+-- ---- control values and points
+pub same-value : {u u' : ℤ} {e e' : Bool} → u ≡ u' → e ≡ e' → _≡_ {A = Value} (record { units = u; exact = e }) (record { units = u'; exact = e' })
+same-value p q = cc
+
+pub same-point : {x y z x' y' z' : ℤ} {e e' : Bool} → x ≡ x' → y ≡ y' → z ≡ z' → e ≡ e'
+    → _≡_ {A = ControlPoint} (record { x = x; y = y; z = z; exact = e }) (record { x = x'; y = y'; z = z'; exact = e' })
+same-point p q r s = cc
+
+-- three coordinates
+pub point-of-three : (q : ℕ → Fraction) {x y z : Fraction} → x ≡ q 0 → y ≡ q 1 → z ≡ q 2
+    → _≡_ {A = ControlPoint}
+    (record { x = units x; y = units y; z = units z; exact = (exactly x && exactly y) && exactly z })
+    (inUnits q)
+unfolding foldBelow
+point-of-three q p r s = rw (p, r, s)
 
 -- three stores
 pub filled-three : {A : Type 0} (f : ℕ → A) (d : List A) {x y z : A} → 3 ≤ length d → x ≡ f 0 → y ≡ f 1 → z ≡ f 2

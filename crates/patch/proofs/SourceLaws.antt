@@ -1,32 +1,35 @@
--- The tables of an accepted mesh are all that its patches are written from, and what is written from them is the patch list.
-use mathlib.Core.Path.{_≡_, sym, _∙_}
+-- The tables of an accepted mesh are all that its patches are written from, and what is written from them is the patch list and the marks.
+use mathlib.Core.Path.{_≡_, sym, ap, _∙_}
 use mathlib.Core.List.{List}
 use Prim.Native.Nat.{ℕ, _+_, _*_, _/_, _%_, _≤_, _<_}
 use native.Mathlib.Omega.{arith}
+use lib.Dec.{eqb}
 use lib.IntN.{ℤ}
 use lib.ListN.{length}
+use Rattle.finite.specs.Fold.{allBelow, indicator}
 use Rattle.corner.specs.Corner.{turn}
 use Rattle.mesh.specs.IndexedMesh.{IndexedMesh, corners, at}
 use Rattle.mesh.specs.WellFormed.{WellFormed}
 use Rattle.mesh.proofs.CornerLaws.{turn-below}
 use Rattle.mesh.proofs.AcceptedLaws.{accepted-corners}
 use Rattle.patch.specs.Point.{Kind, corner, along, before, inner, weight, sharp, alongPoint, beforePoint, innerPoint, edgePoint, point}
-use Rattle.patch.specs.Patch.{owner, kind, patchPoint, view, units, patchNumber}
+use Rattle.patch.specs.Patch.{owner, kind, patchPoint, view, units, exactly, patchNumber, pointExact, patchMark}
 use Rattle.patch.specs.Lists.{Twins}
 use Rattle.patch.specs.PatchTables.{Tables}
-use Rattle.patch.specs.Written.{Source, pointFrom, numberFrom}
+use Rattle.patch.specs.Written.{Source, pointFrom, exactFrom, numberFrom, markFrom}
+use Rattle.patch.proofs.WrittenLaws.{indicator-one}
 use Rattle.patch.proofs.TableLaws.{weight-seen, accepted-whole, accepted-coordinates}
 
 pub face-listed : {M : IndexedMesh} → WellFormed M → (g : ℕ) → g < M .faces → 4 * g + 4 ≤ length (M .indices)
 face-listed a g l = omega (arith, a .sized .indices-are)
 
-module _ {M : IndexedMesh} (a : WellFormed M) {weights : List ℕ} {points : List ℤ} (t : Tables M weights points) where
+module _ {M : IndexedMesh} (a : WellFormed M) {weights marks : List ℕ} {points : List ℤ} (t : Tables M weights points marks) where
   whole : length (M .indices) ≡ corners M
   whole = accepted-whole a
 
   pub source : {twins : List ℕ} → Twins (M .indices) twins → length (M .indices) ≤ length weights → 3 * M .vertices ≤ length points
-      → Source (M .positions) (M .indices) twins weights points
-  source twinned listed pointed = record {
+      → M .vertices ≤ length marks → Source (M .positions) (M .indices) twins weights points marks
+  source twinned listed pointed marked = record {
     placed = accepted-coordinates a;
     weighed = record {
       listed = listed;
@@ -34,6 +37,7 @@ module _ {M : IndexedMesh} (a : WellFormed M) {weights : List ℕ} {points : Lis
     };
     twinned = twinned;
     pointed = λ c k l h. omega (arith, a .named c (rw whole at l));
+    marked = λ c l. omega (arith, a .named c (rw whole at l));
   }
 
   -- a point from the tables is the point of the mesh
@@ -52,3 +56,19 @@ module _ {M : IndexedMesh} (a : WellFormed M) {weights : List ℕ} {points : Lis
       let which : (48 * g + i) % 48 / 3 ≡ i / 3 = omega arith in
       rw (axis, face, which)
       (point-from (i % 3) (turn (owner (i / 3)) (4 * g)) (kind (i / 3)) (omega arith) (turn-below (accepted-corners a) (owner (i / 3)) (4 * g) (omega arith)))
+
+  -- a mark from the tables is the mark of the mesh
+  exact-from : (c : ℕ) (q : Kind) → c < corners M → exactFrom (M .positions) (M .indices) marks c q ≡ allBelow (λ k. exactly (point (view M k) c q)) 3
+  unfolding exactFrom point alongPoint beforePoint innerPoint edgePoint weight sharp
+  exact-from c corner l = ap (λ (m : ℕ). eqb m 1) (t .marks-are (at M c) (a .named c l)) ∙ indicator-one _
+  exact-from c along l = rw whole
+  exact-from c before l = rw whole
+  exact-from c inner l = rw whole
+
+  pub mark-from : (g m : ℕ) → g < M .faces → m < 16 → markFrom (M .positions) (M .indices) marks g m ≡ patchMark M (16 * g + m)
+  unfolding markFrom patchMark pointExact patchPoint
+  mark-from g m l h =
+      let face : (16 * g + m) / 16 ≡ g = omega arith in
+      let which : (16 * g + m) % 16 ≡ m = omega arith in
+      rw (face, which)
+      (ap indicator (exact-from (turn (owner m) (4 * g)) (kind m) (turn-below (accepted-corners a) (owner m) (4 * g) (omega arith))))

@@ -1,6 +1,6 @@
 -- The tables of an accepted mesh: what their entries are made of, the sizes of these, and the corner point from them.
-use mathlib.Core.Path.{_≡_, _∙_}
-use mathlib.Core.Bool.{Bool, true, false, cond}
+use mathlib.Core.Path.{_≡_, refl, sym, ap, _∙_}
+use mathlib.Core.Bool.{Bool, true, false, cond, _&&_}
 use mathlib.Core.List.{List}
 use Prim.Native.Nat.{ℕ, _+_, _*_, _≤_, _<_}
 use native.Mathlib.Omega.{arith}
@@ -10,7 +10,8 @@ use lib.ListN.{length, getD, set, replicate, getD-replicate}
 use lib.Seq.{getD-set-same, getD-set-other}
 use borrow.Author.Tests.{eqb-true, eqb-false, not-false}
 use Rattle.integer.proofs.Laws.{abs-+}
-use Rattle.finite.proofs.FoldLaws.{bool-cases}
+use Rattle.finite.specs.Fold.{allBelow, indicator}
+use Rattle.finite.proofs.FoldLaws.{bool-cases, fold-step}
 use Rattle.limits.specs.Limits.{maxVertices, maxCoordinate, maxValence}
 use Rattle.corner.specs.Corner.{turn, next, prev, across}
 use Rattle.mesh.specs.HalfEdge.{boundary}
@@ -32,8 +33,8 @@ use Rattle.patch.proofs.NeighbourLaws.{sharp-neighbours}
 use Rattle.patch.proofs.SumLaws.{cond-size, gather-size}
 
 -- a table as it is made: the same number at each vertex
-pub same-all : {A : Type 0} (z : A) → Holds z (replicate maxVertices z) maxVertices (λ p. z)
-same-all z p l = getD-replicate maxVertices p z z l
+pub same-all : {A : Type 0} (d z : A) → Holds d (replicate maxVertices z) maxVertices (λ p. z)
+same-all d z p l = getD-replicate maxVertices p z d l
 
 -- ---- the terms of the two sums
 module _ (S : View) (k : Corners (S .shape .n)) (small : (c : ℕ) → c < S .shape .n → natAbs (x S c) ≤ maxCoordinate) where
@@ -163,3 +164,26 @@ strided-all v k points points' g axis new old h p j l b =
     bool-cases (eqb j k)
     (λ t. let s : j ≡ k = eqb-true j k t in rw s (new p l))
     (λ t. let n = eqb-false j k t in old p j (omega arith) n ∙ h p j l (omega (arith, n)))
+
+-- ---- the marks, which stay where nothing is left: one store
+module _ (p m : ℕ) (marks marks₀ : List ℕ) (e : ℕ → Bool) (after : (q : ℕ) → p ≤ q → getD marks q 0 ≡ getD marks₀ q 0) where
+  pub kept-more : p < length marks → m ≡ cond (e p) (getD marks p 0) 0
+      → ((q : ℕ) → q < p → getD marks q 0 ≡ cond (e q) (getD marks₀ q 0) 0)
+      → (q : ℕ) → q < p + 1 → getD (set marks p m) q 0 ≡ cond (e q) (getD marks₀ q 0) 0
+  kept-more l h kept q b =
+      bool-cases (eqb q p)
+      (λ t. let s : q ≡ p = eqb-true q p t in rw (s, getD-set-same) (h ∙ ap (λ (k : ℕ). cond (e p) k 0) (after p (omega arith))))
+      (λ t. getD-set-other marks p q m 0 (λ s. eqb-false q p t (omega arith)) ∙ kept q (omega (arith, eqb-false q p t)))
+
+  pub kept-after : (q : ℕ) → p + 1 ≤ q → getD (set marks p m) q 0 ≡ getD marks₀ q 0
+  kept-after q b = getD-set-other marks p q m 0 (λ s. omega arith) ∙ after q (omega arith)
+
+-- the coordinates below n, and one more
+pub kept-indicator : (f : ℕ → Bool) (n : ℕ) → cond (f n) (indicator (allBelow f n)) 0 ≡ indicator (allBelow f (n + 1))
+kept-indicator f n = both (allBelow f n) (f n) ∙ ap indicator (sym (fold-step true _&&_ f n))
+  where
+    both : (a b : Bool) → cond b (indicator a) 0 ≡ indicator (a && b)
+    both true true = refl
+    both true false = refl
+    both false true = refl
+    both false false = refl

@@ -1,15 +1,18 @@
--- What stands in the patch list after an accepted mesh was written.
-use mathlib.Core.Path.{_≡_, _∙_}
+-- What stands in the patch list and in the list of marks after an accepted mesh was written.
+use mathlib.Core.Path.{_≡_, refl, sym, ap, _∙_}
+use mathlib.Core.Bool.{Bool, true, false}
 use mathlib.Core.List.{List}
 use Prim.Native.Nat.{ℕ, _+_, _*_, _/_, _%_, _≤_, _<_}
 use native.Mathlib.Omega.{arith}
+use lib.Dec.{eqb}
 use lib.IntN.{ℤ, pos, natAbs}
 use lib.ListN.{length, getD}
+use Rattle.finite.specs.Fold.{indicator}
 use Rattle.finite.proofs.FilledLaws.{length-filled, filled-at}
 use Rattle.limits.specs.Limits.{maxCoordinate}
 use Rattle.mesh.specs.IndexedMesh.{IndexedMesh}
 use Rattle.mesh.specs.WellFormed.{WellFormed}
-use Rattle.patch.specs.Patch.{controlValue, view, patchNumber, patchesAfter}
+use Rattle.patch.specs.Patch.{controlValue, view, patchNumber, patchesAfter, pointExact, patchMark, exactAfter}
 use Rattle.patch.proofs.PointLaws.{control-bound}
 
 -- place 48f + 3m + k has coordinate k of point m of face f
@@ -35,3 +38,22 @@ number-bound a i l = control-bound a (i / 48) (i % 48 / 3) (i % 3) (omega arith)
 pub written-bound : {M : IndexedMesh} → WellFormed M → (d : List ℤ) (i : ℕ) → i < 48 * M .faces
     → natAbs (getD (patchesAfter M d) i (pos 0)) ≤ 256 * maxCoordinate
 written-bound {M} a d i l = rw (filled-at (patchNumber M) (48 * M .faces) i d (pos 0) l) (number-bound a i l)
+
+-- ---- the marks
+-- the byte of a mark is 1 where the mark is set
+pub indicator-one : (b : Bool) → eqb (indicator b) 1 ≡ b
+indicator-one true = refl
+indicator-one false = refl
+
+pub indicator-set : (b : Bool) → indicator b ≡ 1 → b ≡ true
+indicator-set b e = sym (indicator-one b) ∙ ap (λ (i : ℕ). eqb i 1) e
+
+pub marks-length : (M : IndexedMesh) (d : List ℕ) → 16 * M .faces ≤ length d → length (exactAfter M d) ≡ length d
+marks-length M d l = length-filled (patchMark M) _ d (omega arith)
+
+pub mark-at : (M : IndexedMesh) (d : List ℕ) (f m : ℕ) → f < M .faces → m < 16 → getD (exactAfter M d) (16 * f + m) 0 ≡ indicator (pointExact M f m)
+unfolding patchMark
+mark-at M d f m l h =
+    let face : (16 * f + m) / 16 ≡ f = omega arith in
+    let which : (16 * f + m) % 16 ≡ m = omega arith in
+    filled-at (patchMark M) _ (16 * f + m) d 0 (omega arith) ∙ rw (face, which)

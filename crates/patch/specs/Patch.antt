@@ -1,4 +1,4 @@
--- The sixteen control points of a patch, their values, and the list of patches.
+-- The sixteen control points of a patch, their values and marks, and the lists of both.
 --
 --   owner m, kind m    point m = i + 4j of a patch is this one of the four points of this corner of the face:
 --                          12 corner 3   13 before 3   14 along 2    15 corner 2        j
@@ -8,15 +8,21 @@
 --                      (rules B1 and B5)
 --   patchPoint S c m   point m of the patch of the face of corner c, where c counts as the face's first corner
 --   controlValue S c m   the control value, which the user calls a patch number: 256 times the fraction, rounded once (rules B3 and I1)
+--   exactly q          nothing is left when 256 times the fraction is rounded (rule I5)
 --   shape M            the mesh M without its coordinates
 --   view M k           coordinate k (x, y, z) of the mesh M
 --   patchNumber M i    what stands at place i of the patch list: coordinate i % 3 of point i % 48 / 3 of face i / 48
 --   patchesAfter M d   the patch list after an accepted mesh was written over d: places from 48F on are untouched (rule B12)
+--   pointExact M f m   point m of face f is exact: nothing was left in any of its three coordinates (rule B13)
+--   patchMark M i      what stands at place i of the list of marks: 1 or 0 for point i % 16 of face i / 16
+--   exactAfter M d     the list of marks after an accepted mesh was written over d: places from 16F on are untouched (rule B13)
+use mathlib.Core.Bool.{Bool}
 use mathlib.Core.List.{List, [], _∷_}
 use Prim.Native.Nat.{ℕ, _+_, _*_, _/_, _%_}
 use lib.IntN.{ℤ, pos, _*ℤ_}
 use lib.ListN.{getD}
-use Rattle.integer.specs.Nearest.{nearest}
+use Rattle.integer.specs.Nearest.{nearest, whole}
+use Rattle.finite.specs.Fold.{allBelow, indicator}
 use Rattle.finite.specs.Filled.{filled}
 use Rattle.corner.specs.Corner.{turn}
 use Rattle.mesh.specs.IndexedMesh.{IndexedMesh, corners, at, tag, coordinate}
@@ -37,6 +43,9 @@ patchPoint S c m = point S (turn (owner m) c) (kind m)
 abbrev pub units : Fraction → ℤ
 units q = nearest (pos 256 *ℤ q .num) (q .den)
 
+abbrev pub exactly : Fraction → Bool
+exactly q = whole (pos 256 *ℤ q .num) (q .den)
+
 abbrev pub controlValue : View → ℕ → ℕ → ℤ
 controlValue S c m = units (patchPoint S c m)
 
@@ -51,3 +60,12 @@ patchNumber M i = controlValue (view M (i % 3)) (4 * (i / 48)) (i % 48 / 3)
 
 abbrev pub patchesAfter : IndexedMesh → List ℤ → List ℤ
 patchesAfter M d = filled (patchNumber M) (48 * M .faces) d
+
+unfoldable pub pointExact : IndexedMesh → ℕ → ℕ → Bool
+pointExact M f m = allBelow (λ k. exactly (patchPoint (view M k) (4 * f) m)) 3
+
+unfoldable pub patchMark : IndexedMesh → ℕ → ℕ
+patchMark M i = indicator (pointExact M (i / 16) (i % 16))
+
+abbrev pub exactAfter : IndexedMesh → List ℕ → List ℕ
+exactAfter M d = filled (patchMark M) (16 * M .faces) d

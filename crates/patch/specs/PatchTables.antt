@@ -4,8 +4,10 @@
 --   Sums S ring sharp  the two sums at each vertex
 --   cornerFrom ..      the corner point of a vertex, inside or not, of its tag, its number of faces, its coordinate and its two sums
 --   CornersAre M k points   coordinate k of the corner point of each vertex p of the mesh M, in units, stands at place 3p + k
+--   cornerExact M p n  nothing is left in the coordinates below n of the corner point of vertex p
+--   MarksKept M k marks marks'   the marks of the vertices stay where nothing is left in coordinate k of the corner point, and become 0 elsewhere
 --   Weights faces weights   the weights of all the corners are listed
---   Tables M weights points   the weight of each corner of the mesh M, and the corner point of each vertex
+--   Tables M weights points marks   the weight of each corner of the mesh M, the corner point of each vertex, and its mark
 use mathlib.Core.Path.{_≡_}
 use mathlib.Core.Bool.{Bool, cond, _||_}
 use mathlib.Core.List.{List}
@@ -13,12 +15,13 @@ use Prim.Native.Nat.{ℕ, _+_, _*_, _≤_, _<_}
 use lib.Dec.{eqb}
 use lib.IntN.{ℤ, pos}
 use lib.ListN.{length, getD}
+use Rattle.finite.specs.Fold.{allBelow, indicator}
 use Rattle.limits.specs.Limits.{maxVertices, cornerTag}
 use Rattle.mesh.specs.IndexedMesh.{IndexedMesh, corners}
 use Rattle.mesh.specs.Tables.{Holds}
 use Rattle.mask.specs.Mask.{Fraction, smoothCornerMask, boundaryCornerMask, vertexMask}
 use Rattle.patch.specs.Point.{Shape, View, faces, inside, weight, sharpSum, ringSum, cornerPoint}
-use Rattle.patch.specs.Patch.{shape, view, units}
+use Rattle.patch.specs.Patch.{shape, view, units, exactly}
 use Rattle.patch.specs.Lists.{shapeOf}
 
 pub record Counts (G : Shape) (valences leaving : List ℕ) : Type 0 where
@@ -38,10 +41,17 @@ cornerFrom inside tag n p ring sharp =
 abbrev pub CornersAre : IndexedMesh → ℕ → List ℤ → Type 0
 CornersAre M k points = (p : ℕ) → p < M .vertices → getD points (3 * p + k) (pos 0) ≡ units (cornerPoint (view M k) p)
 
+abbrev pub cornerExact : IndexedMesh → ℕ → ℕ → Bool
+cornerExact M p n = allBelow (λ k. exactly (cornerPoint (view M k) p)) n
+
+abbrev pub MarksKept : IndexedMesh → ℕ → List ℕ → List ℕ → Type 0
+MarksKept M k marks marks' = (p : ℕ) → p < M .vertices → getD marks' p 0 ≡ cond (exactly (cornerPoint (view M k) p)) (getD marks p 0) 0
+
 pub record Weights (faces weights : List ℕ) : Type 0 where
   pub listed : length faces ≤ length weights
   pub are : Holds 0 weights (length faces) (weight (shapeOf faces))
 
-pub record Tables (M : IndexedMesh) (weights : List ℕ) (points : List ℤ) : Type 0 where
+pub record Tables (M : IndexedMesh) (weights : List ℕ) (points : List ℤ) (marks : List ℕ) : Type 0 where
   pub weights-are : Holds 0 weights (corners M) (weight (shape M))
   pub points-are : (k : ℕ) → k < 3 → CornersAre M k points
+  pub marks-are : (p : ℕ) → p < M .vertices → getD marks p 0 ≡ indicator (cornerExact M p 3)

@@ -1,27 +1,33 @@
--- What the writer of the patches reads, and the numbers that it writes.
+-- What the writer of the patches reads, and the numbers and marks that it writes.
 --
---   Source ..          all that a patch is written from: the lists of the mesh, its twins, and the tables of weights and corner points
+--   Source ..          all that a patch is written from: the lists of the mesh, its twins, and the tables of weights, corner points and their marks
 --   kindOf q           the kind of point, for each case of the code's enum `Kind`
 --   pointFrom .. k c q   coordinate k of the point of kind q at corner c, in units: a corner point is looked up in the table `points`
+--   exactFrom .. c q   whether nothing is left in any coordinate of that point: for a corner point, whether the table `marks` has a 1
 --   numberFrom .. g i  number i of the 48 of face g, likewise
+--   markFrom .. g m    mark m of the 16 of face g, likewise
+use mathlib.Core.Bool.{Bool}
 use mathlib.Core.List.{List}
 use Prim.Native.Nat.{ℕ, _+_, _*_, _/_, _%_, _<_}
+use lib.Dec.{eqb}
 use lib.IntN.{ℤ, pos}
 use lib.ListN.{length, getD}
+use Rattle.finite.specs.Fold.{allBelow, indicator}
 use Rattle.corner.specs.Corner.{turn}
 use Rattle.mesh.specs.Tables.{vertexOf}
 use Rattle.patch.specs.Point.{Kind, corner, along, before, inner, innerPoint, alongPoint, beforePoint}
-use Rattle.patch.specs.Patch.{owner, kind, units}
+use Rattle.patch.specs.Patch.{owner, kind, units, exactly}
 use Rattle.patch.specs.Lists.{seen, Coordinates, Twins}
 use Rattle.patch.specs.PatchTables.{Weights}
 use Rattle.patch.specs.declared.writer.Kind as enum
 use Rattle.patch.specs.declared.writer.Kind.the-variants.{Corner, Along, Before, Inner}
 
-pub record Source (positions : List ℤ) (faces twins weights : List ℕ) (points : List ℤ) : Type 0 where
+pub record Source (positions : List ℤ) (faces twins weights : List ℕ) (points : List ℤ) (marks : List ℕ) : Type 0 where
   pub placed : (k : ℕ) → k < 3 → Coordinates positions faces k
   pub weighed : Weights faces weights
   pub twinned : Twins faces twins
   pub pointed : (c k : ℕ) → c < length faces → k < 3 → 3 * vertexOf faces c + k < length points
+  pub marked : (c : ℕ) → c < length faces → vertexOf faces c < length marks
 
 abbrev pub kindOf : enum.Kind → Kind
 kindOf Corner = corner
@@ -35,5 +41,14 @@ pointFrom positions faces points k c along = units (alongPoint (seen positions f
 pointFrom positions faces points k c before = units (beforePoint (seen positions faces k) c)
 pointFrom positions faces points k c inner = units (innerPoint (seen positions faces k) c)
 
+unfoldable pub exactFrom : List ℤ → List ℕ → List ℕ → ℕ → Kind → Bool
+exactFrom positions faces marks c corner = eqb (getD marks (vertexOf faces c) 0) 1
+exactFrom positions faces marks c along = allBelow (λ k. exactly (alongPoint (seen positions faces k) c)) 3
+exactFrom positions faces marks c before = allBelow (λ k. exactly (beforePoint (seen positions faces k) c)) 3
+exactFrom positions faces marks c inner = allBelow (λ k. exactly (innerPoint (seen positions faces k) c)) 3
+
 unfoldable pub numberFrom : List ℤ → List ℕ → List ℤ → ℕ → ℕ → ℤ
 numberFrom positions faces points g i = pointFrom positions faces points (i % 3) (turn (owner (i / 3)) (4 * g)) (kind (i / 3))
+
+unfoldable pub markFrom : List ℤ → List ℕ → List ℕ → ℕ → ℕ → ℕ
+markFrom positions faces marks g m = indicator (exactFrom positions faces marks (turn (owner m) (4 * g)) (kind m))

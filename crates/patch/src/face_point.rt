@@ -1,4 +1,5 @@
 // The edge and inner points that a corner of a face owns, from the lists of a mesh, its twins, and the table of weights.
+use crate::fraction::ControlPoint;
 use crate::fraction::point_in_units;
 use crate::values::face_values;
 use crate::values::is_sharp;
@@ -8,11 +9,9 @@ use mask::model::Fraction;
 ghost use mathlib.Core.Path.{_≡_};
 ghost use Prim.Native.Nat.{ℕ, _<_};
 ghost use lib.ListN.{length};
-ghost use Rattle.finite.specs.Filled.{listBelow};
 ghost use Rattle.patch.specs.Point.{innerPoint, edgePoint, alongPoint, beforePoint};
-ghost use Rattle.patch.specs.Patch.{units};
 ghost use Rattle.patch.specs.Lists.{seen, Coordinates, Twins};
-ghost use Rattle.patch.specs.Values.{Made};
+ghost use Rattle.patch.specs.Values.{Made, inUnits};
 ghost use Rattle.patch.specs.PatchTables.{Weights};
 
 // The inner point at corner c, coordinate k.
@@ -82,10 +81,15 @@ fn before_point(
 }
 
 // The inner point at corner c.
-pub(crate) fn inner_points(positions: &[i32], faces: &[u16], weights: &[u16], c: usize) -> [i32; 3]
+pub(crate) fn inner_points(
+    positions: &[i32],
+    faces: &[u16],
+    weights: &[u16],
+    c: usize,
+) -> ControlPoint
     requires { ⌜ ((k : ℕ) → k < 3 → Coordinates (now positions) (now faces) k) × (c < length (now faces)) ⌝ }
     requires { ⌜ Weights (now faces) (now weights) ⌝ }
-    ensures { λ r. ⌜ r ≡ listBelow (λ k. units (innerPoint (seen (now (positions .entry)) (now (faces .entry)) k) c)) 3 ⌝ }
+    ensures { λ r. ⌜ r ≡ inUnits (λ k. innerPoint (seen (now (positions .entry)) (now (faces .entry)) k) c) ⌝ }
 {
     point_in_units(
         inner_point(positions, faces, weights, 0, c),
@@ -101,10 +105,10 @@ pub(crate) fn along_points(
     twins: &[u16],
     weights: &[u16],
     c: usize,
-) -> [i32; 3]
+) -> ControlPoint
     requires { ⌜ ((k : ℕ) → k < 3 → Coordinates (now positions) (now faces) k) × (c < length (now faces)) ⌝ }
     requires { ⌜ Weights (now faces) (now weights) × Twins (now faces) (now twins) ⌝ }
-    ensures { λ r. ⌜ r ≡ listBelow (λ k. units (alongPoint (seen (now (positions .entry)) (now (faces .entry)) k) c)) 3 ⌝ }
+    ensures { λ r. ⌜ r ≡ inUnits (λ k. alongPoint (seen (now (positions .entry)) (now (faces .entry)) k) c) ⌝ }
 {
     point_in_units(
         along_point(positions, faces, twins, weights, 0, c),
@@ -120,10 +124,10 @@ pub(crate) fn before_points(
     twins: &[u16],
     weights: &[u16],
     c: usize,
-) -> [i32; 3]
+) -> ControlPoint
     requires { ⌜ ((k : ℕ) → k < 3 → Coordinates (now positions) (now faces) k) × (c < length (now faces)) ⌝ }
     requires { ⌜ Weights (now faces) (now weights) × Twins (now faces) (now twins) ⌝ }
-    ensures { λ r. ⌜ r ≡ listBelow (λ k. units (beforePoint (seen (now (positions .entry)) (now (faces .entry)) k) c)) 3 ⌝ }
+    ensures { λ r. ⌜ r ≡ inUnits (λ k. beforePoint (seen (now (positions .entry)) (now (faces .entry)) k) c) ⌝ }
 {
     point_in_units(
         before_point(positions, faces, twins, weights, 0, c),

@@ -1,4 +1,4 @@
-// The patches of an accepted mesh: the tables, then each patch into its own stretch of the list.
+// The patches of an accepted mesh: the tables, then each patch and its marks into their own stretches of the lists.
 use crate::tables::fill_tables;
 use crate::writer::write_patch;
 use limits::model::Mesh;
@@ -7,10 +7,10 @@ ghost use Prim.Native.Nat.{_*_, _≤_};
 ghost use lib.ListN.{length};
 ghost use Rattle.mesh.specs.IndexedMesh.{indexed};
 ghost use Rattle.mesh.specs.WellFormed.{WellFormed};
-ghost use Rattle.patch.specs.Patch.{patchesAfter};
+ghost use Rattle.patch.specs.Patch.{patchesAfter, exactAfter};
 ghost use Rattle.patch.specs.Lists.{Twins};
 
-// Writes the patches of an accepted mesh with its twins.
+// Writes the patches of an accepted mesh with its twins, and their marks.
 pub(crate) fn fill_patches(
     v: usize,
     f: usize,
@@ -19,14 +19,18 @@ pub(crate) fn fill_patches(
     faces: &[u16],
     twins: &[u16],
     patches: &mut [i32],
+    exact: &mut [u8],
 )
-    requires { ⌜ WellFormed (indexed v f (now positions) (now tags) (now faces)) × (48 * f ≤ length (now patches)) ⌝ }
+    requires { ⌜ WellFormed (indexed v f (now positions) (now tags) (now faces)) × (48 * f ≤ length (now patches)) × (16 * f ≤ length (now exact)) ⌝ }
     requires { ⌜ Twins (now faces) (now twins) ⌝ }
     ensures { λ _. ⌜ now (patches .exit)
         ≡ patchesAfter (indexed v f (now (positions .entry)) (now (tags .entry)) (now (faces .entry))) (now (patches .entry)) ⌝ }
+    ensures { λ _. ⌜ now (exact .exit)
+        ≡ exactAfter (indexed v f (now (positions .entry)) (now (tags .entry)) (now (faces .entry))) (now (exact .entry)) ⌝ }
 {
     let mut weights = [0u16; 4 * Mesh::MAX_FACES];
     let mut points = [0i32; 3 * Mesh::MAX_VERTICES];
+    let mut marks = [1u8; Mesh::MAX_VERTICES];
     fill_tables(
         v,
         f,
@@ -36,17 +40,21 @@ pub(crate) fn fill_patches(
         twins,
         &mut weights,
         &mut points,
+        &mut marks,
     );
     for g in 0..f {
         let at = 48 * g;
+        let marked = 16 * g;
         write_patch(
             positions,
             faces,
             twins,
             &weights,
             &points,
+            &marks,
             g,
             &mut patches[at..],
+            &mut exact[marked..],
         );
     }
 }

@@ -1,15 +1,20 @@
-// The sixteen control points of a patch, from the lists of a mesh, its twins, and the tables of weights and corner points.
+// The sixteen control points of a patch and their marks, from the lists of a mesh, its twins, and the tables of weights and of corner points
+// with their marks.
 use crate::face_point::along_points;
 use crate::face_point::before_points;
 use crate::face_point::inner_points;
+use crate::fraction::ControlPoint;
 use crate::values::turned;
 use corner::wide;
 ghost use mathlib.Core.Path.{_≡_};
 ghost use Prim.Native.Nat.{ℕ, _+_, _*_, _≤_, _<_};
+ghost use lib.Dec.{eqb};
 ghost use lib.IntN.{pos};
 ghost use lib.ListN.{length, getD};
-ghost use Rattle.finite.specs.Filled.{listBelow, filled};
-ghost use Rattle.patch.specs.Written.{Source, kindOf, pointFrom, numberFrom};
+ghost use Rattle.finite.specs.Fold.{indicator};
+ghost use Rattle.finite.specs.Filled.{filled};
+ghost use Rattle.patch.specs.Values.{pointOf};
+ghost use Rattle.patch.specs.Written.{Source, kindOf, pointFrom, exactFrom, numberFrom, markFrom};
 ghost use Rattle.mesh.specs.Tables.{vertexOf};
 
 // The four points of its face that each corner owns.
@@ -50,16 +55,19 @@ fn vertex_point(faces: &[u16], points: &[i32], k: usize, c: usize) -> i32
     points[3 * wide(faces[c]) + k]
 }
 
-// The corner point of the vertex of corner c, from its table.
-fn vertex_points(faces: &[u16], points: &[i32], c: usize) -> [i32; 3]
+// The corner point of the vertex of corner c, from its tables.
+fn vertex_points(faces: &[u16], points: &[i32], marks: &[u8], c: usize) -> ControlPoint
     requires { ⌜ (c < length (now faces)) × ((k : ℕ) → k < 3 → 3 * vertexOf (now faces) c + k < length (now points)) ⌝ }
-    ensures { λ r. ⌜ r ≡ listBelow (λ k. getD (now (points .entry)) (3 * vertexOf (now (faces .entry)) c + k) (pos 0)) 3 ⌝ }
+    requires { ⌜ vertexOf (now faces) c < length (now marks) ⌝ }
+    ensures { λ r. ⌜ r ≡ pointOf (λ k. getD (now (points .entry)) (3 * vertexOf (now (faces .entry)) c + k) (pos 0))
+        (eqb (getD (now (marks .entry)) (vertexOf (now (faces .entry)) c) 0) 1) ⌝ }
 {
-    [
-        vertex_point(faces, points, 0, c),
-        vertex_point(faces, points, 1, c),
-        vertex_point(faces, points, 2, c),
-    ]
+    ControlPoint {
+        x: vertex_point(faces, points, 0, c),
+        y: vertex_point(faces, points, 1, c),
+        z: vertex_point(faces, points, 2, c),
+        exact: marks[wide(faces[c])] == 1,
+    }
 }
 
 // A point of corner c.
@@ -69,83 +77,119 @@ fn point_values(
     twins: &[u16],
     weights: &[u16],
     points: &[i32],
+    marks: &[u8],
     c: usize,
     kind: Kind,
-) -> [i32; 3]
-    requires { ⌜ Source (now positions) (now faces) (now twins) (now weights) (now points) × (c < length (now faces)) ⌝ }
-    ensures { λ r. ⌜ r ≡ listBelow (λ k. pointFrom (now (positions .entry)) (now (faces .entry)) (now (points .entry)) k c (kindOf kind)) 3 ⌝ }
+) -> ControlPoint
+    requires { ⌜ Source (now positions) (now faces) (now twins) (now weights) (now points) (now marks) × (c < length (now faces)) ⌝ }
+    ensures { λ r. ⌜ r ≡ pointOf (λ k. pointFrom (now (positions .entry)) (now (faces .entry)) (now (points .entry)) k c (kindOf kind))
+        (exactFrom (now (positions .entry)) (now (faces .entry)) (now (marks .entry)) c (kindOf kind)) ⌝ }
 {
     match kind {
-        Kind::Corner => vertex_points(faces, points, c),
+        Kind::Corner => vertex_points(faces, points, marks, c),
         Kind::Along => along_points(positions, faces, twins, weights, c),
         Kind::Before => before_points(positions, faces, twins, weights, c),
         Kind::Inner => inner_points(positions, faces, weights, c),
     }
 }
 
-// Writes a point of corner c over the first three numbers of the list.
+// 1 for an exact point, else 0.
+fn mark(exact: bool) -> u8
+    ensures { λ r. ⌜ r ≡ indicator exact ⌝ }
+{
+    if exact {
+        return 1;
+    }
+    0
+}
+
+// Writes a point of corner c over the first three numbers of the list, and returns its mark.
 fn write_point(
     positions: &[i32],
     faces: &[u16],
     twins: &[u16],
     weights: &[u16],
     points: &[i32],
+    marks: &[u8],
     c: usize,
     kind: Kind,
     point: &mut [i32],
-)
-    requires { ⌜ Source (now positions) (now faces) (now twins) (now weights) (now points) × (c < length (now faces)) × (3 ≤ length (now point)) ⌝ }
+) -> u8
+    requires { ⌜ Source (now positions) (now faces) (now twins) (now weights) (now points) (now marks)
+        × (c < length (now faces)) × (3 ≤ length (now point)) ⌝ }
     ensures { λ _. ⌜ now (point .exit)
         ≡ filled (λ k. pointFrom (now (positions .entry)) (now (faces .entry)) (now (points .entry)) k c (kindOf kind)) 3 (now (point .entry)) ⌝ }
+    ensures { λ r. ⌜ r ≡ indicator (exactFrom (now (positions .entry)) (now (faces .entry)) (now (marks .entry)) c (kindOf kind)) ⌝ }
 {
-    let p = point_values(positions, faces, twins, weights, points, c, kind);
-    point[0] = p[0];
-    point[1] = p[1];
-    point[2] = p[2];
+    let p = point_values(positions, faces, twins, weights, points, marks, c, kind);
+    let x = p.x;
+    let y = p.y;
+    let z = p.z;
+    point[0] = x;
+    point[1] = y;
+    point[2] = z;
+    mark(p.exact)
 }
 
-// Writes point m of the patch of face g over the first three numbers of the list.
+// Writes point m of the patch of face g over the first three numbers of the list, and returns its mark.
 fn write_numbered(
     positions: &[i32],
     faces: &[u16],
     twins: &[u16],
     weights: &[u16],
     points: &[i32],
+    marks: &[u8],
     g: usize,
     m: usize,
     point: &mut [i32],
-)
-    requires { ⌜ Source (now positions) (now faces) (now twins) (now weights) (now points)
+) -> u8
+    requires { ⌜ Source (now positions) (now faces) (now twins) (now weights) (now points) (now marks)
         × (4 * g + 4 ≤ length (now faces)) × (m < 16) × (3 ≤ length (now point)) ⌝ }
     ensures { λ _. ⌜ now (point .exit)
         ≡ filled (λ k. numberFrom (now (positions .entry)) (now (faces .entry)) (now (points .entry)) g (3 * m + k)) 3 (now (point .entry)) ⌝ }
+    ensures { λ r. ⌜ r ≡ markFrom (now (positions .entry)) (now (faces .entry)) (now (marks .entry)) g m ⌝ }
 {
     let kind = KINDS[m];
     let c = turned(OWNERS[m] as usize, 4 * g);
-    write_point(positions, faces, twins, weights, points, c, kind, point);
+    write_point(
+        positions,
+        faces,
+        twins,
+        weights,
+        points,
+        marks,
+        c,
+        kind,
+        point,
+    )
 }
 
-// Writes the patch of face g over the first 48 numbers of the list.
+// Writes the patch of face g over the first 48 numbers of its list, and its marks over the first 16 bytes of theirs.
 pub(crate) fn write_patch(
     positions: &[i32],
     faces: &[u16],
     twins: &[u16],
     weights: &[u16],
     points: &[i32],
+    marks: &[u8],
     g: usize,
     patch: &mut [i32],
+    exact: &mut [u8],
 )
-    requires { ⌜ Source (now positions) (now faces) (now twins) (now weights) (now points) × (4 * g + 4 ≤ length (now faces)) × (48 ≤ length (now patch)) ⌝ }
+    requires { ⌜ Source (now positions) (now faces) (now twins) (now weights) (now points) (now marks) × (4 * g + 4 ≤ length (now faces))
+        × (48 ≤ length (now patch)) × (16 ≤ length (now exact)) ⌝ }
     ensures { λ _. ⌜ now (patch .exit) ≡ filled (numberFrom (now (positions .entry)) (now (faces .entry)) (now (points .entry)) g) 48 (now (patch .entry)) ⌝ }
+    ensures { λ _. ⌜ now (exact .exit) ≡ filled (markFrom (now (positions .entry)) (now (faces .entry)) (now (marks .entry)) g) 16 (now (exact .entry)) ⌝ }
 {
     for m in 0..16 {
         let at = 3 * m;
-        write_numbered(
+        exact[m] = write_numbered(
             positions,
             faces,
             twins,
             weights,
             points,
+            marks,
             g,
             m,
             &mut patch[at..],

@@ -1,5 +1,6 @@
 -- Sums of four products: they fit 64 bits, they are small where the values are, and two steps of them give the sum of a sample.
 use mathlib.Core.Path.{_≡_, refl, sym, ap, ap₂, _∙_}
+use mathlib.Core.Bool.{Bool, _&&_}
 use mathlib.Core.List.{List, [], _∷_}
 use Prim.Native.Nat.{ℕ, _+_, _*_, _^_, _≤_, _<_}
 use native.Mathlib.Nat.{mul-comm, one-le-pow}
@@ -8,16 +9,18 @@ use lib.IntN.{ℤ, pos, natAbs, _*ℤ_}
 use lib.ListN.{getD}
 use mir.Syntax.{w64}
 use mir.Val.{SFits}
-use Rattle.integer.specs.Nearest.{nearest}
+use Rattle.integer.specs.Nearest.{nearest, whole}
 use Rattle.integer.proofs.Laws.{abs-*-≤, sfits-abs}
 use Rattle.integer.proofs.NearestLaws.{nearest-meets, nearest-unique}
-use Rattle.finite.specs.Fold.{foldBelow, sumBelowℤ}
+use Rattle.finite.specs.Fold.{foldBelow, allBelow, sumBelowℤ}
 use Rattle.finite.specs.Filled.{listBelow}
 use Rattle.finite.proofs.FilledLaws.{listBelow-at}
 use Rattle.finite.proofs.IntegerSum.{sum-size}
 use Rattle.sample.specs.Bernstein.{bernstein, numerator, rounded}
 use Rattle.sample.specs.Refusal.{maxControl}
+use Rattle.sample.specs.declared.model.Coordinate.{Coordinate}
 use Rattle.sample.specs.declared.model.Point.{Point}
+use Rattle.sample.specs.declared.model.MarkedPoint.{MarkedPoint}
 use Rattle.sample.specs.Blend.{controlOf, Small, Steps, Light, Fine, Mean, blended, blendedTwice}
 use Rattle.sample.proofs.BernsteinLaws.{bernstein-small, sixth-small}
 use Rattle.sample.proofs.SampleLaws.{numerator-rows, rounded-nearest, numerator-bound}
@@ -103,6 +106,23 @@ module _ (n a b : ℕ) (g : ℕ → ℤ) {u v : List ℕ} {d : ℕ} (e : u ≡ l
       ap₂ nearest blended-numerator h
       ∙ nearest-unique (numerator n a b g) (n ^ 6) _ _ p (nearest-meets (numerator n a b g) (n ^ 6) p) (rounded-nearest n a b g some)
 
+  pub whole-blended : whole (blendedTwice u v g) d ≡ whole (numerator n a b g) (n ^ 6)
+  whole-blended = ap₂ whole blended-numerator h
+
+-- ---- answers by their parts
+-- a coordinate is its value and its mark
+pub same-coordinate : {x x' : ℤ} {e e' : Bool} → x ≡ x' → e ≡ e' → _≡_ {A = Coordinate} (record { value = x; exact = e }) (record { value = x'; exact = e' })
+same-coordinate p q = cc
+
 -- a point is its three coordinates
 pub same-point : {x y z x' y' z' : ℤ} → x ≡ x' → y ≡ y' → z ≡ z' → _≡_ {A = Point} (record { x = x; y = y; z = z }) (record { x = x'; y = y'; z = z' })
 same-point e f g = cc
+
+-- a point with its mark is both
+pub same-marked : {p p' : Point} {e e' : Bool} → p ≡ p' → e ≡ e' → _≡_ {A = MarkedPoint} (record { point = p; exact = e }) (record { point = p'; exact = e' })
+same-marked f g = cc
+
+-- three tests, one after the other
+pub all-three : (p : ℕ → Bool) → (p 0 && p 1 && p 2) ≡ allBelow p 3
+unfolding foldBelow
+all-three p = refl

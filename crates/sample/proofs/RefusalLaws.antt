@@ -1,5 +1,5 @@
 -- When the sample call says no: the causes as the code tests them, the answer by the first cause that is met, and what holds where none is.
-use mathlib.Core.Path.{_≡_}
+use mathlib.Core.Path.{_≡_, ap, _∙_}
 use mathlib.Core.Bool.{true, false}
 use mathlib.Core.List.{List}
 use mathlib.Core.Option.{none, some}
@@ -13,11 +13,10 @@ use Rattle.finite.specs.Table.{firstMet, result, refusal}
 use Rattle.finite.proofs.AnyAll.{or-false}
 use Rattle.finite.proofs.TableLaws.{none-met}
 use Rattle.sample.specs.declared.model.Point.{Point}
-use Rattle.sample.specs.Bernstein.{rounded}
 use Rattle.sample.specs.Refusal.{minSteps, maxSteps, faceOff, controlOff, placeOff, sampleRows}
 use Rattle.sample.specs.Answer.{sampleAnswer}
-use Rattle.sample.specs.Blend.{controlOf, Small, Steps}
-use Rattle.sample.proofs.PatchLaws.{patchOf, patch-small, patch-coordinate}
+use Rattle.sample.specs.Blend.{Small, Steps}
+use Rattle.sample.proofs.PatchLaws.{patchOf, pointOf, patch-small, patch-point}
 
 -- ---- the causes as the code tests them
 pub face-off : (patches : List ℤ) (f : ℕ) → length patches / 48 ≤ f → faceOff patches f ≡ true
@@ -68,13 +67,8 @@ module _ (patches : List ℤ) (f n a b : ℕ) where
   unfolding sampleAnswer
   refused e = rw e
 
-  -- coordinate k of the sample, by the part of the list
-  abbrev coordinateOf : ℕ → ℤ
-  coordinateOf k = rounded n a b (controlOf (patchOf patches f) k)
-
+  -- by the part of the list
   pub answered : firstMet (sampleRows patches f n a b) ≡ none → f < length patches / 48
-      → {p : Point} → p ≡ record { x = coordinateOf 0; y = coordinateOf 1; z = coordinateOf 2 } → result p ≡ sampleAnswer patches f n a b
+      → {p : Point} → p ≡ pointOf (patchOf patches f) n a b .point → result p ≡ sampleAnswer patches f n a b
   unfolding sampleAnswer
-  answered e h q =
-      let at = patch-coordinate patches f h n a b in
-      rw (q, e) (rw (at 0 (omega arith), at 1 (omega arith), at 2 (omega arith)))
+  answered e h q = ap result (q ∙ patch-point patches f h n a b) ∙ rw e

@@ -84,19 +84,18 @@ numerator-turn n a b g h =
         ap₂ (λ (w m : ℕ). pos w *ℤ g m)
         (rw (bernstein-flip n a h j l) (mul-comm (bernstein n b i) (bernstein n a (3 - j)))) (omega arith)
 
-pub rounded-turn : (n a b : ℕ) (g : ℕ → ℤ) → a ≤ n → rounded n b (n - a) (quarterTurn g) ≡ rounded n a b g
-rounded-turn n a b g h = rounded-by-sum n b (n - a) a b (quarterTurn g) g (numerator-turn n a b g h)
-
 -- ---- a and b exchanged
 -- the control values of the patch with u and v exchanged: b'(i,j) = b(j,i)
-pub rounded-swap : (n a b : ℕ) (g : ℕ → ℤ) → rounded n b a (λ m. g (m / 4 + 4 * (m % 4))) ≡ rounded n a b g
+pub numerator-swap : (n a b : ℕ) (g : ℕ → ℤ) → numerator n b a (λ m. g (m / 4 + 4 * (m % 4))) ≡ numerator n a b g
 unfolding numerator
-rounded-swap n a b g =
-    rounded-by-sum n b a a b _ g
-    (fold-ext (pos 0) _+ℤ_ 4 (λ j l. fold-ext (pos 0) _+ℤ_ 4 (λ i k.
+numerator-swap n a b g =
+    fold-ext (pos 0) _+ℤ_ 4 (λ j l. fold-ext (pos 0) _+ℤ_ 4 (λ i k.
     ap₂ (λ (w m : ℕ). pos w *ℤ g m)
     (mul-comm (bernstein n b i) (bernstein n a j)) (let e : (i + 4 * j) / 4 + 4 * ((i + 4 * j) % 4) ≡ j + 4 * i = omega arith in e)))
-    ∙ fold-swap sumℤ-monoid (λ j i. pos (bernstein n a j * bernstein n b i) *ℤ g (j + 4 * i)) 4 4)
+    ∙ fold-swap sumℤ-monoid (λ j i. pos (bernstein n a j * bernstein n b i) *ℤ g (j + 4 * i)) 4 4
+
+pub rounded-swap : (n a b : ℕ) (g : ℕ → ℤ) → rounded n b a (λ m. g (m / 4 + 4 * (m % 4))) ≡ rounded n a b g
+rounded-swap n a b g = rounded-by-sum n b a a b _ g (numerator-swap n a b g)
 
 -- ---- the edge b = 0
 -- only the points with j = 0 count

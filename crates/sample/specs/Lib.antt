@@ -3,5 +3,6 @@ pub mod Bernstein
 pub mod Refusal
 pub mod Answer
 pub mod Line
+pub mod Marked
 pub mod Blend
 pub mod Differences

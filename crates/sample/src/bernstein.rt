@@ -1,4 +1,6 @@
 // The sample of one patch at one place: blended along v, then along u, exactly, and rounded once.
+use crate::model::Coordinate;
+use crate::model::MarkedPoint;
 use crate::model::Point;
 ghost use mathlib.Core.Path.{_≡_};
 ghost use Prim.Native.Nat.{_+_, _*_, _^_, _≤_, _<_};
@@ -6,9 +8,10 @@ ghost use lib.IntN.{pos, _+ℤ_, _*ℤ_};
 ghost use lib.ListN.{length, getD};
 ghost use mir.Syntax.{w64};
 ghost use mir.Val.{SFits};
-ghost use Rattle.integer.specs.Nearest.{nearest};
+ghost use Rattle.integer.specs.Nearest.{nearest, whole};
+ghost use Rattle.finite.specs.Fold.{allBelow};
 ghost use Rattle.finite.specs.Filled.{listBelow};
-ghost use Rattle.sample.specs.Bernstein.{bernstein, rounded};
+ghost use Rattle.sample.specs.Bernstein.{bernstein, numerator, rounded};
 ghost use Rattle.sample.specs.Refusal.{maxSteps};
 ghost use Rattle.sample.specs.Blend.{controlOf, Small, Steps, Light, Fine, Mean, blended, blendedTwice};
 
@@ -87,37 +90,53 @@ pub(crate) fn curve(patch: &[i32], k: usize, v: [u32; 4]) -> [i64; 4]
 }
 
 // A sum of control values over the sum of their weights, rounded once: no further from 0 than a control value, so it fits.
-pub(crate) fn rounded_quotient(sum: i64, divisor: u32) -> i32
+pub(crate) fn rounded_quotient(sum: i64, divisor: u32) -> Coordinate
     requires { ⌜ Mean sum divisor ⌝ }
-    ensures { λ r. ⌜ r ≡ nearest sum divisor ⌝ }
+    ensures { λ r. ⌜ r ≡ record { value = nearest sum divisor; exact = whole sum divisor } ⌝ }
 {
-    integer::round(sum, divisor) as i32
+    let quotient = integer::round(sum, divisor);
+    Coordinate {
+        value: quotient.value as i32,
+        exact: quotient.rest == 0,
+    }
 }
 
 // Coordinate k of the sample: blended along u too, and rounded once.
-fn coordinate(patch: &[i32], k: usize, u: [u32; 4], v: [u32; 4], divisor: u32) -> i32
+fn coordinate(patch: &[i32], k: usize, u: [u32; 4], v: [u32; 4], divisor: u32) -> Coordinate
     requires { ⌜ Small (now patch) × (k < 3) × Light u × Light v ⌝ }
     requires { ⌜ Mean (blendedTwice u v (controlOf (now patch) k)) divisor ⌝ }
-    ensures { λ r. ⌜ r ≡ nearest (blendedTwice u v (controlOf (now (patch .entry)) k)) divisor ⌝ }
+    ensures { λ r. ⌜ r ≡ record {
+      value = nearest (blendedTwice u v (controlOf (now (patch .entry)) k)) divisor;
+      exact = whole (blendedTwice u v (controlOf (now (patch .entry)) k)) divisor;
+    } ⌝ }
 {
     rounded_quotient(blend(u, curve(patch, k, v)), divisor)
 }
 
-// The point of the patch at (a, b).
-pub(crate) fn point(patch: &[i32], n: usize, a: usize, b: usize) -> Point
+// The point of the patch at (a, b), exact where the division left nothing in any coordinate.
+pub(crate) fn point(patch: &[i32], n: usize, a: usize, b: usize) -> MarkedPoint
     requires { ⌜ Small (now patch) × Steps n a × Steps n b ⌝ }
     ensures { λ r. ⌜ r ≡ record {
-      x = rounded n a b (controlOf (now (patch .entry)) 0);
-      y = rounded n a b (controlOf (now (patch .entry)) 1);
-      z = rounded n a b (controlOf (now (patch .entry)) 2);
+      point = record {
+        x = rounded n a b (controlOf (now (patch .entry)) 0);
+        y = rounded n a b (controlOf (now (patch .entry)) 1);
+        z = rounded n a b (controlOf (now (patch .entry)) 2);
+      };
+      exact = allBelow (λ k. whole (numerator n a b (controlOf (now (patch .entry)) k)) (n ^ 6)) 3;
     } ⌝ }
 {
     let u = weights(n, a);
     let v = weights(n, b);
     let over = divisor(n);
-    Point {
-        x: coordinate(patch, 0, u, v, over),
-        y: coordinate(patch, 1, u, v, over),
-        z: coordinate(patch, 2, u, v, over),
+    let x = coordinate(patch, 0, u, v, over);
+    let y = coordinate(patch, 1, u, v, over);
+    let z = coordinate(patch, 2, u, v, over);
+    MarkedPoint {
+        point: Point {
+            x: x.value,
+            y: y.value,
+            z: z.value,
+        },
+        exact: x.exact & y.exact & z.exact,
     }
 }

@@ -1,14 +1,18 @@
-//! Samples of bicubic patches, as whole numbers of 1/256 micrometre and as doubles in micrometres (rules S1 to S5).
+//! Samples of bicubic patches, as whole numbers of 1/256 micrometre and as doubles in micrometres (rules S1 to S7).
 mod bernstein;
 mod differences;
 mod line;
+mod marked;
 mod micrometres;
 pub mod model;
 mod refusal;
 
 use crate::bernstein::point;
 use crate::line::write_points;
+use crate::marked::all_exact;
 use crate::micrometres::in_micrometres;
+use crate::model::Marked;
+use crate::model::MarkedPoint;
 use crate::model::Reading;
 use crate::model::Sampled;
 use crate::refusal::sample_refusal;
@@ -16,6 +20,7 @@ use finite::model::Outcome;
 ghost use mathlib.Core.Path.{_≡_};
 ghost use Rattle.sample.specs.Answer.{sampled, sampleAnswer, Reads};
 ghost use Rattle.sample.specs.Line.{LineSampled};
+ghost use Rattle.sample.specs.Marked.{marked, markedAnswer};
 
 // The sample of face f at (a, b), for N = n (rules S1 to S4).
 // Returns: x, y and z of the sample, each rounded once, or the number of the refusal.
@@ -32,7 +37,44 @@ pub fn sample(patches: &[i32], f: usize, n: usize, a: usize, b: usize) -> Sample
     }
     let at = 48 * f;
     let end = at + 48;
-    Sampled::At(point(&patches[at..end], n, a, b))
+    let found = point(&patches[at..end], n, a, b);
+    let p = found.point;
+    Sampled::At(p)
+}
+
+// The sample of face f at (a, b), for N = n, and whether it is exact (rule S7).
+// Returns: the sample as `sample` gives it, and its mark: whether the sixteen bytes of face f in the list `exact` are all 1 and the sample's own
+// division left nothing in any coordinate; or the number of the refusal.
+// Writes: nothing. Leaves alone: both lists; of them, places 48f to 48f + 47 and 16f to 16f + 15 are read and no others.
+// Refuses, in this order: 12 patch list shorter than 48f + 48, or the list `exact` shorter than 16f + 16, 13 and 14 as `sample`.
+// Units: control values and sample in 1/256 micrometre.
+pub fn marked_sample(
+    patches: &[i32],
+    exact: &[u8],
+    f: usize,
+    n: usize,
+    a: usize,
+    b: usize,
+) -> Marked
+    ensures { λ r. ⌜ marked r ≡ markedAnswer (now (patches .entry)) (now (exact .entry)) f n a b ⌝ }
+{
+    if exact.len() / 16 <= f {
+        return Marked::Refused(12);
+    }
+    let k = sample_refusal(patches, f, n, a, b);
+    if k != 0 {
+        return Marked::Refused(k);
+    }
+    let at = 48 * f;
+    let end = at + 48;
+    let own = point(&patches[at..end], n, a, b);
+    let p = own.point;
+    let first = 16 * f;
+    let behind = first + 16;
+    Marked::At(MarkedPoint {
+        point: p,
+        exact: all_exact(&exact[first..behind]) & own.exact,
+    })
 }
 
 // The sample of face f at (a, b), for N = n, in micrometres (rule S5).

@@ -25,9 +25,12 @@ pub(crate) fn write_points(patch: &[i32], n: usize, b: usize, line: &mut [i32])
     let mut y = first_sums(n, curve(patch, 1, v));
     let mut z = first_sums(n, curve(patch, 2, v));
     for a in 0..n + 1 {
-        line[3 * a] = rounded_quotient(x[0], over);
-        line[3 * a + 1] = rounded_quotient(y[0], over);
-        line[3 * a + 2] = rounded_quotient(z[0], over);
+        let p = rounded_quotient(x[0], over).value;
+        let q = rounded_quotient(y[0], over).value;
+        let r = rounded_quotient(z[0], over).value;
+        line[3 * a] = p;
+        line[3 * a + 1] = q;
+        line[3 * a + 2] = r;
         x = stepped(x);
         y = stepped(y);
         z = stepped(z);

@@ -1,4 +1,4 @@
-// The limits of what the sample call and the reading are given, and their answers.
+// The limits of what the calls of a sample and the reading are given, and their answers.
 
 // The largest magnitude of a control value.
 pub const MAX_CONTROL: u32 = 268_435_456;
@@ -11,6 +11,12 @@ pub const MAX_STEPS: usize = 32;
 // The numbers of the longest line: a list of so many is never too short.
 pub const MAX_LINE: usize = 3 * (MAX_STEPS + 1);
 
+// A coordinate of a sample, and whether its division left nothing.
+pub(crate) struct Coordinate {
+    pub value: i32,
+    pub exact: bool,
+}
+
 // A sample, in units of 1/256 micrometre.
 pub struct Point {
     pub x: i32,
@@ -21,6 +27,18 @@ pub struct Point {
 // The answer of the sample call: the sample, or the number of the refusal.
 pub enum Sampled {
     At(Point),
+    Refused(u8),
+}
+
+// A sample, and whether it is exact: all sixteen marks of its patch are set, and its own division left nothing (rule S7).
+pub struct MarkedPoint {
+    pub point: Point,
+    pub exact: bool,
+}
+
+// The answer of the marked sample call: the sample with its mark, or the number of the refusal.
+pub enum Marked {
+    At(MarkedPoint),
     Refused(u8),
 }
 

@@ -1,4 +1,4 @@
--- The sample call on the patch list of an accepted mesh: none of its causes to refuse is met, and its samples are those of the control points.
+-- The sample calls on the lists of an accepted mesh: none of their causes to refuse is met, and their samples are those of the control points.
 use mathlib.Core.Path.{_≡_}
 use mathlib.Core.Bool.{false}
 use mathlib.Core.List.{List}
@@ -14,15 +14,20 @@ use Rattle.mesh.specs.WellFormed.{WellFormed}
 use Rattle.sample.specs.Bernstein.{rounded, coordinateAt}
 use Rattle.sample.specs.Refusal.{maxControl, minSteps, maxSteps, faceOff, controlOff, placeOff}
 use Rattle.sample.specs.Answer.{pointAt, sampleAnswer}
+use Rattle.sample.specs.Marked.{marksOff, sampleExact, markedAnswer}
 use Rattle.sample.proofs.SampleLaws.{rounded-ext}
 use Rattle.sample.proofs.RefusalLaws.{place-on}
-use Rattle.patch.specs.Patch.{controlValue, view, patchesAfter}
-use Rattle.patch.proofs.WrittenLaws.{written-length, written-at, written-bound}
+use Rattle.patch.specs.Patch.{controlValue, view, patchesAfter, exactAfter}
+use Rattle.patch.proofs.WrittenLaws.{written-length, written-at, written-bound, marks-length}
 
 -- 12
 face-none : (M : IndexedMesh) (d : List ℤ) (f : ℕ) → 48 * M .faces ≤ length d → f < M .faces → faceOff (patchesAfter M d) f ≡ false
 unfolding faceOff
 face-none M d f long l = le-ltb (length (patchesAfter M d)) (48 * f + 48) (rw (written-length M d long) (omega arith))
+
+marks-none : (M : IndexedMesh) (x : List ℕ) (f : ℕ) → 16 * M .faces ≤ length x → f < M .faces → marksOff (exactAfter M x) f ≡ false
+unfolding marksOff
+marks-none M x f long l = le-ltb (length (exactAfter M x)) (16 * f + 16) (rw (marks-length M x long) (omega arith))
 
 -- 13
 control-none : {M : IndexedMesh} → WellFormed M → (d : List ℤ) (f : ℕ) → f < M .faces → controlOff (patchesAfter M d) f ≡ false
@@ -41,6 +46,13 @@ pub answered : {M : IndexedMesh} → WellFormed M → (d : List ℤ) (f n a b : 
     → sampleAnswer (patchesAfter M d) f n a b ≡ result (pointAt (patchesAfter M d) f n a b)
 unfolding sampleAnswer
 answered {M} acc d f n a b long l on = rw (face-none M d f long l, control-none acc d f l, on)
+
+pub marked-answered : {M : IndexedMesh} → WellFormed M → (d : List ℤ) (x : List ℕ) (f n a b : ℕ) → 48 * M .faces ≤ length d → 16 * M .faces ≤ length x
+    → f < M .faces → placeOff n a b ≡ false
+    → markedAnswer (patchesAfter M d) (exactAfter M x) f n a b
+    ≡ result (record { point = pointAt (patchesAfter M d) f n a b; exact = sampleExact (patchesAfter M d) (exactAfter M x) f n a b })
+unfolding markedAnswer
+marked-answered {M} acc d x f n a b long room l on = rw (face-none M d f long l, marks-none M x f room l, control-none acc d f l, on)
 
 pub coordinate-written : (M : IndexedMesh) (d : List ℤ) (f n a b k : ℕ) → f < M .faces → k < 3
     → coordinateAt (patchesAfter M d) f n a b k ≡ rounded n a b (controlValue (view M k) (4 * f))

@@ -1,7 +1,8 @@
--- The parts of the claim, of the definitions: what the sample call answers on the patch list of an accepted mesh.
+-- The parts of the claim, of the definitions: what the sample calls answer on the lists of an accepted mesh.
 --
 --   sampleOn M d n f p   what the sample call answers for face f at place p, on the patch list of M written over d
 --   answerFrom M n f p   the same, by the control points
+--   markedOn, markedAnswerFrom   likewise for the marked sample call, with the marks of M written over x
 use mathlib.Core.Path.{_≡_, sym, ap, _∙_}
 use mathlib.Core.Bool.{false}
 use mathlib.Core.List.{List}
@@ -18,10 +19,12 @@ use Rattle.mesh.proofs.AcceptedLaws.{accepted-corners}
 use Rattle.sample.specs.Bernstein.{rounded, coordinateAt}
 use Rattle.sample.specs.Refusal.{placeOff}
 use Rattle.sample.specs.Answer.{sampleAnswer}
+use Rattle.sample.specs.Marked.{markedAnswer}
 use Rattle.sample.specs.declared.model.Point.{Point}
+use Rattle.sample.specs.declared.model.MarkedPoint.{MarkedPoint}
 use Rattle.sample.proofs.SampleLaws.{rounded-ext}
 use Rattle.sample.proofs.RefusalLaws.{place-on}
-use Rattle.patch.specs.Patch.{patchPoint, units, view, patchesAfter}
+use Rattle.patch.specs.Patch.{patchPoint, units, view, patchesAfter, exactAfter}
 use Rattle.patch.proofs.PointLaws.{patch-divisor}
 use Rattle.symmetry.proofs.WellFormedMoves.{alike-well-formed}
 use Rattle.correspondence.proofs.PointMoves.{patch-moves}
@@ -32,13 +35,20 @@ use Rattle.surface.proofs.FromRenumbering.{alike, face-begins}
 use Rattle.surface.proofs.FaceSamples.{sampleFrom, Within, matching-within, side-within, sample-matching}
 use Rattle.surface.proofs.Seam.{twin-inside, seam}
 use Rattle.surface.proofs.Distance.{distance}
-use Rattle.surface.proofs.AnsweredLaws.{coordinate-written, place-none, answered}
+use Rattle.surface.proofs.MarkLaws.{markFrom, same-marks, mark-matching, mark-written}
+use Rattle.surface.proofs.AnsweredLaws.{coordinate-written, place-none, answered, marked-answered}
 
 abbrev pub sampleOn : IndexedMesh → List ℤ → ℕ → ℕ → Place → Answer Point
 sampleOn M d n f p = sampleAnswer (patchesAfter M d) f n (p .a) (p .b)
 
 abbrev pub answerFrom : IndexedMesh → ℕ → ℕ → Place → Answer Point
 answerFrom M n f p = result (pointOf (λ k. sampleFrom (view M k) n (4 * f) p))
+
+abbrev pub markedOn : IndexedMesh → List ℤ → List ℕ → ℕ → ℕ → Place → Answer MarkedPoint
+markedOn M d x n f p = markedAnswer (patchesAfter M d) (exactAfter M x) f n (p .a) (p .b)
+
+abbrev pub markedAnswerFrom : IndexedMesh → ℕ → ℕ → Place → Answer MarkedPoint
+markedAnswerFrom M n f p = result (record { point = pointOf (λ k. sampleFrom (view M k) n (4 * f) p); exact = markFrom (view M) n (4 * f) p })
 
 -- answers whose coordinates are equal
 same-answer : (M M′ : IndexedMesh) (n f f′ : ℕ) (p p′ : Place)
@@ -56,6 +66,24 @@ sampled-from {M} a d long n f p l on =
       coordinate-written M d f n (p .a) (p .b) 2 l (omega arith),
     )
 
+same-marked : (M M′ : IndexedMesh) (n f f′ : ℕ) (p p′ : Place)
+    → ((k : ℕ) → k < 3 → sampleFrom (view M k) n (4 * f) p ≡ sampleFrom (view M′ k) n (4 * f′) p′)
+    → markFrom (view M) n (4 * f) p ≡ markFrom (view M′) n (4 * f′) p′
+    → markedAnswerFrom M n f p ≡ markedAnswerFrom M′ n f′ p′
+same-marked M M′ n f f′ p p′ h e = rw (h 0 (omega arith), h 1 (omega arith), h 2 (omega arith), e)
+
+-- what the marked sample call gives, by the control points
+pub marked-from : {M : IndexedMesh} → WellFormed M → (d : List ℤ) (x : List ℕ) → 48 * M .faces ≤ length d → 16 * M .faces ≤ length x → (n f : ℕ) (p : Place)
+    → f < M .faces → placeOff n (p .a) (p .b) ≡ false → markedOn M d x n f p ≡ markedAnswerFrom M n f p
+marked-from {M} a d x long room n f p l on =
+    marked-answered a d x f n (p .a) (p .b) long room l on
+    ∙ rw (
+      coordinate-written M d f n (p .a) (p .b) 0 l (omega arith),
+      coordinate-written M d f n (p .a) (p .b) 1 l (omega arith),
+      coordinate-written M d f n (p .a) (p .b) 2 l (omega arith),
+      mark-written M d x f n p l,
+    )
+
 -- a face of M′ has the control points of the face of M, seen from the corner at which it begins
 module _ {M M′ : IndexedMesh} (r : Renumbering M M′) (a : WellFormed M) (k : ℕ) (axis : k < 3) (f : ℕ) (face : f < M .faces) where
   patch-renumbered : (m : ℕ) → m < 16 → patchPoint (view M′ k) (4 * r .faces .to f) m ≡ patchPoint (view M k) (turn (r .start f) (4 * f)) m
@@ -67,6 +95,12 @@ module _ {M M′ : IndexedMesh} (r : Renumbering M M′) (a : WellFormed M) (k :
       → sampleFrom (view M′ k) n (4 * r .faces .to f) (matching n (r .start f) p) ≡ sampleFrom (view M k) n (4 * f) p
   sample-renumbered n p w =
       rounded-ext n _ _ (λ m b. ap units (patch-renumbered m b)) ∙ sample-matching (view M k) n (r .start f) (4 * f) p w
+
+mark-renumbered : {M M′ : IndexedMesh} (r : Renumbering M M′) (a : WellFormed M) (f : ℕ) → f < M .faces → (n : ℕ) (p : Place) → Within n p
+    → markFrom (view M′) n (4 * r .faces .to f) (matching n (r .start f) p) ≡ markFrom (view M) n (4 * f) p
+mark-renumbered {M} {M′} r a f face n p w =
+    same-marks (view M′) (view M) n _ _ (matching n (r .start f) p) (λ k m h b. patch-renumbered r a k h f face m b)
+    ∙ mark-matching (view M) n (r .start f) (4 * f) p w
 
 -- a sample is that of the exact surface's control points, rounded
 exact-rounded : (M : IndexedMesh) (d : List ℤ) (f n x y k : ℕ) → f < M .faces → k < 3
@@ -104,4 +138,16 @@ module _ {M : IndexedMesh} (a : WellFormed M) (d : List ℤ) (long : 48 * M .fac
       sampled-from a d long n f p l on
       ∙ sym (same-answer M′ M n _ _ _ _ (λ k h. sample-renumbered r a k h f l n p (s .2, s .3)))
       ∙ sym (sampled-from (alike-well-formed a (alike r)) d′ long′ n (r .faces .to f) (matching n (r .start f) p)
+      (rw (r .same-faces) (r .faces .to-below f l)) (place-none n (p .a) (p .b) _ _ on (w .0) (w .1)))
+
+  pub marks-renumbered-on : (x : List ℕ) → 16 * M .faces ≤ length x
+      → {M′ : IndexedMesh} (r : Renumbering M M′) (d′ : List ℤ) (x′ : List ℕ) → 48 * M′ .faces ≤ length d′ → 16 * M′ .faces ≤ length x′
+      → (f : ℕ) (p : Place) → f < M .faces → placeOff n (p .a) (p .b) ≡ false
+      → markedOn M d x n f p ≡ markedOn M′ d′ x′ n (r .faces .to f) (matching n (r .start f) p)
+  marks-renumbered-on x room {M′} r d′ x′ long′ room′ f p l on =
+      let s = place-on n (p .a) (p .b) on in
+      let w = matching-within n (r .start f) p (s .2, s .3) in
+      marked-from a d x long room n f p l on
+      ∙ sym (same-marked M′ M n _ _ _ _ (λ k h. sample-renumbered r a k h f l n p (s .2, s .3)) (mark-renumbered r a f l n p (s .2, s .3)))
+      ∙ sym (marked-from (alike-well-formed a (alike r)) d′ x′ long′ room′ n (r .faces .to f) (matching n (r .start f) p)
       (rw (r .same-faces) (r .faces .to-below f l)) (place-none n (p .a) (p .b) _ _ on (w .0) (w .1)))

@@ -1,5 +1,5 @@
 -- The claim about the answers that the calls gave, from the claim about the definitions.
-use mathlib.Core.Path.{_≡_, refl, sym, ap, _∙_}
+use mathlib.Core.Path.{_≡_, refl, sym, ap, ap₂, _∙_}
 use mathlib.Core.Bool.{false}
 use mathlib.Core.List.{List, [], _++_}
 use mathlib.Core.Option.{none}
@@ -19,25 +19,30 @@ use Rattle.mesh.specs.Answer.{countsOf, meshRefusal}
 use Rattle.mesh.proofs.AcceptedLaws.{accepted-early, accepted-late, accepted-well-formed}
 use Rattle.sample.specs.Bernstein.{coordinateAt}
 use Rattle.sample.specs.Answer.{sampled}
+use Rattle.sample.specs.Marked.{sampleExact, marked}
 use Rattle.sample.specs.declared.model.Point.{Point}
-use Rattle.patch.specs.Patch.{patchesAfter}
-use Rattle.patch.specs.Answer.{listsShort, patchRows, patchAnswer, patchList, Patched}
+use Rattle.patch.specs.Patch.{patchesAfter, exactAfter}
+use Rattle.patch.specs.Answer.{patchesShort, exactShort, listsShort, patchRows, patchAnswer, patchList, exactList, Patched}
 use Rattle.symmetry.proofs.WellFormedMoves.{alike-well-formed, alike-counts}
-use Rattle.surface.specs.Claim.{OnMesh, coordinateOf, number, pointOf, Claim}
+use Rattle.surface.specs.Claim.{OnMesh, coordinateOf, number, pointOf, isExact, Claim}
 use Rattle.surface.specs.Renumbering.{place}
-use Rattle.surface.specs.Witness.{sampleAt, Evaluated, Witnessed}
+use Rattle.surface.specs.Witness.{sampleAt, markedAt, Evaluated, Witnessed}
 use Rattle.surface.specs.declared.model.SamplePlace.{SamplePlace}
 use Rattle.surface.specs.declared.model.Evaluation.{Evaluation}
 use Rattle.surface.specs.declared.model.Witness.{Witness}
 use Rattle.surface.proofs.FromRenumbering.{alike}
-use Rattle.surface.proofs.AnsweredLaws.{answered}
-use Rattle.surface.proofs.ClaimLaws.{answerFrom, sampled-from, distance-on, seam-on, renumbered-on}
+use Rattle.surface.proofs.Exactness.{exact-on}
+use Rattle.surface.proofs.AnsweredLaws.{answered, marked-answered}
+use Rattle.surface.proofs.ClaimLaws.{answerFrom, markedAnswerFrom, sampled-from, marked-from, distance-on, seam-on, renumbered-on, marks-renumbered-on}
 
--- what the two calls gave, the sample call on the list that the patch call left
-pub evaluated : {M : IndexedMesh} {d b : List ℕ} {e p : List ℤ} {n : ℕ} {q : SamplePlace} {r : Evaluation}
-    → Patched M d e (r .mesh) b p → sampled (r .sample) ≡ sampleAt p n q → Evaluated M d e n q r b p
-evaluated {n = n} {q = q} patched sample =
-    record { patched = patched; sample-is = sample ∙ ap (λ (t : List ℤ). sampleAt t n q) (patched .patches-are) }
+-- what the three calls gave, the sample calls on the lists that the patch call left
+pub evaluated : {M : IndexedMesh} {d x b y : List ℕ} {e p : List ℤ} {n : ℕ} {q : SamplePlace} {r : Evaluation}
+    → Patched M d e x (r .mesh) b p y → sampled (r .sample) ≡ sampleAt p n q → marked (r .marked) ≡ markedAt p y n q → Evaluated M d e x n q r b p y
+evaluated {n = n} {q = q} patched sample marks = record {
+  patched = patched;
+  sample-is = sample ∙ ap (λ (t : List ℤ). sampleAt t n q) (patched .patches-are);
+  marked-is = marks ∙ ap₂ (λ (t : List ℤ) (u : List ℕ). markedAt t u n q) (patched .patches-are) (patched .exact-are);
+}
 
 -- a coordinate of three numbers given by their places
 coordinate-of : (g : ℕ → ℤ) (k : ℕ) → k < 3 → coordinateOf (result (pointOf g)) k ≡ g k
@@ -46,72 +51,114 @@ coordinate-of g (suc zero) l = refl
 coordinate-of g (suc (suc zero)) l = refl
 coordinate-of g (suc (suc (suc k))) l = absurd (let bad : ⊥ = omega arith in bad)
 
--- what the patch call answers for an accepted mesh, on lists that are long enough, and what stands in the patch list afterwards
-module _ {M : IndexedMesh} (twins : List ℕ) (patches : List ℤ) (a : WellFormed M) (long : listsShort M twins patches ≡ false) where
-  unmet : meshRefusal M (patchRows M twins patches) [] ≡ none
+-- what the patch call answers for an accepted mesh, on lists that are long enough, and what stands in the patch list and the marks afterwards
+module _ {M : IndexedMesh} (twins : List ℕ) (patches : List ℤ) (exact : List ℕ) (a : WellFormed M) (long : listsShort M twins patches exact ≡ false) where
+  unmet : meshRefusal M (patchRows M twins patches exact) [] ≡ none
   unfolding meshRefusal
   unmet =
-      none-append (earlyRows M (patchRows M twins patches)) (lateRows M ++ []) (accepted-early a (patchRows M twins patches) (rw long))
+      none-append (earlyRows M (patchRows M twins patches exact)) (lateRows M ++ []) (accepted-early a (patchRows M twins patches exact) (rw long))
       ∙ none-append (lateRows M) [] (accepted-late a)
 
-  pub accepted-answer : patchAnswer M twins patches ≡ result (countsOf M)
+  pub accepted-answer : patchAnswer M twins patches exact ≡ result (countsOf M)
   accepted-answer = rw unmet
 
-  accepted-list : patchList M twins patches ≡ patchesAfter M patches
+  accepted-list : patchList M twins patches exact ≡ patchesAfter M patches
   accepted-list = rw unmet
 
-  patches-long : 48 * M .faces ≤ length patches
-  patches-long = ltb-false (length patches) (48 * M .faces) (or-false (ltb (length twins) (corners M)) _ long .1)
+  accepted-marks : exactList M twins patches exact ≡ exactAfter M exact
+  accepted-marks = rw unmet
 
-  -- a sample on that list
-  sample-on : (n : ℕ) (q : SamplePlace) → sampleAt (patchList M twins patches) n q ≡ sampleAt (patchesAfter M patches) n q
+  written-long : (patchesShort M patches ≡ false) × (exactShort M exact ≡ false)
+  written-long = or-false (patchesShort M patches) (exactShort M exact) (or-false (ltb (length twins) (corners M)) _ long .1)
+
+  patches-long : 48 * M .faces ≤ length patches
+  patches-long = ltb-false (length patches) (48 * M .faces) (written-long .0)
+
+  marks-long : 16 * M .faces ≤ length exact
+  marks-long = ltb-false (length exact) (16 * M .faces) (written-long .1)
+
+  -- samples on those lists
+  sample-on : (n : ℕ) (q : SamplePlace) → sampleAt (patchList M twins patches exact) n q ≡ sampleAt (patchesAfter M patches) n q
   sample-on n q = ap (λ (t : List ℤ). sampleAt t n q) accepted-list
 
+  marked-on : (n : ℕ) (q : SamplePlace)
+      → markedAt (patchList M twins patches exact) (exactList M twins patches exact) n q ≡ markedAt (patchesAfter M patches) (exactAfter M exact) n q
+  marked-on n q = ap₂ (λ (t : List ℤ) (u : List ℕ). markedAt t u n q) accepted-list accepted-marks
+
   -- the same, by the control points
-  pub sample-from : (n : ℕ) (q : SamplePlace) → OnMesh M n q → sampleAt (patchList M twins patches) n q ≡ answerFrom M n (q .face) (place (q .a) (q .b))
+  pub sample-from : (n : ℕ) (q : SamplePlace) → OnMesh M n q
+      → sampleAt (patchList M twins patches exact) n q ≡ answerFrom M n (q .face) (place (q .a) (q .b))
   sample-from n q on = sample-on n q ∙ sampled-from a patches patches-long n (q .face) (place (q .a) (q .b)) (on .0) (on .1)
 
-module _ {M M′ : IndexedMesh} {d d′ b b′ : List ℕ} {e e′ p p′ : List ℤ} {n : ℕ} {q q′ : SamplePlace} (o : SamplePlace) (w : Witness)
-    (first : Evaluated M d e n q (w .first) b p) (second : Evaluated M′ d′ e′ n q′ (w .second) b′ p′)
-    (other-is : sampled (w .other) ≡ sampleAt (patchList M d e) n o) where
-  module _ (a : WellFormed M) (long : listsShort M d e ≡ false) where
+  pub marked-by : (n : ℕ) (q : SamplePlace) → OnMesh M n q
+      → markedAt (patchList M twins patches exact) (exactList M twins patches exact) n q ≡ markedAnswerFrom M n (q .face) (place (q .a) (q .b))
+  marked-by n q on =
+      marked-on n q ∙ marked-from a patches exact patches-long marks-long n (q .face) (place (q .a) (q .b)) (on .0) (on .1)
+
+module _ {M M′ : IndexedMesh} {d d′ x x′ b b′ y y′ : List ℕ} {e e′ p p′ : List ℤ} {n : ℕ} {q q′ : SamplePlace} (o : SamplePlace) (w : Witness)
+    (first : Evaluated M d e x n q (w .first) b p y) (second : Evaluated M′ d′ e′ x′ n q′ (w .second) b′ p′ y′)
+    (other-is : sampled (w .other) ≡ sampleAt (patchList M d e x) n o) where
+  module _ (a : WellFormed M) (long : listsShort M d e x ≡ false) where
     abbrev after : List ℤ
     after = patchesAfter M e
+
+    abbrev marks : List ℕ
+    marks = exactAfter M x
 
     -- the coordinates of the first sample, by the definitions
     abbrev expected : ℕ → ℤ
     expected = coordinateAt after (q .face) n (q .a) (q .b)
 
     here : sampled (w .first .sample) ≡ sampleAt after n q
-    here = first .sample-is ∙ sample-on d e a long n q
+    here = first .sample-is ∙ sample-on d e x a long n q
 
     gave : OnMesh M n q → sampled (w .first .sample) ≡ result (pointOf expected)
-    gave on = here ∙ answered a e (q .face) n (q .a) (q .b) (patches-long d e a long) (on .0) (on .1)
+    gave on = here ∙ answered a e (q .face) n (q .a) (q .b) (patches-long d e x a long) (on .0) (on .1)
 
-    claim : Claim M M′ d′ e′ n q o q′ w
+    gave-number : OnMesh M n q → (k : ℕ) → k < 3 → number (w .first .sample) k ≡ expected k
+    gave-number on k h = ap (λ (t : Answer Point). coordinateOf t k) (gave on) ∙ coordinate-of expected k h
+
+    here-marked : marked (w .first .marked) ≡ markedAt after marks n q
+    here-marked = first .marked-is ∙ marked-on d e x a long n q
+
+    gave-marked : OnMesh M n q
+        → marked (w .first .marked) ≡ result (record { point = pointOf expected; exact = sampleExact after marks (q .face) n (q .a) (q .b) })
+    gave-marked on =
+        here-marked
+        ∙ marked-answered a e x (q .face) n (q .a) (q .b) (patches-long d e x a long) (marks-long d e x a long) (on .0) (on .1)
+
+    claim : Claim M M′ d′ e′ x′ n q o q′ w
     claim = record {
-      taken = first .patched .answer-is ∙ accepted-answer d e a long;
+      taken = first .patched .answer-is ∙ accepted-answer d e x a long;
       answered = λ on. rw (gave on);
-      distance = λ k L x on h common.
-          let is : number (w .first .sample) k ≡ expected k = ap (λ (t : Answer Point). coordinateOf t k) (gave on) ∙ coordinate-of expected k h in
-          rw is (distance-on a e (patches-long d e a long) n q k L x on h common);
+      distance = λ k L y on h common. rw (gave-number on k h) (distance-on a e (patches-long d e x a long) n q k L y on h common);
+      marked-answered = λ on. rw (gave on, gave-marked on);
+      exactness = λ k L y on h common set.
+          rw (gave-number on k h) (exact-on M e x n q (on .0) (sym (ap isExact (gave-marked on)) ∙ set) k L y h common);
       seam = λ c t h inner on at-q at-o.
-          here ∙ ap (sampleAt after n) at-q ∙ seam-on a e (patches-long d e a long) n c t h inner on
-          ∙ sym (other-is ∙ sample-on d e a long n o ∙ ap (sampleAt after n) at-o);
+          here ∙ ap (sampleAt after n) at-q ∙ seam-on a e (patches-long d e x a long) n c t h inner on
+          ∙ sym (other-is ∙ sample-on d e x a long n o ∙ ap (sampleAt after n) at-o);
       counted = λ r long′.
           let k = alike-counts a (alike r) in
-          first .patched .answer-is ∙ accepted-answer d e a long
-          ∙ sym (second .patched .answer-is ∙ accepted-answer d′ e′ (alike-well-formed a (alike r)) long′ ∙ rw (k .0, k .1, r .same-vertices, r .same-faces));
+          first .patched .answer-is ∙ accepted-answer d e x a long
+          ∙ sym (second .patched .answer-is ∙ accepted-answer d′ e′ x′ (alike-well-formed a (alike r)) long′
+          ∙ rw (k .0, k .1, r .same-vertices, r .same-faces));
       renumbered = λ r long′ on at-q′.
           let a′ = alike-well-formed a (alike r) in
-          here ∙ renumbered-on a e (patches-long d e a long) n r e′ (patches-long d′ e′ a′ long′) (q .face) (place (q .a) (q .b)) (on .0) (on .1)
-          ∙ sym (second .sample-is ∙ sample-on d′ e′ a′ long′ n q′ ∙ ap (sampleAt (patchesAfter M′ e′) n) at-q′);
+          here ∙ renumbered-on a e (patches-long d e x a long) n r e′ (patches-long d′ e′ x′ a′ long′) (q .face) (place (q .a) (q .b)) (on .0) (on .1)
+          ∙ sym (second .sample-is ∙ sample-on d′ e′ x′ a′ long′ n q′ ∙ ap (sampleAt (patchesAfter M′ e′) n) at-q′);
+      marks-renumbered = λ r long′ on at-q′.
+          let a′ = alike-well-formed a (alike r) in
+          here-marked
+          ∙ marks-renumbered-on a e (patches-long d e x a long) n x (marks-long d e x a long) r e′ x′
+          (patches-long d′ e′ x′ a′ long′) (marks-long d′ e′ x′ a′ long′) (q .face) (place (q .a) (q .b)) (on .0) (on .1)
+          ∙ sym (second .marked-is ∙ marked-on d′ e′ x′ a′ long′ n q′ ∙ ap (markedAt (patchesAfter M′ e′) (exactAfter M′ x′) n) at-q′);
     }
 
 -- what `witness` gave: the calls for both meshes, and one more sample of the list that the first patch call left
-pub witnessed : {M M′ : IndexedMesh} {d d′ b b′ : List ℕ} {e e′ p p′ : List ℤ} {n : ℕ} {q o q′ : SamplePlace} {w : Witness}
-    → Evaluated M d e n q (w .first) b p → sampled (w .other) ≡ sampleAt p n o → Evaluated M′ d′ e′ n q′ (w .second) b′ p′
-    → Witnessed M d e M′ d′ e′ n q o q′ w b p b′ p′
+pub witnessed : {M M′ : IndexedMesh} {d d′ x x′ b b′ y y′ : List ℕ} {e e′ p p′ : List ℤ} {n : ℕ} {q o q′ : SamplePlace} {w : Witness}
+    → Evaluated M d e x n q (w .first) b p y → sampled (w .other) ≡ sampleAt p n o → Evaluated M′ d′ e′ x′ n q′ (w .second) b′ p′ y′
+    → Witnessed M d e x M′ d′ e′ x′ n q o q′ w b p y b′ p′ y′
 witnessed {M} {n = n} {o = o} {w = w} first other second =
     let other-is = other ∙ ap (λ (t : List ℤ). sampleAt t n o) (first .patched .patches-are) in
     record { first = first; other-is = other-is; second = second; claim = λ a long. claim o w first second other-is (accepted-well-formed a) long }

@@ -1,4 +1,4 @@
--- Distance, seam and renumbering: one claim about the numbers that the patch call and the sample call handed back (rule C11).
+-- Distance, marks, seam and renumbering: one claim about the numbers that the patch call and the two sample calls handed back (rules C11 and C12).
 -- What it asks for is what the calls themselves ask for: no cause of refusal is met.
 --
 --   OnMesh M n q          q is a place of a face of M: the face is below F, and cause 14 is not met (rules C2 and S1)
@@ -7,11 +7,12 @@
 --   exactSum M k n q x    coordinate k of the exact surface at place q, times N^6 and the L of these multiples
 --   coordinateOf answer k, number s k   coordinate k of a sample; 0 for a refusal
 --   pointOf g             the point with the coordinates g 0, g 1 and g 2
+--   isExact answer, mark s   whether a marked sample is exact; a refusal is not
 --   placeOn n c t         place t of half-edge c, as the sample call is given it
 --   placeMatching r n q   the place of the renumbered mesh that matches q
 --   Claim ..              what the answers w for the places q and o of M, and q' of M', show of each other
 use mathlib.Core.Path.{_≡_}
-use mathlib.Core.Bool.{false}
+use mathlib.Core.Bool.{Bool, true, false}
 use mathlib.Core.List.{List}
 use Prim.Native.Nat.{ℕ, zero, suc, _-_, _*_, _/_, _%_, _^_, _≤_, _<_}
 use lib.IntN.{ℤ, pos, natAbs, _-ℤ_, _*ℤ_}
@@ -22,7 +23,10 @@ use Rattle.mesh.specs.Answer.{checked, countsOf}
 use Rattle.sample.specs.Bernstein.{numerator}
 use Rattle.sample.specs.Refusal.{placeOff}
 use Rattle.sample.specs.Answer.{sampled}
+use Rattle.sample.specs.Marked.{marked}
 use Rattle.sample.specs.declared.model.Point.{Point}
+use Rattle.sample.specs.declared.model.MarkedPoint.{MarkedPoint}
+use Rattle.sample.specs.declared.model.Marked.{Marked}
 use Rattle.sample.specs.declared.model.Sampled.{Sampled}
 use Rattle.mask.specs.Mask.{Fraction}
 use Rattle.patch.specs.Patch.{patchPoint, view}
@@ -55,6 +59,13 @@ number s k = coordinateOf (sampled s) k
 abbrev pub pointOf : (ℕ → ℤ) → Point
 pointOf g = record { x = g 0; y = g 1; z = g 2 }
 
+abbrev pub isExact : Answer MarkedPoint → Bool
+isExact (result p) = p .exact
+isExact (refusal k) = false
+
+abbrev pub mark : Marked → Bool
+mark s = isExact (marked s)
+
 -- a place (a, b) of face f, as the sample call is given it
 abbrev pub placeOf : ℕ → Place → SamplePlace
 placeOf f p = record { face = f; a = p .a; b = p .b }
@@ -65,7 +76,7 @@ placeOn n c t = placeOf (c / 4) (onSide n (c % 4) t)
 abbrev pub placeMatching : {M M' : IndexedMesh} → Renumbering M M' → ℕ → SamplePlace → SamplePlace
 placeMatching r n q = placeOf (r .faces .to (q .face)) (matching n (r .start (q .face)) (place (q .a) (q .b)))
 
-pub record Claim (M M' : IndexedMesh) (d' : List ℕ) (e' : List ℤ) (n : ℕ) (q o q' : SamplePlace) (w : Witness) : Type 0 where
+pub record Claim (M M' : IndexedMesh) (d' : List ℕ) (e' : List ℤ) (x' : List ℕ) (n : ℕ) (q o q' : SamplePlace) (w : Witness) : Type 0 where
   -- the patch call, given lists with room enough, accepts the mesh and gives its counts (rule C3),
   pub taken : checked (w .first .mesh) ≡ result (countsOf M)
   -- and the sample call then refuses no place of it (rule C3)
@@ -73,14 +84,25 @@ pub record Claim (M M' : IndexedMesh) (d' : List ℕ) (e' : List ℤ) (n : ℕ) 
   -- each sample within one unit of the exact surface, in each coordinate: |sample - exact| ≤ 1, both sides times N^6 and L (rule C5)
   pub distance : (k L : ℕ) (x : ℕ → ℕ) → OnMesh M n q → k < 3 → Multiples M k (q .face) L x
       → natAbs (number (w .first .sample) k *ℤ pos (n ^ 6 * L) -ℤ exactSum M k n q x) ≤ n ^ 6 * L
+  -- the marked sample call refuses no place either: it gives the same point, and a mark (rule C12);
+  pub marked-answered : OnMesh M n q
+      → marked (w .first .marked) ≡ result (record { point = pointOf (number (w .first .sample)); exact = mark (w .first .marked) })
+  -- a marked sample is the exact surface's own: sample = exact, both sides times N^6 and L (rule C12)
+  pub exactness : (k L : ℕ) (x : ℕ → ℕ) → OnMesh M n q → k < 3 → Multiples M k (q .face) L x
+      → mark (w .first .marked) ≡ true
+      → number (w .first .sample) k *ℤ pos (n ^ 6 * L) ≡ exactSum M k n q x
   -- place t of a half-edge that has a twin and place N - t of the twin have the same sample, number for number (rule C7)
   pub seam : (c t : ℕ) → c < corners M → boundary (at M) (corners M) c ≡ false → placeOff n t 0 ≡ false
       → q ≡ placeOn n c t
       → o ≡ placeOn n (twin (at M) (corners M) c) (n - t)
       → sampled (w .first .sample) ≡ sampled (w .other)
   -- a renumbering M' is accepted as well, with the same four counts (rule C10),
-  pub counted : Renumbering M M' → listsShort M' d' e' ≡ false → checked (w .first .mesh) ≡ checked (w .second .mesh)
+  pub counted : Renumbering M M' → listsShort M' d' e' x' ≡ false → checked (w .first .mesh) ≡ checked (w .second .mesh)
   -- and has the same samples at matching places (rule C10)
-  pub renumbered : (r : Renumbering M M') → listsShort M' d' e' ≡ false → OnMesh M n q
+  pub renumbered : (r : Renumbering M M') → listsShort M' d' e' x' ≡ false → OnMesh M n q
       → q' ≡ placeMatching r n q
       → sampled (w .first .sample) ≡ sampled (w .second .sample)
+  -- with the same marks (rule C12)
+  pub marks-renumbered : (r : Renumbering M M') → listsShort M' d' e' x' ≡ false → OnMesh M n q
+      → q' ≡ placeMatching r n q
+      → marked (w .first .marked) ≡ marked (w .second .marked)

@@ -1,4 +1,4 @@
-//! The claim about the numbers that the calls give: distance from the exact surface, seams, and independence from the numbering.
+//! The claim about the numbers that the calls give: distance from the exact surface, marks, seams, and independence from the numbering.
 pub mod model;
 
 use crate::model::Evaluation;
@@ -7,9 +7,9 @@ use crate::model::Witness;
 ghost use Rattle.mesh.specs.IndexedMesh.{indexed};
 ghost use Rattle.surface.specs.Witness.{Evaluated, Witnessed};
 
-// The patches of a mesh, and one sample of them.
-// Returns: the answer of the patch call, and that of the sample call on the patch list that it left.
-// Writes, leaves alone, refuses: as `patch::patches` and `sample::sample`.
+// The patches of a mesh with their marks, and one sample of them, also marked.
+// Returns: the answer of the patch call, and those of the sample call and of the marked one on the lists that it left.
+// Writes, leaves alone, refuses: as `patch::patches`, `sample::sample` and `sample::marked_sample`.
 pub fn evaluate(
     v: usize,
     f: usize,
@@ -18,22 +18,28 @@ pub fn evaluate(
     faces: &[u16],
     twins: &mut [u16],
     patches: &mut [i32],
+    exact: &mut [u8],
     n: usize,
     place: SamplePlace,
 ) -> Evaluation
     ensures { λ r. ⌜ Evaluated
-        (indexed v f (now (positions .entry)) (now (tags .entry)) (now (faces .entry))) (now (twins .entry)) (now (patches .entry))
-        n place r (now (twins .exit)) (now (patches .exit)) ⌝ }
+        (indexed v f (now (positions .entry)) (now (tags .entry)) (now (faces .entry)))
+        (now (twins .entry)) (now (patches .entry)) (now (exact .entry)) n place r (now (twins .exit)) (now (patches .exit)) (now (exact .exit)) ⌝ }
 {
-    let mesh = patch::patches(v, f, positions, tags, faces, twins, patches);
+    let mesh = patch::patches(v, f, positions, tags, faces, twins, patches, exact);
     let sample = sample::sample(patches, place.face, n, place.a, place.b);
-    Evaluation { mesh, sample }
+    let marked = sample::marked_sample(patches, exact, place.face, n, place.a, place.b);
+    Evaluation {
+        mesh,
+        sample,
+        marked,
+    }
 }
 
 // The calls for two meshes, each with its lent lists, and what they show of each other: the claim is about the numbers handed back.
 // Returns: for each mesh the answer of the patch call, and those of the sample call on the patch list that it left: for the first mesh at
-// `place` and at `other`, for the second at `place2`.
-// Writes, leaves alone, refuses: as `patch::patches` and `sample::sample`.
+// `place` and at `other`, for the second at `place2`; at `place` and `place2` also those of the marked sample call.
+// Writes, leaves alone, refuses: as `patch::patches`, `sample::sample` and `sample::marked_sample`.
 pub fn witness(
     v: usize,
     f: usize,
@@ -42,6 +48,7 @@ pub fn witness(
     faces: &[u16],
     twins: &mut [u16],
     patches: &mut [i32],
+    exact: &mut [u8],
     v2: usize,
     f2: usize,
     positions2: &[i32],
@@ -49,17 +56,32 @@ pub fn witness(
     faces2: &[u16],
     twins2: &mut [u16],
     patches2: &mut [i32],
+    exact2: &mut [u8],
     n: usize,
     place: SamplePlace,
     other: SamplePlace,
     place2: SamplePlace,
 ) -> Witness
     ensures { λ r. ⌜ Witnessed
-        (indexed v f (now (positions .entry)) (now (tags .entry)) (now (faces .entry))) (now (twins .entry)) (now (patches .entry))
-        (indexed v2 f2 (now (positions2 .entry)) (now (tags2 .entry)) (now (faces2 .entry))) (now (twins2 .entry)) (now (patches2 .entry))
-        n place other place2 r (now (twins .exit)) (now (patches .exit)) (now (twins2 .exit)) (now (patches2 .exit)) ⌝ }
+        (indexed v f (now (positions .entry)) (now (tags .entry)) (now (faces .entry)))
+        (now (twins .entry)) (now (patches .entry)) (now (exact .entry))
+        (indexed v2 f2 (now (positions2 .entry)) (now (tags2 .entry)) (now (faces2 .entry)))
+        (now (twins2 .entry)) (now (patches2 .entry)) (now (exact2 .entry))
+        n place other place2 r (now (twins .exit)) (now (patches .exit)) (now (exact .exit))
+        (now (twins2 .exit)) (now (patches2 .exit)) (now (exact2 .exit)) ⌝ }
 {
-    let first = evaluate(v, f, positions, tags, faces, twins, patches, n, place);
+    let first = evaluate(
+        v,
+        f,
+        positions,
+        tags,
+        faces,
+        twins,
+        patches,
+        exact,
+        n,
+        place,
+    );
     let other = sample::sample(patches, other.face, n, other.a, other.b);
     Witness {
         first,
@@ -72,6 +94,7 @@ pub fn witness(
             faces2,
             twins2,
             patches2,
+            exact2,
             n,
             place2,
         ),

@@ -1,5 +1,6 @@
 // What the witness is asked for and what it hands back.
 use limits::model::Checked;
+use sample::model::Marked;
 use sample::model::Sampled;
 
 // A place of a face, as the sample call is given it.
@@ -9,10 +10,11 @@ pub struct SamplePlace {
     pub b: usize,
 }
 
-// What the calls gave for one mesh: the answer of the patch call, and of the sample call on the patch list that it left.
+// What the calls gave for one mesh: the answer of the patch call, and of the sample call and the marked one on the lists that it left.
 pub struct Evaluation {
     pub mesh: Checked,
     pub sample: Sampled,
+    pub marked: Marked,
 }
 
 // What the calls gave for two meshes, with one more sample on the first one's patch list.

@@ -32,7 +32,7 @@ fn in_units(q: Fraction) -> i64
     requires { ⌜ Within (fractionOf q) ⌝ }
     ensures { λ r. ⌜ r ≡ units (fractionOf q) ⌝ }
 {
-    integer::round(256 * q.num, q.den)
+    integer::round(256 * q.num, q.den).value
 }
 
 // The inner point at corner c, of a vertex of n faces, coordinate k.

@@ -122,5 +122,5 @@ pub(crate) fn corner_vector(
     ensures { λ r. ⌜ r ≡ cornerVector (seen (now (positions .entry)) (now (faces .entry)) k) c ⌝ }
 {
     let sum = ring_sum(positions, faces, twins, edge, face, n, k, c);
-    integer::round(256 * sum, 1048576)
+    integer::round(256 * sum, 1048576).value
 }

@@ -48,7 +48,7 @@ fn corrected(term: i64, x: i64) -> i64
     requires { ⌜ (natAbs term ≤ 2 ^ 60) × (natAbs x ≤ 2 ^ 38) ⌝ }
     ensures { λ r. ⌜ (r ≡ correctedBy term x) × (natAbs r ≤ 2 ^ 61) ⌝ }
 {
-    integer::round(term + 3145728 * x, 3145728)
+    integer::round(term + 3145728 * x, 3145728).value
 }
 
 // The vector into the face near an end of a side: the cosines there and at the other end, the corner vector there, the edge points near that end

@@ -1,9 +1,10 @@
 // Runs the calls on each trial that an argument names (a file, see reading.rt), and prints one line for it, which begins with the
 // name; a patch trial, a mirror trial, a line trial, a weight trial and a tangent trial have more lines. mesh_trial.rt, patch_trial.rt,
-// mirror_trial.rt, sample_trial.rt, line_trial.rt, weight_trial.rt and tangent_trial.rt say what follows the name. `no file` says that
-// none has that name, `not whole` that the file is longer or shorter than its sizes and lists, and `too long` that a list has more places
-// than reading.rt has for it.
+// mirror_trial.rt, sample_trial.rt, marked_trial.rt, line_trial.rt, weight_trial.rt and tangent_trial.rt say what follows the name. `no
+// file` says that none has that name, `not whole` that the file is longer or shorter than its sizes and lists, and `too long` that a list
+// has more places than reading.rt has for it.
 mod line_trial;
+mod marked_trial;
 mod mesh_trial;
 mod mirror_trial;
 mod patch_trial;
@@ -27,6 +28,9 @@ const LINE: usize = 65529;
 // What that of a weight trial has there.
 const WEIGHTS: usize = 65527;
 
+// What that of a marked sample trial has there.
+const MARKED: usize = 65523;
+
 // The trial in a file's bytes.
 fn run(b: &[u8]) {
     let mark = u16_at(b, 0);
@@ -36,6 +40,8 @@ fn run(b: &[u8]) {
         line_trial::run(b);
     } else if mark == WEIGHTS {
         weight_trial::run(b);
+    } else if mark == MARKED {
+        marked_trial::run(b);
     } else {
         let at = head_length(b);
         mesh_trial::run(&b[0..at], &b[at..]);

@@ -8,13 +8,12 @@
 // answer of the mesh check on the image, and a line `image` that goes on as that of a patch trial of it (patch_trial.rt). Every place of
 // the lent lists holds 7 before the call.
 use crate::patch_trial;
+use crate::patch_trial::print_bytes;
 use crate::printing::print_checked;
 use crate::printing::print_every;
-use crate::printing::print_number;
 use crate::printing::print_outcome;
 use crate::printing::print_text;
 use crate::reading::PLACES;
-use crate::reading::byte_at;
 use crate::reading::room;
 use crate::reading::u16_at;
 use crate::sums::print_list;
@@ -37,13 +36,6 @@ pub(crate) fn has_room(head: &[u8]) -> bool {
         & (u16_at(head, 4) <= PLACES)
         & (u16_at(head, 6) <= PLACES)
         & patch_trial::has_room(patch_head(head))
-}
-
-// The bytes at every place of a list.
-fn print_bytes(list: &[u8]) {
-    for i in 0..list.len() {
-        print_number(byte_at(list, i));
-    }
 }
 
 // The three lent lists after the call.

@@ -2,6 +2,8 @@
 use finite::model::Outcome;
 use libc::STDOUT_FILENO;
 use limits::model::Checked;
+use sample::model::Marked;
+use sample::model::Point;
 use sample::model::Reading;
 use sample::model::Sampled;
 
@@ -68,6 +70,11 @@ pub(crate) fn print_outcome(answer: Outcome) {
     }
 }
 
+// A mark as a number: 1 for exact.
+pub(crate) fn mark(exact: bool) -> i32 {
+    if exact { 1 } else { 0 }
+}
+
 // The number at a place of a list, or `-` where there is none.
 fn print_at(list: &[u16], at: usize) {
     if at < list.len() {
@@ -115,15 +122,30 @@ pub(crate) fn print_clear(list: &[i32]) {
     }
 }
 
+// The three coordinates of a point.
+fn print_point(p: Point) {
+    print_signed(p.x);
+    print_signed(p.y);
+    print_signed(p.z);
+}
+
 // The answer of the sample call: the three coordinates, or the refusal.
 pub(crate) fn print_sampled(answer: Sampled) {
     match answer {
-        Sampled::At(p) => {
-            print_signed(p.x);
-            print_signed(p.y);
-            print_signed(p.z);
-        }
+        Sampled::At(p) => print_point(p),
         Sampled::Refused(n) => print_refusal(n),
+    }
+}
+
+// The answer of the marked sample: the three coordinates and the mark, or the refusal.
+pub(crate) fn print_marked(answer: Marked) {
+    match answer {
+        Marked::At(m) => {
+            print_point(m.point);
+            print_text(b" mark");
+            print_signed(mark(m.exact));
+        }
+        Marked::Refused(n) => print_refusal(n),
     }
 }
 

@@ -3,18 +3,21 @@
 // Of the mesh check: six sizes, V, F and the lengths of the lists of positions, tags, faces and twins, as 16-bit numbers; then the
 // positions as 32-bit two's complement numbers, the tags as bytes and the faces as 16-bit numbers.
 //
-// Of the patch call: 65533, the length of the list of patches, and N, as 16-bit numbers, which are the file's head; then a file of the
-// mesh check.
+// Of the patch call: 65533, the lengths of the lists of patches and of marks, and N, as 16-bit numbers, which are the file's head; then a
+// file of the mesh check.
 //
 // Of the mirror call: 65531 and the lengths of the lent lists of positions, tags and faces, as 16-bit numbers; then a file of the patch
-// call, whose mesh is mirrored. The eight bytes and the head of that file are this file's head; the twins, the patches and N are those
-// of the image.
+// call, whose mesh is mirrored. The eight bytes and the head of that file are this file's head; the twins, the patches, the marks and N
+// are those of the image.
 //
 // Of the tangent call: 65525 as a 16-bit number, g as a 64-bit number and the length of the lent list as a 16-bit number, which are the
 // file's head; then a file of the mesh check, whose twins are not used.
 //
 // Of the sample call: 65535 as a 16-bit number, which is V in no trial of the mesh check; then f, N, a and b as 64-bit numbers; then
 // the control values as 32-bit two's complement numbers, to the end of the file.
+//
+// Of the marked sample: 65523 as a 16-bit number; f, N, a and b as 64-bit numbers; how many marks there are as a 16-bit number; the marks as
+// bytes; then the control values as in a file of the sample call.
 //
 // Of the line call: 65529 as a 16-bit number; f, N and b as 64-bit numbers; the length of the lent list as a 16-bit number; then the
 // control values as in a file of the sample call.
@@ -35,7 +38,8 @@ const MIRROR: usize = 65531;
 // What that of a tangent trial has there.
 const TANGENT: usize = 65525;
 
-// The places of each list that is read or lent, but for the tags of the mesh, which stay in the file, and the patches.
+// The places of each list that is read or lent, but for the tags of the mesh and the marks of a marked sample, which stay in the file, and
+// the lent patches and marks.
 pub(crate) const PLACES: usize = 2048;
 
 // Whether the head of a file is that of a mirror trial.
@@ -48,16 +52,16 @@ pub(crate) fn is_tangent(head: &[u8]) -> bool {
     u16_at(head, 0) == TANGENT
 }
 
-// The length of the head of a file that is whole: 14 bytes of a mirror trial, 12 of a tangent trial, 6 of a patch trial and none of a
+// The length of the head of a file that is whole: 16 bytes of a mirror trial, 12 of a tangent trial, 8 of a patch trial and none of a
 // mesh trial.
 fn whole_head_length(b: &[u8]) -> usize {
     if is_mirror(b) {
-        return 14;
+        return 16;
     }
     if is_tangent(b) {
         return 12;
     }
-    if u16_at(b, 0) == PATCH { 6 } else { 0 }
+    if u16_at(b, 0) == PATCH { 8 } else { 0 }
 }
 
 // The length of a file's head, as far as there are bytes.

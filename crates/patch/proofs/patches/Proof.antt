@@ -1,5 +1,5 @@
--- `patches` meets its contract: the check is told of a patch list that is too short, so its refusals are those of the call; where it gives
--- counts, the mesh is well-formed, its twins are listed, and the patches are written.
+-- `patches` meets its contract: the check is told of a patch list or a list of marks that is too short, so its refusals are those of the call; where
+-- it gives counts, the mesh is well-formed, its twins are listed, and the patches and their marks are written.
 use mathlib.Core.Path.{_≡_, sym, ap, _∙_}
 use mathlib.Core.List.{List, []}
 use mathlib.Core.Option.{Option}
@@ -10,11 +10,11 @@ use Rattle.finite.proofs.TableLaws.{refusal-met}
 use Rattle.mesh.specs.IndexedMesh.{IndexedMesh, indexed}
 use Rattle.mesh.specs.Answer.{countsOf, checked, meshRefusal}
 use Rattle.patch.specs.Answer.{patchRows, patchAnswer, patchTwins}
-use Rattle.patch.proofs.AnswerLaws.{same-answer, same-twins, patches-long, result-well-formed, result-list, twins-left}
+use Rattle.patch.proofs.AnswerLaws.{same-answer, same-twins, patches-long, marks-long, result-well-formed, result-list, result-marks, twins-left}
 use Rattle.patch.proofs.patches.Statement.{statement}
 use Rattle.patch.proofs.patches.Tie as tie
 
--- ---- at the entry: the mesh that was passed, and the two lists that were lent
+-- ---- at the entry: the mesh that was passed, and the three lists that were lent
 module _ (s : tie.Start) where
   abbrev mesh : IndexedMesh
   mesh = indexed (s .args .v) (s .args .f) (s .args .positions .now) (s .args .tags .now) (s .args .faces .now)
@@ -25,8 +25,11 @@ module _ (s : tie.Start) where
   abbrev lent : List ℤ
   lent = s .args .patches .now
 
+  abbrev marks : List ℕ
+  marks = s .args .exact .now
+
 -- ---- the check has answered
-module _ (c : tie.After-slice-known2) where
+module _ (c : tie.After-slice-known3) where
   abbrev asked : tie.After-check-after
   asked = c .before .before
 
@@ -34,26 +37,26 @@ module _ (c : tie.After-slice-known2) where
   owned = asked .before .before
 
   abbrev start : tie.Start
-  start = let k : tie.After-slice-known = owned .before in k .before .before .before
+  start = let k : tie.After-slice-known = owned .before .before in k .before .before .before
 
   -- the first cause that the call meets
   abbrev met : Option ℕ
-  met = meshRefusal (mesh start) (patchRows (mesh start) (twins start) (lent start)) []
+  met = meshRefusal (mesh start) (patchRows (mesh start) (twins start) (lent start) (marks start)) []
 
-  answered : checked (asked .check-after .result) ≡ patchAnswer (mesh start) (twins start) (lent start)
-  answered = asked .check-after .ensures .answer-is ∙ same-answer (mesh start) (twins start) (lent start) _ (owned .own-refusal .ensures)
+  answered : checked (asked .check-after .result) ≡ patchAnswer (mesh start) (twins start) (lent start) (marks start)
+  answered = asked .check-after .ensures .answer-is ∙ same-answer (mesh start) (twins start) (lent start) (marks start) _ (owned .own-refusal .ensures)
 
-  left : asked .check-after .last .1 .1 .1 .1 .1 .1 .0 ≡ patchTwins (mesh start) (twins start) (lent start)
-  left = asked .check-after .ensures .twins-are ∙ same-twins (mesh start) (twins start) (lent start) _ (owned .own-refusal .ensures)
+  left : asked .check-after .last .1 .1 .1 .1 .1 .1 .0 ≡ patchTwins (mesh start) (twins start) (lent start) (marks start)
+  left = asked .check-after .ensures .twins-are ∙ same-twins (mesh start) (twins start) (lent start) (marks start) _ (owned .own-refusal .ensures)
 
-abbrev refused : tie.After-enum-told → tie.After-slice-known2
+abbrev refused : tie.After-enum-told → tie.After-slice-known3
 refused c = c .before .before
 
-abbrev accepted : tie.After-known-told → tie.After-slice-known2
+abbrev accepted : tie.After-known-told → tie.After-slice-known3
 accepted c = c .before .before .before
 
-abbrev filled : tie.After-patches → tie.After-fill-patches
-filled c = c .before
+abbrev filled : tie.After-slice-known4 → tie.After-fill-patches
+filled c = c .before .before .before
 
 -- ---- the answers, in the order of the code
 own-refusal-requires : tie.Need-own-refusal-requires
@@ -79,16 +82,21 @@ returns c =
       answer-is = answered k;
       twins-are = left k;
       patches-are = rw (refusal-met (countsOf (mesh s)) (met k) (sym (ap checked (c .enum-told .given .1)) ∙ answered k));
+      exact-are = rw (refusal-met (countsOf (mesh s)) (met k) (sym (ap checked (c .enum-told .given .1)) ∙ answered k));
     }
 
 fill-patches-requires : tie.Need-fill-patches-requires
 fill-patches-requires c κs =
-    let t : tie.After-known-told = c .before .before in
+    let t : tie.After-known-told = c .before .before .before in
     let k = accepted t in
     let s = start k in
     let counted = sym (ap checked (t .before .answer .given .1)) ∙ answered k in (
-      (result-well-formed (mesh s) (twins s) (lent s) counted, patches-long (mesh s) (twins s) (lent s) counted),
-      twins-left (mesh s) (twins s) (lent s) counted _ (left k),
+      (
+        result-well-formed (mesh s) (twins s) (lent s) (marks s) counted,
+        patches-long (mesh s) (twins s) (lent s) (marks s) counted,
+        marks-long (mesh s) (twins s) (lent s) (marks s) counted,
+      ),
+      twins-left (mesh s) (twins s) (lent s) (marks s) counted _ (left k),
     )
 
 same-length-2 : tie.Need-same-length-2
@@ -97,16 +105,20 @@ same-length-2 c = search needs
 same-length-3 : tie.Need-same-length-3
 same-length-3 c = filled c .fill-patches .kept .1 .1 .1 .1 .1 .1 .0
 
+same-length-4 : tie.Need-same-length-4
+same-length-4 c = filled c .fill-patches .kept .1 .1 .1 .1 .1 .1 .1 .0
+
 returns-2 : tie.Need-returns-2
 returns-2 c =
-    let t : tie.After-known-told = filled c .before .before .before in
+    let t : tie.After-known-told = let lent = filled c .before .before in lent .before .before in
     let k = accepted t in
     let s = start k in
     let counted = sym (ap checked (t .before .answer .given .1)) ∙ answered k in
     record {
       answer-is = counted;
       twins-are = left k;
-      patches-are = filled c .fill-patches .ensures ∙ sym (result-list (mesh s) (twins s) (lent s) counted);
+      patches-are = filled c .fill-patches .ensures .0 ∙ sym (result-list (mesh s) (twins s) (lent s) (marks s) counted);
+      exact-are = filled c .fill-patches .ensures .1 ∙ sym (result-marks (mesh s) (twins s) (lent s) (marks s) counted);
     }
 
 pub patches-spec : {M : Type 1} → statement M
@@ -122,4 +134,5 @@ patches-spec =
     fill-patches-requires
     same-length-2
     same-length-3
+    same-length-4
     returns-2)

@@ -4,6 +4,7 @@ use mathlib.Core.Option.{none}
 use native.Mathlib.Omega.{arith}
 use Rattle.finite.specs.Table.{firstMet, refusalOf}
 use Rattle.finite.proofs.TableLaws.{refusal-some}
+use Rattle.sample.specs.declared.model.MarkedPoint.{MarkedPoint}
 use Rattle.sample.specs.Refusal.{sampleRows}
 use Rattle.sample.proofs.BlendLaws.{steps-at}
 use Rattle.sample.proofs.RefusalLaws.{Allowed, allowed, refused, answered}
@@ -55,7 +56,10 @@ point-requires c κs =
     )
 
 returns-2 : tie.Need-returns-2
-returns-2 c = let e : tie.Else1 = c .before .before in answered _ _ _ _ _ (nothing-met e) (holds e .listed) (c .point .ensures)
+returns-2 c =
+    let called : tie.After-point = c .before in
+    let e : tie.Else1 = called .before .before in
+    answered _ _ _ _ _ (nothing-met e) (holds e .listed) (ap (λ (p : MarkedPoint). p .point) (called .point .ensures))
 
 pub sample-spec : {M : Type 1} → statement M
 sample-spec =

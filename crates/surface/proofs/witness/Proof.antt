@@ -25,13 +25,30 @@ same-length-3 c = search needs
 same-length-4 : tie.Need-same-length-4
 same-length-4 c = search needs
 
+same-length-5 : tie.Need-same-length-5
+same-length-5 c = search needs
+
+same-length-6 : tie.Need-same-length-6
+same-length-6 c = search needs
+
+-- the three calls, from the end, from the second evaluation, and from the sample between the two
+abbrev again : tie.After-slice-known8 → tie.After-evaluate2
+again c = let back : tie.After-slice-known7 = c .before .before .before in back .before .before
+
+abbrev between : tie.After-evaluate2 → tie.After-sample
+between c = c .before .before .before .before
+
+abbrev once : tie.After-sample → tie.After-evaluate
+once c =
+    let lent : tie.After-slice-known6 = c .before .before in
+    let back : tie.After-slice-known5 = lent .before .before .before in
+    back .before .before
+
 returns : tie.Need-returns
 returns c =
-    let second = c .before .before .before in
-    let other = second .before .before .before in
-    let lent = other .before .before in
-    let first = lent .before .before .before in
-    witnessed (first .evaluate .ensures) (other .sample .ensures) (second .evaluate2 .ensures)
+    let second = again c in
+    let other = between second in
+    witnessed (once other .evaluate .ensures) (other .sample .ensures) (second .evaluate2 .ensures)
 
 pub witness-spec : {M : Type 1} → statement M
 witness-spec =
@@ -44,4 +61,6 @@ witness-spec =
     same-length-2
     same-length-3
     same-length-4
+    same-length-5
+    same-length-6
     returns)

@@ -40,18 +40,21 @@ module _ (c : tie.After-hypotenuse) where
   divisor-small = omega (arith, divisor-is, divisor-size n (c .before .pre .2) (c .before .pre .3) .1)
 
 -- ---- the quotient
-module _ (c : tie.After-round) where
+module _ (c : tie.After-struct-told) where
+  abbrev divided : tie.After-round
+  divided = c .before .before
+
   abbrev start : tie.Start
-  start = c .before .before
+  start = divided .before .before
 
   abbrev quotient : ℤ
   quotient = nearest (product start) (divisor (start .args .n))
 
-  value : toZ w64 (ofZ w64 (c .round .result)) ≡ quotient
+  value : toZ w64 (ofZ w64 (divided .round .result .value)) ≡ quotient
   value =
-      read-back w64 (c .round .ok)
-      (c .round .ensures
-      ∙ ap₂ nearest (ap (λ (z : ℤ). toZ w64 (ofZ w64 z)) (product-is start) ∙ toZ-ofZ (product-fits start)) (divisor-is (c .before)))
+      read-back w64 (c .struct-told .given .0 .1)
+      (divided .round .ensures .0
+      ∙ ap₂ nearest (ap (λ (z : ℤ). toZ w64 (ofZ w64 z)) (product-is start) ∙ toZ-ofZ (product-fits start)) (divisor-is (divided .before)))
 
   small : SFits w32 quotient
   small =

@@ -3,19 +3,17 @@ use mathlib.Core.Path.{_≡_, sym, ap, _∙_}
 use mathlib.Core.Bool.{false}
 use mathlib.Core.List.{List, []}
 use mathlib.Core.Option.{Option}
-use Prim.Native.Nat.{ℕ, _*_}
+use Prim.Native.Nat.{ℕ}
 use native.Mathlib.Omega.{arith}
 use lib.IntN.{ℤ}
-use lib.ListN.{replicate}
 use borrow.Author.Tests.{lt-ltb, le-ltb}
 use borrow.Author.Needs.{needs}
 use Rattle.finite.proofs.TableLaws.{result-none, refusal-met}
-use Rattle.limits.specs.Limits.{maxFaces}
 use Rattle.mesh.specs.IndexedMesh.{IndexedMesh, indexed}
 use Rattle.mesh.specs.Answer.{countsOf, checked, meshRefusal}
 use Rattle.patch.specs.Answer.{patchesShort, patchRows}
 use Rattle.meshfile.specs.Tessellated.{tessellateRefusal}
-use Rattle.meshfile.proofs.OpenLaws.{patches-short, steps-off, steps-on, refused-mesh}
+use Rattle.meshfile.proofs.OpenLaws.{no-twins, no-marks, patches-short, steps-off, steps-on, refused-mesh}
 use Rattle.meshfile.proofs.tessellate.tessellate.Statement.{statement}
 use Rattle.meshfile.proofs.tessellate.tessellate.Tie as tie
 
@@ -38,20 +36,20 @@ module _ (c : tie.Else1) where
 -- ---- N is in its range: what the patch call meets is what the contract says
 module _ (c : tie.After-patches) where
   abbrev ranged : tie.Else2
-  ranged = c .before .before .before
+  ranged = let t : tie.After-twins = c .before .before .before in t .before
 
   abbrev begin : tie.Start
   begin = start (ranged .before .before)
 
-  -- the refusal that the patch call meets, with the list of twins that the code keeps
+  -- the refusal that the patch call meets, with the lists that the code keeps
   abbrev met : Option ℕ
-  met = meshRefusal (mesh begin) (patchRows (mesh begin) (replicate (4 * maxFaces) 0) (lent begin)) []
+  met = meshRefusal (mesh begin) (patchRows (mesh begin) no-twins (lent begin) no-marks) []
 
   same : tessellateRefusal (mesh begin) (begin .args .n) (lent begin) ≡ met
   same = steps-on (mesh begin) (begin .args .n) (lent begin) (begin .pre .faces-high) (sym (ranged .before .off-range .ensures) ∙ ranged .if2 .left)
 
-abbrev called : tie.After-patches2 → tie.After-patches
-called c = c .before .before
+abbrev called : tie.After-exact2 → tie.After-patches
+called c = let patched : tie.After-patches2 = c .before in patched .before .before
 
 mul-if1 : tie.Need-mul-if1
 mul-if1 c = omega (arith, c .before .before .pre .faces-high)
@@ -77,6 +75,9 @@ returns-2 c =
 
 slice-aggregate-patches : tie.Need-slice-aggregate-patches
 slice-aggregate-patches c = search needs
+
+slice-aggregate-patches-2 : tie.Need-slice-aggregate-patches-2
+slice-aggregate-patches-2 c = search needs
 
 patches-requires : tie.Need-patches-requires
 patches-requires c κs = tt
@@ -119,6 +120,7 @@ tessellate-spec =
     steps-refusal-requires
     returns-2
     slice-aggregate-patches
+    slice-aggregate-patches-2
     patches-requires
     enum-known-mesh
     enum-known-k

@@ -1,9 +1,10 @@
 -- `before_points` meets its contract: each coordinate of the edge point has its own call, and all are rounded alike.
-use mathlib.Core.Path.{ap, _∙_}
+use mathlib.Core.Path.{_∙_}
 use native.Mathlib.Omega.{arith}
 use borrow.Author.Needs.{needs}
-use Rattle.patch.specs.Patch.{units}
-use Rattle.patch.proofs.FacePointLaws.{list-of-three}
+use Rattle.patch.specs.Point.{beforePoint}
+use Rattle.patch.specs.Lists.{seen}
+use Rattle.patch.proofs.FacePointLaws.{point-of-three}
 use Rattle.patch.proofs.face_point.before_points.Statement.{statement}
 use Rattle.patch.proofs.face_point.before_points.Tie as tie
 
@@ -31,8 +32,10 @@ returns c =
     let z = c .before in
     let y = z .before in
     let x = y .before in
+    let s = start₁ x in
     c .point-in-units .ensures
-    ∙ list-of-three _ (ap units (x .before-point .ensures .is)) (ap units (y .before-point2 .ensures .is)) (ap units (z .before-point3 .ensures .is))
+    ∙ point-of-three (λ k. beforePoint (seen (s .args .positions .now) (s .args .faces .now) k) (s .args .c))
+    (x .before-point .ensures .is) (y .before-point2 .ensures .is) (z .before-point3 .ensures .is)
 
 pub before-points-spec : {M : Type 1} → statement M
 before-points-spec =

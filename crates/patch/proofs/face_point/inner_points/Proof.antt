@@ -1,9 +1,10 @@
 -- `inner_points` meets its contract: each coordinate of the inner point has its own call, and all are rounded alike.
-use mathlib.Core.Path.{ap, _∙_}
+use mathlib.Core.Path.{_∙_}
 use native.Mathlib.Omega.{arith}
 use borrow.Author.Needs.{needs}
-use Rattle.patch.specs.Patch.{units}
-use Rattle.patch.proofs.FacePointLaws.{list-of-three}
+use Rattle.patch.specs.Point.{innerPoint}
+use Rattle.patch.specs.Lists.{seen}
+use Rattle.patch.proofs.FacePointLaws.{point-of-three}
 use Rattle.patch.proofs.face_point.inner_points.Statement.{statement}
 use Rattle.patch.proofs.face_point.inner_points.Tie as tie
 
@@ -31,8 +32,10 @@ returns c =
     let z = c .before in
     let y = z .before in
     let x = y .before in
+    let s = start₁ x in
     c .point-in-units .ensures
-    ∙ list-of-three _ (ap units (x .inner-point .ensures .is)) (ap units (y .inner-point2 .ensures .is)) (ap units (z .inner-point3 .ensures .is))
+    ∙ point-of-three (λ k. innerPoint (seen (s .args .positions .now) (s .args .faces .now) k) (s .args .c))
+    (x .inner-point .ensures .is) (y .inner-point2 .ensures .is) (z .inner-point3 .ensures .is)
 
 pub inner-points-spec : {M : Type 1} → statement M
 inner-points-spec =

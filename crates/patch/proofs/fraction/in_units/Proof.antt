@@ -2,17 +2,19 @@
 use mathlib.Core.Path.{_≡_, ap, _∙_}
 use native.Mathlib.Omega.{arith}
 use Prim.Native.Nat.{_*_}
-use lib.IntN.{ℤ, pos, _*ℤ_}
+use lib.Dec.{eqb}
+use lib.IntN.{ℤ, pos, natAbs, _*ℤ_}
 use mir.Syntax.{w32, w64}
 use mir.Val.{SFits, toZ, ofZ}
 use mir.Facts.{toZ-ofZ}
 use borrow.Author.Needs.{needs}
-use Rattle.integer.specs.Nearest.{nearest}
-use Rattle.integer.proofs.Laws.{abs-*, sfits-abs}
+use Rattle.integer.specs.Nearest.{nearest, remainder}
+use Rattle.integer.proofs.Laws.{abs-*, sfits-abs, read-back, zero-bits}
 use Rattle.integer.proofs.NearestLaws.{nearest-bounded}
 use Rattle.limits.specs.Limits.{maxCoordinate}
-use Rattle.patch.specs.Patch.{units}
+use Rattle.patch.specs.Patch.{units, exactly}
 use Rattle.mask.specs.FractionOf.{fractionOf}
+use Rattle.patch.proofs.FacePointLaws.{same-value}
 use Rattle.patch.proofs.fraction.in_units.Statement.{statement}
 use Rattle.patch.proofs.fraction.in_units.Tie as tie
 
@@ -41,24 +43,32 @@ mul-round c = let s = c .before .before in rw (product s) (product-fits s)
 round-requires : tie.Need-round-requires
 round-requires c κs = search needs
 
--- what was rounded, read back from its bits
-module _ (c : tie.After-round) where
+-- what was rounded and what was left, read back from their bits
+module _ (c : tie.After-struct-told2) where
+  abbrev called : tie.After-round
+  called = c .before .before
+
   abbrev start : tie.Start
-  start = c .before .before .before
+  start = called .before .before .before
 
-  rounds : c .round .result ≡ units (fractionOf (start .args .q))
-  rounds =
-      c .round .ensures
-      ∙ ap (λ (z : ℤ). nearest z (start .args .q .den)) (ap (λ (z : ℤ). toZ w64 (ofZ w64 z)) (product start) ∙ toZ-ofZ (product-fits start))
+  passed : toZ w64 (ofZ w64 (pos 256 *ℤ toZ w64 (ofZ w64 (num start)))) ≡ pos 256 *ℤ num start
+  passed = ap (λ (z : ℤ). toZ w64 (ofZ w64 z)) (product start) ∙ toZ-ofZ (product-fits start)
 
-  read : toZ w64 (ofZ w64 (c .round .result)) ≡ units (fractionOf (start .args .q))
-  read = toZ-ofZ (record { sfits = c .round .ok }) ∙ rounds
+  read : toZ w64 (ofZ w64 (called .round .result .value)) ≡ units (fractionOf (start .args .q))
+  read = read-back w64 (c .struct-told2 .given .0 .1) (called .round .ensures .0 ∙ ap (λ (z : ℤ). nearest z (start .args .q .den)) passed)
 
-cast-result : tie.Need-cast-result
-cast-result c = rw (read c) (rounded-fits (start c))
+  left : eqb (ofZ w64 (called .round .result .rest)) 0 ≡ exactly (fractionOf (start .args .q))
+  left =
+      zero-bits (called .round .result .rest) (c .struct-told2 .given .1 .0 .1)
+      ∙ ap (λ (z : ℤ). eqb (natAbs z) 0) (called .round .ensures .1 ∙ ap (λ (z : ℤ). remainder z (start .args .q .den)) passed)
+
+cast-t4 : tie.Need-cast-t4
+cast-t4 c = rw (read c) (rounded-fits (start c))
 
 returns : tie.Need-returns
-returns c = ap (λ (z : ℤ). toZ w32 (ofZ w32 z)) (read c) ∙ toZ-ofZ (rounded-fits (start c))
+returns c =
+    let told : tie.After-struct-told2 = c .before .before in
+    same-value (ap (λ (z : ℤ). toZ w32 (ofZ w32 z)) (read told) ∙ toZ-ofZ (rounded-fits (start told))) (left told)
 
 pub in-units-spec : {M : Type 1} → statement M
-in-units-spec = tie.close (tie.spec mul-round round-requires cast-result returns)
+in-units-spec = tie.close (tie.spec mul-round round-requires cast-t4 returns)

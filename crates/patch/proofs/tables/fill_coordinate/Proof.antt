@@ -1,5 +1,7 @@
--- `fill_coordinate` meets its contract: coordinate k of the corner points passed is written, and the other coordinates are as they were.
+-- `fill_coordinate` meets its contract: coordinate k of the corner points passed is written, the other coordinates are as they were, and a mark stays
+-- where nothing is left.
 use mathlib.Core.Path.{_≡_, refl, sym, ap, _∙_}
+use mathlib.Core.Bool.{Bool, cond}
 use Prim.Native.Nat.{ℕ, _+_, _-_, _*_, _<_, _≤_}
 use native.Mathlib.Nat.{not-suc-le-zero, lt-of-lt-of-le}
 use native.Mathlib.Numerals.{add-one-le, add-one-dec}
@@ -15,27 +17,32 @@ use Rattle.limits.specs.Limits.{maxVertices}
 use Rattle.mesh.specs.IndexedMesh.{IndexedMesh, indexed}
 use Rattle.mesh.specs.WellFormed.{WellFormed}
 use Rattle.patch.specs.Point.{View, faces, inside, sharpSum, ringSum, cornerPoint}
-use Rattle.patch.specs.Patch.{view, units}
+use Rattle.patch.specs.Patch.{view, units, exactly}
+use Rattle.patch.specs.Values.{valueOf}
+use Rattle.patch.specs.declared.fraction.Value.{Value}
 use Rattle.patch.proofs.TableLaws.{same-all, faces-seen, inside-seen, ring-seen, sharp-seen, accepted-whole, accepted-indices, accepted-coordinates}
-use Rattle.patch.proofs.TableLaws.{corner-asked, sharp-size, corner-entries, strided-more, strided-other}
+use Rattle.patch.proofs.TableLaws.{corner-asked, sharp-size, corner-entries, strided-more, strided-other, kept-more, kept-after}
 use Rattle.patch.proofs.tables.fill_coordinate.Statement.{statement}
 use Rattle.patch.proofs.tables.fill_coordinate.Tie as tie
 
 abbrev Inv-loop : tie.InvT-loop
-Inv-loop v f positions tags faces twins valences leaving k points₀ ring sharp p₀ points p =
+Inv-loop v f positions tags faces twins valences leaving k points₀ marks₀ ring sharp p₀ points marks p =
     (p ≤ v) × (length points ≡ length points₀)
     × ((q : ℕ) → q < p → getD points (3 * q + k) (pos 0) ≡ units (cornerPoint (view (indexed v f positions tags faces) k) q))
     × ((q j : ℕ) → j < 3 → (j ≡ k → ⊥) → getD points (3 * q + j) (pos 0) ≡ getD points₀ (3 * q + j) (pos 0))
+    × (length marks ≡ length marks₀)
+    × ((q : ℕ) → q < p → getD marks q 0 ≡ cond (exactly (cornerPoint (view (indexed v f positions tags faces) k) q)) (getD marks₀ q 0) 0)
+    × ((q : ℕ) → p ≤ q → getD marks q 0 ≡ getD marks₀ q 0)
 
 abbrev μ-loop : tie.MeasureT-loop
-μ-loop v f positions tags faces twins valences leaving k points₀ ring sharp p₀ points p = v - p
+μ-loop v f positions tags faces twins valences leaving k points₀ marks₀ ring sharp p₀ points marks p = v - p
 
 -- the function's entry, from the tables of sums
 abbrev entry : tie.After-shared-slice-known3 Inv-loop μ-loop → tie.Start Inv-loop μ-loop
 entry c = c .before .before .before
 
 abbrev made : tie.After-ring Inv-loop μ-loop → tie.Start Inv-loop μ-loop
-made c = entry (c .before .before .before)
+made c = let k = c .before .before in entry (k .before .before)
 
 -- at the loop's head: the sums, the function's entry, and the mesh that was passed
 module _ (l : tie.At-loop Inv-loop μ-loop) where
@@ -108,10 +115,11 @@ add-sums-requires : tie.Need-add-sums-requires Inv-loop μ-loop
 add-sums-requires c κs =
     let s = made (c .before) in
     let a = s .pre .0 .0 in
-    ((accepted-indices a, s .pre .1 .0, accepted-coordinates a (s .args .k) (s .pre .0 .1)), ((omega arith, omega arith), (same-all (pos 0), same-all (pos 0))))
+    let zeros = same-all (pos 0) (pos 0) in
+    ((accepted-indices a, s .pre .1 .0, accepted-coordinates a (s .args .k) (s .pre .0 .1)), ((omega arith, omega arith), (zeros, zeros)))
 
 loop-holds : tie.Need-loop-holds Inv-loop μ-loop
-loop-holds c = (omega arith, refl, (λ q l. absurd (not-suc-le-zero l)), λ q j l n. refl)
+loop-holds c = (omega arith, refl, (λ q l. absurd (not-suc-le-zero l)), (λ q j l n. refl), refl, (λ q l. absurd (not-suc-le-zero l)), λ q l. refl)
 
 mul-i : tie.Need-mul-i Inv-loop μ-loop
 mul-i c = omega (arith, few c)
@@ -166,50 +174,80 @@ in-units-requires : tie.Need-in-units-requires Inv-loop μ-loop
 in-units-requires c κs = c .corner-point .ensures .within
 
 -- what was stored for vertex p
-module _ (c : tie.After-in-units Inv-loop μ-loop) where
+module _ (c : tie.After-struct-told Inv-loop μ-loop) where
   abbrev asked : tie.After-corner-point-arg2 Inv-loop μ-loop
-  asked = c .before .before
+  asked = c .before .before .before
 
-  written : toZ w32 (ofZ w32 (c .in-units .result)) ≡ units (cornerPoint (S (head asked)) (p (head asked)))
-  written =
-      read-back w32 (c .in-units .ok)
-      (c .in-units .ensures
-      ∙ ap units (c .before .corner-point .ensures .is
+  value-is : c .before .in-units .result ≡ valueOf (cornerPoint (S (head asked)) (p (head asked)))
+  value-is =
+      c .before .in-units .ensures
+      ∙ ap valueOf (c .before .before .corner-point .ensures .is
       ∙ corner-entries (mesh (head asked)) (p (head asked)) (start (head asked) .args .k) _ _ _ _ _
-      (inside-read asked) (faces-read asked) (value-read asked) (ring-read asked) (sharp-read asked)))
+      (inside-read asked) (faces-read asked) (value-read asked) (ring-read asked) (sharp-read asked))
+
+  written : toZ w32 (ofZ w32 (c .before .in-units .result .units)) ≡ units (cornerPoint (S (head asked)) (p (head asked)))
+  written = read-back w32 (c .struct-told .given .0 .1) (ap (λ (v : Value). v .units) value-is)
 
   stored : 3 * p (head asked) + start (head asked) .args .k < length (head asked .loop .points)
   stored = let s = start (head asked) in omega (arith, below (turn asked), s .pre .0 .1, s .pre .0 .2, head asked .loop .inv .1)
 
-mul-t40 : tie.Need-mul-t40 Inv-loop μ-loop
-mul-t40 c = omega (arith, few (turn (asked c)), start (head (asked c)) .pre .0 .1)
+  marked : p (head asked) < length (head asked .loop .marks)
+  marked = omega (arith, below (turn asked), start (head asked) .pre .1 .2, head asked .loop .inv .4)
 
-slice-set-from-points : tie.Need-slice-set-from-points Inv-loop μ-loop
-slice-set-from-points c = stored c
+mul-units : tie.Need-mul-units Inv-loop μ-loop
+mul-units c = omega (arith, few (turn (asked c)), start (head (asked c)) .pre .0 .1)
+
+slice-set-from-units : tie.Need-slice-set-from-units Inv-loop μ-loop
+slice-set-from-units c = stored c
+
+slice-read-kept : tie.Need-slice-read-kept Inv-loop μ-loop
+slice-read-kept c = marked (c .before)
+
+kept-requires : tie.Need-kept-requires Inv-loop μ-loop
+kept-requires c κs = tt
+
+-- the end of a turn
+abbrev told : tie.After-kept Inv-loop μ-loop → tie.After-struct-told Inv-loop μ-loop
+told c = c .before .before
+
+slice-write-marks : tie.Need-slice-write-marks Inv-loop μ-loop
+slice-write-marks c = marked (told c)
 
 add-p : tie.Need-add-p Inv-loop μ-loop
-add-p c = omega (arith, few (turn (asked c)))
+add-p c = omega (arith, few (turn (asked (told c))))
 
 loop-less : tie.Need-loop-less Inv-loop μ-loop
-loop-less c = add-one-dec _ _ (below (turn (asked c)))
+loop-less c = add-one-dec _ _ (below (turn (asked (told c))))
 
 loop-again : tie.Need-loop-again Inv-loop μ-loop
 loop-again c =
-    let w = asked c in
+    let w = asked (told c) in
     let l = head w in
     let k = start l .args .k in
-    let axis = start l .pre .0 .1 in (
+    let axis = start l .pre .0 .1 in
+    let exact : ℕ → Bool = λ q. exactly (cornerPoint (S l) q) in
+    let stays = ap (λ (v : Value). cond (v .exact) (getD (l .loop .marks) (p l) 0) 0) (value-is (told c)) in (
       add-one-le (below (turn w)),
       length-set (l .loop .points) (3 * p l + k) _ ∙ l .loop .inv .1,
-      strided-more k (p l) _ (l .loop .points) axis (λ q. units (cornerPoint (S l) q)) (stored c) (written c) (l .loop .inv .2),
-      λ q j b n. strided-other k (p l) _ (l .loop .points) axis q j b n ∙ l .loop .inv .3 q j b n,
+      strided-more k (p l) _ (l .loop .points) axis (λ q. units (cornerPoint (S l) q)) (stored (told c)) (written (told c)) (l .loop .inv .2),
+      (λ q j b n. strided-other k (p l) _ (l .loop .points) axis q j b n ∙ l .loop .inv .3 q j b n),
+      length-set (l .loop .marks) (p l) _ ∙ l .loop .inv .4,
+      kept-more (p l) _ (l .loop .marks) (start l .args .marks .now) exact (l .loop .inv .6) (marked (told c)) (c .kept .ensures ∙ stays) (l .loop .inv .5),
+      kept-after (p l) _ (l .loop .marks) (start l .args .marks .now) exact (l .loop .inv .6),
     )
 
 same-length : tie.Need-same-length Inv-loop μ-loop
 same-length c = c .before .loop .inv .1
 
+same-length-2 : tie.Need-same-length-2 Inv-loop μ-loop
+same-length-2 c = c .before .loop .inv .4
+
 returns : tie.Need-returns Inv-loop μ-loop
-returns c = ((λ p h. c .before .loop .inv .2 p (omega (arith, h, c .loop-test .left))), c .before .loop .inv .3)
+returns c =
+    let inv = c .before .loop .inv in (
+      (λ p h. inv .2 p (omega (arith, h, c .loop-test .left))),
+      ((λ p h. inv .5 p (omega (arith, h, c .loop-test .left))), inv .3),
+    )
 
 pub fill-coordinate-spec : {M : Type 1} → statement M
 fill-coordinate-spec =
@@ -235,10 +273,14 @@ fill-coordinate-spec =
     array-copy-out-corner-point-2
     corner-point-requires
     in-units-requires
-    mul-t40
-    slice-set-from-points
+    mul-units
+    slice-set-from-units
+    slice-read-kept
+    kept-requires
+    slice-write-marks
     add-p
     loop-less
     loop-again
     same-length
+    same-length-2
     returns)

@@ -4,7 +4,7 @@ use lib.ListN.{length}
 use borrow.Author.Needs.{needs}
 use Rattle.patch.specs.Lists.{Coordinates, Twins}
 use Rattle.patch.specs.PatchTables.{Weights}
-use Rattle.patch.specs.Written.{pointFrom}
+use Rattle.patch.specs.Written.{pointFrom, exactFrom}
 use Rattle.patch.proofs.writer.point_values.Statement.{statement}
 use Rattle.patch.proofs.writer.point_values.Tie as tie
 
@@ -16,15 +16,18 @@ module _ (s : tie.Start) where
   listed : Weights (s .args .faces .now) (s .args .weights .now) × Twins (s .args .faces .now) (s .args .twins .now)
   listed = (s .pre .0 .weighed, s .pre .0 .twinned)
 
-abbrev start : tie.After-shared-slice-known3 → tie.Start
-start c = c .before .before .before
+abbrev start : tie.After-shared-slice-known4 → tie.Start
+start c = c .before .before .before .before
 
 -- ---- the answers, in the order of the code
 enum-told : tie.Need-enum-told
 enum-told c = search needs
 
 vertex-points-requires : tie.Need-vertex-points-requires
-vertex-points-requires c κs = let s = start (c .before .before) in (s .pre .1, λ k l. s .pre .0 .pointed (s .args .c) k (s .pre .1) l)
+vertex-points-requires c κs =
+    let s = start (c .before .before) in
+    let source = s .pre .0 in
+    ((s .pre .1, λ k l. source .pointed (s .args .c) k (s .pre .1) l), source .marked (s .args .c) (s .pre .1))
 
 enum-told-2 : tie.Need-enum-told-2
 enum-told-2 c = search needs
@@ -45,19 +48,19 @@ inner-points-requires : tie.Need-inner-points-requires
 inner-points-requires c κs = let s = start (c .before .before) in (placed s, listed s .0)
 
 returns : tie.Need-returns
-unfolding pointFrom
+unfolding pointFrom exactFrom
 returns c = rw (c .before .enum-told .given .1) (c .vertex-points .ensures)
 
 returns-2 : tie.Need-returns-2
-unfolding pointFrom
+unfolding pointFrom exactFrom
 returns-2 c = rw (c .before .enum-told2 .given .1) (c .along-points .ensures)
 
 returns-3 : tie.Need-returns-3
-unfolding pointFrom
+unfolding pointFrom exactFrom
 returns-3 c = rw (c .before .enum-told3 .given .1) (c .before-points .ensures)
 
 returns-4 : tie.Need-returns-4
-unfolding pointFrom
+unfolding pointFrom exactFrom
 returns-4 c = rw (c .before .enum-told4 .given .1) (c .inner-points .ensures)
 
 pub point-values-spec : {M : Type 1} → statement M

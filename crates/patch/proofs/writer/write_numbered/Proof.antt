@@ -6,14 +6,14 @@ use borrow.Author.Needs.{needs}
 use Rattle.finite.proofs.FilledLaws.{filled-ext}
 use Rattle.patch.specs.Point.{inner}
 use Rattle.patch.specs.Patch.{owner, kind}
-use Rattle.patch.specs.Written.{kindOf}
+use Rattle.patch.specs.Written.{kindOf, markFrom}
 use Rattle.patch.proofs.FacePointLaws.{owner-listed, number-point, owner-below, table-at}
 use Rattle.patch.proofs.writer.write_numbered.Statement.{statement}
 use Rattle.patch.proofs.writer.write_numbered.Tie as tie
 
 -- ---- the way back from the table's entry and from the call
 abbrev start : tie.After-kind → tie.Start
-start c = c .before .before .before .before
+start c = let k = c .before .before in k .before .before .before
 
 abbrev called : tie.After-write-point → tie.After-turned
 called c = c .before .before
@@ -46,14 +46,17 @@ same-length c = search needs
 
 -- `table-at` asks for l
 returns : tie.Need-returns
-unfolding owner kind
+unfolding owner kind markFrom
 returns c =
     let t = called (c .before) in
     let s = start (t .before) in
     let l : s .args .m < 16 = s .pre .2 in
-    (rw (t .turned .ensures, table-at kindOf inner) at (c .before .write-point .ensures))
-    ∙ sym (filled-ext 3 (s .args .point .now)
-    (number-point (s .args .positions .now) (s .args .faces .now) (s .args .points .now) (s .args .g) (s .args .m)))
+    let w = c .before .write-point .ensures in (
+      (rw (t .turned .ensures, table-at kindOf inner) at (w .0))
+          ∙ sym (filled-ext 3 (s .args .point .now)
+          (number-point (s .args .positions .now) (s .args .faces .now) (s .args .points .now) (s .args .g) (s .args .m))),
+      rw (t .turned .ensures, table-at kindOf inner) at (w .1),
+    )
 
 pub write-numbered-spec : {M : Type 1} → statement M
 write-numbered-spec =

@@ -1,12 +1,12 @@
 -- `coordinate` meets its contract: the curve is small, so that it can be blended, and the sum is rounded as is required.
 use mathlib.Core.Path.{_≡_, sym, ap, _∙_, subst}
 use lib.IntN.{ℤ}
-use mir.Syntax.{w32, w64}
+use mir.Syntax.{w64}
 use mir.Val.{toZ, ofZ}
-use Rattle.integer.specs.Nearest.{nearest}
+use Rattle.integer.specs.Nearest.{nearest, whole}
 use Rattle.integer.proofs.Laws.{read-back}
 use Rattle.sample.specs.Blend.{controlOf, Fine, Mean, blendedTwice}
-use Rattle.sample.proofs.BlendLaws.{blended-list, curve-fine}
+use Rattle.sample.proofs.BlendLaws.{blended-list, curve-fine, same-coordinate}
 use Rattle.sample.proofs.bernstein.coordinate.Statement.{statement}
 use Rattle.sample.proofs.bernstein.coordinate.Tie as tie
 
@@ -32,8 +32,9 @@ rounded-quotient-requires c κs = subst (λ (z : ℤ). Mean z (start c .args .di
 
 returns : tie.Need-returns
 returns c =
-    let s = start (c .before) in
-    read-back w32 (c .rounded-quotient .ok) (c .rounded-quotient .ensures ∙ ap (λ (z : ℤ). nearest z (s .args .divisor)) (sums (c .before)))
+    let d = start (c .before) .args .divisor in
+    let e = sums (c .before) in
+    c .rounded-quotient .ensures ∙ same-coordinate (ap (λ (z : ℤ). nearest z d) e) (ap (λ (z : ℤ). whole z d) e)
 
 pub coordinate-spec : {M : Type 1} → statement M
 coordinate-spec =

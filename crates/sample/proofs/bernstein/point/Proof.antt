@@ -1,5 +1,6 @@
--- `point` meets its contract: each coordinate is rounded from the sum by the weights of a and of b, over n ^ 6.
-use mathlib.Core.Path.{_≡_, sym, _∙_, subst}
+-- `point` meets its contract: each coordinate is rounded from the sum by the weights of a and of b, over n ^ 6, and exact where nothing is left of it.
+use mathlib.Core.Path.{_≡_, sym, ap, ap₂, _∙_, subst}
+use mathlib.Core.Bool.{Bool, _&&_}
 use mathlib.Core.List.{List}
 use Prim.Native.Nat.{ℕ, _^_, _<_}
 use native.Mathlib.Omega.{arith}
@@ -7,11 +8,12 @@ use lib.IntN.{ℤ}
 use lib.Signed.{mag}
 use mir.Syntax.{w32}
 use mir.Val.{toZ, ofZ}
-use Rattle.integer.specs.Nearest.{nearest}
+use Rattle.integer.specs.Nearest.{nearest, whole}
 use Rattle.integer.proofs.Laws.{read-back}
-use Rattle.sample.specs.Bernstein.{rounded}
+use Rattle.sample.specs.Bernstein.{numerator, rounded}
+use Rattle.sample.specs.declared.model.Coordinate.{Coordinate}
 use Rattle.sample.specs.Blend.{controlOf, Small, Light, Mean, blendedTwice}
-use Rattle.sample.proofs.BlendLaws.{weights-light, sample-mean, blended-mean, rounded-blended, same-point}
+use Rattle.sample.proofs.BlendLaws.{weights-light, sample-mean, blended-mean, rounded-blended, whole-blended, same-point, same-marked, all-three}
 use Rattle.sample.proofs.bernstein.point.Statement.{statement}
 use Rattle.sample.proofs.bernstein.point.Tie as tie
 
@@ -24,7 +26,7 @@ weights-requires-2 c κs = c .before .pre .2
 divisor-requires : tie.Need-divisor-requires
 divisor-requires c κs = c .before .before .pre .1 .most
 
--- at the three calls: the weights, what is divided and rounded, what coordinate k asks, and what it gave
+-- at the three calls: the weights, what is divided and rounded, whether that leaves nothing, what coordinate k asks, and what it gave
 module _ (c : tie.After-divisor) where
   abbrev start : tie.Start
   start = c .before .before .before
@@ -41,6 +43,9 @@ module _ (c : tie.After-divisor) where
   abbrev sampled : ℕ → ℤ
   sampled k = rounded (start .args .n) (start .args .a) (start .args .b) (controlOf (start .args .patch .now) k)
 
+  abbrev exact : ℕ → Bool
+  exact k = whole (numerator (start .args .n) (start .args .a) (start .args .b) (controlOf (start .args .patch .now) k)) (start .args .n ^ 6)
+
   u-light : Light u
   u-light = subst Light (sym (c .before .before .weights .ensures)) (weights-light (start .pre .1))
 
@@ -54,10 +59,20 @@ module _ (c : tie.After-divisor) where
         (sample-mean (start .pre .0) k l (start .pre .1) (start .pre .2)),
   )
 
-  told : (k : ℕ) {r : ℤ} → mag r < 2 ^ 31 → r ≡ nearest (sum k) (c .divisor .result) → toZ w32 (ofZ w32 r) ≡ sampled k
+  -- what coordinate k is
+  abbrev divided : ℕ → Coordinate
+  divided k = record { value = nearest (sum k) (c .divisor .result); exact = whole (sum k) (c .divisor .result) }
+
+  told : (k : ℕ) {r : Coordinate} → mag (r .value) < 2 ^ 31 → r ≡ divided k → toZ w32 (ofZ w32 (r .value)) ≡ sampled k
   told k ok e =
       read-back w32 ok
-      (e ∙ rounded-blended _ _ _ _ (c .before .before .weights .ensures) (c .before .weights2 .ensures) (c .divisor .ensures) (start .pre .1 .least))
+      (ap (λ (r : Coordinate). r .value) e
+      ∙ rounded-blended _ _ _ _ (c .before .before .weights .ensures) (c .before .weights2 .ensures) (c .divisor .ensures) (start .pre .1 .least))
+
+  marked : (k : ℕ) {r : Coordinate} → r ≡ divided k → r .exact ≡ exact k
+  marked k e =
+      ap (λ (r : Coordinate). r .exact) e
+      ∙ whole-blended _ _ _ _ (c .before .before .weights .ensures) (c .before .weights2 .ensures) (c .divisor .ensures)
 
 coordinate-requires : tie.Need-coordinate-requires
 coordinate-requires c κs = asked c 0 (omega arith)
@@ -70,11 +85,20 @@ coordinate-requires-3 c κs = asked (c .before .before) 2 (omega arith)
 
 returns : tie.Need-returns
 returns c =
-    let d = c .before .before .before in
-    same-point
-    (told d 0 (c .before .before .coordinate .ok) (c .before .before .coordinate .ensures))
-    (told d 1 (c .before .coordinate2 .ok) (c .before .coordinate2 .ensures))
-    (told d 2 (c .coordinate3 .ok) (c .coordinate3 .ensures))
+    let third : tie.After-struct-told3 = c .before .before .before in
+    let z : tie.After-coordinate3 = third .before .before .before in
+    let y : tie.After-coordinate2 = z .before in
+    let x : tie.After-coordinate = y .before in
+    let d = x .before in
+    let ex = x .coordinate .ensures in
+    let ey = y .coordinate2 .ensures in
+    let ez = z .coordinate3 .ensures in
+    same-marked
+    (same-point
+    (told d 0 (third .before .before .struct-told .given .0 .1) ex)
+    (told d 1 (third .before .struct-told2 .given .0 .1) ey)
+    (told d 2 (third .struct-told3 .given .0 .1) ez))
+    (ap₂ _&&_ (ap₂ _&&_ (marked d 0 ex) (marked d 1 ey)) (marked d 2 ez) ∙ all-three (exact d))
 
 pub point-spec : {M : Type 1} → statement M
 point-spec =

@@ -9,11 +9,11 @@ use lib.ListN.{length, getD, length-set}
 use lib.Signed.{mag}
 use mir.Syntax.{w32}
 use mir.Val.{toZ, ofZ}
-use borrow.Author.Needs.{needs}
-use Rattle.integer.specs.Nearest.{nearest}
+use Rattle.integer.specs.Nearest.{nearest, whole}
 use Rattle.integer.proofs.Laws.{read-back}
 use Rattle.finite.specs.Filled.{listBelow, filled}
 use Rattle.finite.proofs.FilledLaws.{filled-start, length-filled}
+use Rattle.sample.specs.declared.model.Coordinate.{Coordinate}
 use Rattle.sample.specs.Refusal.{maxSteps}
 use Rattle.sample.specs.Blend.{controlOf, Steps, Light, Fine, Mean, blended}
 use Rattle.sample.specs.Differences.{nextOf, Tame}
@@ -91,9 +91,17 @@ module _ (c : tie.In-loop Inv-loop μ-loop) where
     asked : Mean (read (getD x 0 (pos 0))) (given at-loop .divisor .result)
     asked = sum-asked (entry at-loop .pre .0) k below steps (entry at-loop .pre .1) (given at-loop .divisor .ensures) e
 
-    told : {r : ℤ} → mag r < 2 ^ 31 → r ≡ nearest (read (getD x 0 (pos 0))) (given at-loop .divisor .result)
-        → toZ w32 (ofZ w32 r) ≡ line-of (3 * at-loop .loop .a + k)
-    told ok q = read-back w32 ok (sum-told (entry at-loop .pre .0) k below steps (entry at-loop .pre .1) (given at-loop .divisor .ensures) e q)
+    -- what is divided and rounded
+    abbrev divided : Coordinate
+    divided =
+        let sum = read (getD x 0 (pos 0)) in
+        let d = given at-loop .divisor .result in
+        record { value = nearest sum d; exact = whole sum d }
+
+    told : {r : Coordinate} → mag (r .value) < 2 ^ 31 → r ≡ divided → toZ w32 (ofZ w32 (r .value)) ≡ line-of (3 * at-loop .loop .a + k)
+    told ok q =
+        read-back w32 ok
+        (sum-told (entry at-loop .pre .0) k below steps (entry at-loop .pre .1) (given at-loop .divisor .ensures) e (ap (λ (r : Coordinate). r .value) q))
 
     tame : Tame x
     tame = sums-tame (entry at-loop .pre .0) k below steps (entry at-loop .pre .1) (given at-loop .divisor .ensures) e
@@ -102,17 +110,17 @@ module _ (c : tie.In-loop Inv-loop μ-loop) where
     next q = sums-next (entry at-loop .pre .0) k below steps (entry at-loop .pre .1) (given at-loop .divisor .ensures) e q
 
 -- ---- the three numbers are there
-abbrev past-1 : tie.After-rounded-quotient Inv-loop μ-loop → tie.In-loop Inv-loop μ-loop
-past-1 c = c .before .before
+abbrev past-1 : tie.After-struct-told Inv-loop μ-loop → tie.In-loop Inv-loop μ-loop
+past-1 c = c .before .before .before
 
-abbrev past-2 : tie.After-rounded-quotient2 Inv-loop μ-loop → tie.In-loop Inv-loop μ-loop
-past-2 c = past-1 (c .before .before)
+abbrev past-2 : tie.After-struct-told2 Inv-loop μ-loop → tie.In-loop Inv-loop μ-loop
+past-2 c = past-1 (c .before .before .before)
 
-abbrev past-3 : tie.After-rounded-quotient3 Inv-loop μ-loop → tie.In-loop Inv-loop μ-loop
-past-3 c = past-2 (c .before .before)
+abbrev past-3 : tie.After-struct-told3 Inv-loop μ-loop → tie.In-loop Inv-loop μ-loop
+past-3 c = past-2 (c .before .before .before)
 
 -- ---- and the sums of a + 1
-abbrev stored : tie.After-stepped3 Inv-loop μ-loop → tie.After-rounded-quotient3 Inv-loop μ-loop
+abbrev stored : tie.After-stepped3 Inv-loop μ-loop → tie.After-struct-told3 Inv-loop μ-loop
 stored c = c .before .before .before
 
 -- ---- the answers, in the order of the code
@@ -162,32 +170,11 @@ array-copy-out-rounded-quotient c = omega arith
 rounded-quotient-requires : tie.Need-rounded-quotient-requires Inv-loop μ-loop
 rounded-quotient-requires c κs = let p = c .before in asked p 0 (omega arith) (at-loop p .loop .inv .2)
 
-mul-line : tie.Need-mul-line Inv-loop μ-loop
-mul-line c = omega (arith, few (past-1 c))
-
-mul-line-2 : tie.Need-mul-line-2 Inv-loop μ-loop
-mul-line-2 c = search needs
-
-slice-set-from-line : tie.Need-slice-set-from-line Inv-loop μ-loop
-slice-set-from-line c = let p = past-1 c in omega (arith, room p, same (at-loop p))
-
 array-copy-out-rounded-quotient-2 : tie.Need-array-copy-out-rounded-quotient-2 Inv-loop μ-loop
 array-copy-out-rounded-quotient-2 c = omega arith
 
 rounded-quotient-requires-2 : tie.Need-rounded-quotient-requires-2 Inv-loop μ-loop
 rounded-quotient-requires-2 c κs = let p = past-1 (c .before) in asked p 1 (omega arith) (at-loop p .loop .inv .3)
-
-mul-line-3 : tie.Need-mul-line-3 Inv-loop μ-loop
-mul-line-3 c = omega (arith, few (past-2 c))
-
-add-line : tie.Need-add-line Inv-loop μ-loop
-add-line c = omega (arith, few (past-2 c))
-
-mul-line-4 : tie.Need-mul-line-4 Inv-loop μ-loop
-mul-line-4 c = search needs
-
-slice-set-from-line-2 : tie.Need-slice-set-from-line-2 Inv-loop μ-loop
-slice-set-from-line-2 c = let p = past-2 c in rw length-set (omega (arith, room p, same (at-loop p)))
 
 array-copy-out-rounded-quotient-3 : tie.Need-array-copy-out-rounded-quotient-3 Inv-loop μ-loop
 array-copy-out-rounded-quotient-3 c = omega arith
@@ -195,17 +182,38 @@ array-copy-out-rounded-quotient-3 c = omega arith
 rounded-quotient-requires-3 : tie.Need-rounded-quotient-requires-3 Inv-loop μ-loop
 rounded-quotient-requires-3 c κs = let p = past-2 (c .before) in asked p 2 (omega arith) (at-loop p .loop .inv .4)
 
-mul-t24 : tie.Need-mul-t24 Inv-loop μ-loop
-mul-t24 c = omega (arith, few (past-3 c))
+mul-p : tie.Need-mul-p Inv-loop μ-loop
+mul-p c = omega (arith, few (past-3 c))
 
-add-t20 : tie.Need-add-t20 Inv-loop μ-loop
-add-t20 c = omega (arith, few (past-3 c))
+mul-p-2 : tie.Need-mul-p-2 Inv-loop μ-loop
+mul-p-2 c = omega (arith, few (past-3 c))
 
-mul-t19 : tie.Need-mul-t19 Inv-loop μ-loop
-mul-t19 c = search needs
+slice-set-from-p : tie.Need-slice-set-from-p Inv-loop μ-loop
+slice-set-from-p c = let p = past-3 c in omega (arith, room p, same (at-loop p))
 
-slice-set-from-line-3 : tie.Need-slice-set-from-line-3 Inv-loop μ-loop
-slice-set-from-line-3 c = let p = past-3 c in rw (length-set, length-set) (omega (arith, room p, same (at-loop p)))
+mul-q : tie.Need-mul-q Inv-loop μ-loop
+mul-q c = omega (arith, few (past-3 c))
+
+add-q : tie.Need-add-q Inv-loop μ-loop
+add-q c = omega (arith, few (past-3 c))
+
+mul-q-2 : tie.Need-mul-q-2 Inv-loop μ-loop
+mul-q-2 c = omega (arith, few (past-3 c))
+
+slice-set-from-q : tie.Need-slice-set-from-q Inv-loop μ-loop
+slice-set-from-q c = let p = past-3 c in rw length-set (omega (arith, room p, same (at-loop p)))
+
+mul-r : tie.Need-mul-r Inv-loop μ-loop
+mul-r c = omega (arith, few (past-3 c))
+
+add-r : tie.Need-add-r Inv-loop μ-loop
+add-r c = omega (arith, few (past-3 c))
+
+mul-r-2 : tie.Need-mul-r-2 Inv-loop μ-loop
+mul-r-2 c = omega (arith, few (past-3 c))
+
+slice-set-from-r : tie.Need-slice-set-from-r Inv-loop μ-loop
+slice-set-from-r c = let p = past-3 c in rw (length-set, length-set) (omega (arith, room p, same (at-loop p)))
 
 stepped-requires : tie.Need-stepped-requires Inv-loop μ-loop
 stepped-requires c κs = let p = past-3 c in tame p 0 (omega arith) (at-loop p .loop .inv .2)
@@ -225,8 +233,8 @@ loop-less c = omega (arith, past-3 (stored c) .loop-test .taken)
 loop-again : tie.Need-loop-again Inv-loop μ-loop
 loop-again c =
     let third = stored c in
-    let second : tie.After-rounded-quotient2 Inv-loop μ-loop = third .before .before in
-    let first : tie.After-rounded-quotient Inv-loop μ-loop = second .before .before in
+    let second : tie.After-struct-told2 Inv-loop μ-loop = third .before .before .before in
+    let first : tie.After-struct-told Inv-loop μ-loop = second .before .before .before in
     let p = past-3 third in
     let l = at-loop p in
     let hx = l .loop .inv .2 in
@@ -234,9 +242,9 @@ loop-again c =
     let hz = l .loop .inv .4 in (
       omega (arith, p .loop-test .taken),
       filled-point _ (l .loop .a) _ _ (room p) (l .loop .inv .1)
-          (told p 0 (omega arith) hx (first .rounded-quotient .ok) (first .rounded-quotient .ensures))
-          (told p 1 (omega arith) hy (second .rounded-quotient2 .ok) (second .rounded-quotient2 .ensures))
-          (told p 2 (omega arith) hz (third .rounded-quotient3 .ok) (third .rounded-quotient3 .ensures)),
+          (told p 0 (omega arith) hx (first .struct-told .given .0 .1) (first .before .rounded-quotient .ensures))
+          (told p 1 (omega arith) hy (second .struct-told2 .given .0 .1) (second .before .rounded-quotient2 .ensures))
+          (told p 2 (omega arith) hz (third .struct-told3 .given .0 .1) (third .before .rounded-quotient3 .ensures)),
       next p 0 (omega arith) hx (c .before .before .stepped .ensures),
       next p 1 (omega arith) hy (c .before .stepped2 .ensures),
       next p 2 (omega arith) hz (c .stepped3 .ensures),
@@ -270,21 +278,21 @@ write-points-spec =
     loop-holds
     array-copy-out-rounded-quotient
     rounded-quotient-requires
-    mul-line
-    mul-line-2
-    slice-set-from-line
     array-copy-out-rounded-quotient-2
     rounded-quotient-requires-2
-    mul-line-3
-    add-line
-    mul-line-4
-    slice-set-from-line-2
     array-copy-out-rounded-quotient-3
     rounded-quotient-requires-3
-    mul-t24
-    add-t20
-    mul-t19
-    slice-set-from-line-3
+    mul-p
+    mul-p-2
+    slice-set-from-p
+    mul-q
+    add-q
+    mul-q-2
+    slice-set-from-q
+    mul-r
+    add-r
+    mul-r-2
+    slice-set-from-r
     stepped-requires
     stepped-requires-2
     stepped-requires-3

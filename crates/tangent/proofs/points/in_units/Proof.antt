@@ -25,8 +25,9 @@ round-requires c κs = tt
 
 returns : tie.Need-returns
 returns c =
-    let s = c .before .before .before in
-    read-back w64 (c .round .ok) (c .round .ensures ∙ ap (λ (z : ℤ). nearest z (s .args .q .den)) (result (num s) (small s) refl))
+    let divided : tie.After-round = c .before in
+    let s = divided .before .before .before in
+    read-back w64 (c .struct-told2 .given .0 .1) (divided .round .ensures .0 ∙ ap (λ (z : ℤ). nearest z (s .args .q .den)) (result (num s) (small s) refl))
 
 pub in-units-spec : {M : Type 1} → statement M
 in-units-spec = tie.close (tie.spec mul-round round-requires returns)

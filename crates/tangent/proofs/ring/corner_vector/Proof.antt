@@ -44,9 +44,10 @@ round-requires c κs = tt
 returns : tie.Need-returns
 unfolding cornerVector
 returns c =
-    let d = c .before in
-    read-back w64 (c .round .ok)
-    (c .round .ensures
+    let divided : tie.After-round = c .before in
+    let d = divided .before in
+    read-back w64 (c .struct-told .given .0 .1)
+    (divided .round .ensures .0
     ∙ ap (λ (z : ℤ). nearest z scale) (result (product d) (ranged d) refl ∙ ap (λ (z : ℤ). pos 256 *ℤ z) (sum-is d)))
 
 pub corner-vector-spec : {M : Type 1} → statement M

@@ -37,8 +37,11 @@ round-requires c κs = search needs
 
 returns : tie.Need-returns
 returns c =
-    let s = c .before in
-    let is = read-back w64 (c .round .ok) (c .round .ensures ∙ ap (λ (z : ℤ). nearest z correctedDivisor) (result (num s) (ranged s) refl)) in
+    let divided : tie.After-round = c .before in
+    let s = divided .before in
+    let is =
+    read-back w64 (c .struct-told .given .0 .1)
+    (divided .round .ensures .0 ∙ ap (λ (z : ℤ). nearest z correctedDivisor) (result (num s) (ranged s) refl)) in
     (is, rw is (rounded-size s))
 
 pub corrected-spec : {M : Type 1} → statement M

@@ -12,8 +12,8 @@ use Rattle.tangent.proofs.writer.side_of.Tie as tie
 
 -- ---- what each look-up asks, and the function's entry from behind two, four and six of them
 module _ (s : tie.Start) where
-  asked : (t : ℕ) → t < 6 → (length (s .args .parts .now) ≡ 72) × (t < 6) × (s .args .s < 4) × (s .args .k < 3)
-  asked t l = (s .pre .0 .parts-listed, l, s .pre .1, s .pre .2)
+  asked : {t : ℕ} → t < 6 → (length (s .args .parts .now) ≡ 72) × (t < 6) × (s .args .s < 4) × (s .args .k < 3)
+  asked l = (s .pre .0 .parts-listed, l, s .pre .1, s .pre .2)
 
 abbrev start₂ : tie.After-listed2 → tie.Start
 start₂ c = c .before .before
@@ -26,22 +26,22 @@ start₆ c = start₄ (c .before .before)
 
 -- ---- the answers, in the order of the code
 listed-requires : tie.Need-listed-requires
-listed-requires c κs = asked c 0 (omega arith)
+listed-requires c κs = asked c (omega arith)
 
 listed-requires-2 : tie.Need-listed-requires-2
-listed-requires-2 c κs = asked (c .before) 1 (omega arith)
+listed-requires-2 c κs = asked (c .before) (omega arith)
 
 listed-requires-3 : tie.Need-listed-requires-3
-listed-requires-3 c κs = asked (start₂ c) 2 (omega arith)
+listed-requires-3 c κs = asked (start₂ c) (omega arith)
 
 listed-requires-4 : tie.Need-listed-requires-4
-listed-requires-4 c κs = asked (start₂ (c .before)) 3 (omega arith)
+listed-requires-4 c κs = asked (start₂ (c .before)) (omega arith)
 
 listed-requires-5 : tie.Need-listed-requires-5
-listed-requires-5 c κs = asked (start₄ c) 4 (omega arith)
+listed-requires-5 c κs = asked (start₄ c) (omega arith)
 
 listed-requires-6 : tie.Need-listed-requires-6
-listed-requires-6 c κs = asked (start₄ (c .before)) 5 (omega arith)
+listed-requires-6 c κs = asked (start₄ (c .before)) (omega arith)
 
 mul-t11 : tie.Need-mul-t11
 mul-t11 c = omega (arith, start₆ c .pre .1)

@@ -5,10 +5,10 @@ use Rattle.trials.proofs.patch_trial.row_sums.Statement.{statement}
 use Rattle.trials.proofs.patch_trial.row_sums.Tie as tie
 
 abbrev Inv-loop : tie.InvT-loop
-Inv-loop patches f n b total₀ a₀ a-end total a = Unit {0}
+Inv-loop patches exact f n b total₀ a₀ a-end total a = Unit {0}
 
 abbrev μ-loop : tie.MeasureT-loop
-μ-loop patches f n b total₀ a₀ a-end total a = a-end - a
+μ-loop patches exact f n b total₀ a₀ a-end total a = a-end - a
 
 add-a-end : tie.Need-add-a-end Inv-loop μ-loop
 add-a-end c = search needs
@@ -19,8 +19,11 @@ loop-holds c = search needs
 sample-requires : tie.Need-sample-requires Inv-loop μ-loop
 sample-requires c κs = search needs
 
-with-sample-requires : tie.Need-with-sample-requires Inv-loop μ-loop
-with-sample-requires c κs = search needs
+marked-sample-requires : tie.Need-marked-sample-requires Inv-loop μ-loop
+marked-sample-requires c κs = search needs
+
+with-answers-requires : tie.Need-with-answers-requires Inv-loop μ-loop
+with-answers-requires c κs = search needs
 
 add-a : tie.Need-add-a Inv-loop μ-loop
 add-a c = search needs
@@ -43,7 +46,8 @@ row-sums-spec =
     add-a-end
     loop-holds
     sample-requires
-    with-sample-requires
+    marked-sample-requires
+    with-answers-requires
     add-a
     loop-less
     loop-again

@@ -10,6 +10,9 @@ Inv-loop list sums₀ i₀ i-end sums i = Unit {0}
 abbrev μ-loop : tie.MeasureT-loop
 μ-loop list sums₀ i₀ i-end sums i = i-end - i
 
+nothing-requires : tie.Need-nothing-requires Inv-loop μ-loop
+nothing-requires c κs = search needs
+
 loop-holds : tie.Need-loop-holds Inv-loop μ-loop
 loop-holds c = search needs
 
@@ -40,6 +43,7 @@ of-list-spec =
     (tie.spec
     Inv-loop
     μ-loop
+    nothing-requires
     loop-holds
     mul-with-number
     shared-slice-copy-out-with-number

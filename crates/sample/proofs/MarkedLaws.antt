@@ -1,0 +1,69 @@
+-- The answer of the marked sample call: its causes are those of a sample, with 12 for the marks too, and its mark is that of the patch and of the
+-- division.
+use mathlib.Core.Path.{_≡_, ap, ap₂, _∙_}
+use mathlib.Core.Bool.{Bool, true, _&&_}
+use mathlib.Core.List.{List}
+use mathlib.Core.Option.{none, some}
+use Prim.Native.Nat.{ℕ, _+_, _-_, _*_, _/_, _≤_, _<_}
+use native.Mathlib.Omega.{arith}
+use lib.Dec.{eqb}
+use lib.IntN.{ℤ}
+use lib.ListN.{length, getD, take, drop, length-take, length-drop}
+use lib.Seq.{getD-drop, getD-take}
+use borrow.Author.Tests.{lt-ltb, le-ltb}
+use Rattle.finite.specs.Fold.{allBelow}
+use Rattle.finite.specs.Table.{firstMet, result, refusal}
+use Rattle.finite.proofs.FoldLaws.{fold-ext, bool-cases}
+use Rattle.sample.specs.declared.model.MarkedPoint.{MarkedPoint}
+use Rattle.sample.specs.Refusal.{faceOff, sampleRows}
+use Rattle.sample.specs.Marked.{marksOff, markedRows, patchMarked, markedAnswer}
+use Rattle.sample.proofs.BlendLaws.{same-marked}
+use Rattle.sample.proofs.PatchLaws.{patchOf, pointOf, patch-point, patch-whole}
+
+-- ---- the causes: 12 for the marks, then those of a sample
+module _ (patches : List ℤ) (exact : List ℕ) (f n a b : ℕ) where
+  pub marks-off : length exact / 16 ≤ f → firstMet (markedRows patches exact f n a b) ≡ some 12
+  unfolding marksOff
+  marks-off h =
+      let short = lt-ltb (length exact) (16 * f + 16) (omega arith) in
+      bool-cases (faceOff patches f) (λ e. rw e) (λ e. rw (e, short))
+
+  pub marks-on : f < length exact / 16 → firstMet (markedRows patches exact f n a b) ≡ firstMet (sampleRows patches f n a b)
+  unfolding marksOff
+  marks-on h =
+      let long = le-ltb (length exact) (16 * f + 16) (omega arith) in
+      bool-cases (faceOff patches f) (λ e. rw e) (λ e. rw (e, long))
+
+-- ---- the marks of a face
+-- the part that is handed on
+abbrev pub marksOf : List ℕ → ℕ → List ℕ
+marksOf exact f = take (16 * f + 16 - 16 * f) (drop (16 * f) exact)
+
+module _ (exact : List ℕ) (f : ℕ) (within : f < length exact / 16) where
+  marks-length : length (marksOf exact f) ≡ 16
+  marks-length = simp (length-take, length-drop) (omega arith)
+
+  marks-at : (i : ℕ) → i < 16 → getD (marksOf exact f) i 0 ≡ getD exact (16 * f + i) 0
+  marks-at i l = let q : i < 16 * f + 16 - 16 * f = omega arith in rw (getD-take, getD-drop)
+
+  pub marks-all : allBelow (λ i. eqb (getD (marksOf exact f) i 0) 1) (length (marksOf exact f)) ≡ patchMarked exact f
+  unfolding patchMarked
+  marks-all = rw marks-length (fold-ext true _&&_ 16 (λ i l. rw (marks-at i l)))
+
+-- ---- the answer, by the first cause met
+module _ (patches : List ℤ) (exact : List ℕ) (f n a b : ℕ) where
+  pub marked-refused : {k : ℕ} → firstMet (markedRows patches exact f n a b) ≡ some k → refusal k ≡ markedAnswer patches exact f n a b
+  unfolding markedAnswer
+  marked-refused e = rw e
+
+  pub marked-answered : firstMet (markedRows patches exact f n a b) ≡ none → f < length patches / 48 → f < length exact / 16
+      → {p : MarkedPoint} {e : Bool} → p ≡ pointOf (patchOf patches f) n a b
+      → e ≡ allBelow (λ i. eqb (getD (marksOf exact f) i 0) 1) (length (marksOf exact f))
+      → result (record { point = p .point; exact = e && p .exact }) ≡ markedAnswer patches exact f n a b
+  unfolding markedAnswer
+  marked-answered none-met listed within q h =
+      ap result
+      (same-marked
+      (ap (λ (p : MarkedPoint). p .point) q ∙ patch-point patches f listed n a b)
+      (ap₂ _&&_ (h ∙ marks-all exact f within) (ap (λ (p : MarkedPoint). p .exact) q ∙ patch-whole patches f listed n a b)))
+      ∙ rw none-met
