@@ -63,6 +63,38 @@ static void line(const int32_t *patches)
     expect("line beyond 3(N + 1)", points[3 * 3], 7);
 }
 
+/* The marked sample of the square at (a, 1), N = n, with these marks. */
+static uint8_t marked(const int32_t *patches, const uint8_t *exact, size_t exact_len, size_t n, size_t a, int32_t *x, uint8_t *mark)
+{
+    int32_t y = 0, z = 0;
+
+    return rusketja_marked_sample(patches, 48, exact, exact_len, 0, n, a, 1, x, &y, &z, mark);
+}
+
+/* The samples with b = 1, each with its mark: refused where there is a mark too few; exact with N = 2, not with N = 5, which does not divide
+ * 5376; and not where a byte is another than 1. */
+static void marks(const int32_t *patches, uint8_t *exact)
+{
+    int32_t x = 7;
+    uint8_t mark = 7;
+
+    expect("mark of b(1,1)", exact[5], 1);
+    expect("marks beyond 16F", exact[16], 7);
+    expect("marked, 15 marks", marked(patches, exact, 15, 2, 1, &x, &mark), 12);
+    expect("x after it", x, 7);
+    expect("mark after it", mark, 7);
+
+    expect("marked (1,1), N = 2", marked(patches, exact, 17, 2, 1, &x, &mark), 0);
+    expect("x", x, 2688);
+    expect("its mark", mark, 1);
+    expect("marked (1,1), N = 5", marked(patches, exact, 17, 5, 1, &x, &mark), 0);
+    expect("x", x, 1075);
+    expect("its mark", mark, 0);
+    exact[5] = 2;
+    expect("marked, a byte 2", marked(patches, exact, 17, 2, 1, &x, &mark), 0);
+    expect("its mark", mark, 0);
+}
+
 /* The mirror image of the square into these lists, tags_len tags among them. */
 static uint8_t mirror_into(int32_t *out_positions, uint8_t *out_tags, size_t tags_len, uint16_t *out_indices)
 {
@@ -73,26 +105,27 @@ static uint8_t mirror_into(int32_t *out_positions, uint8_t *out_tags, size_t tag
 static void mirror(void)
 {
     int32_t image[12] = {7, 7, 7, 7, 7, 7, 7, 7, 7, 7, 7, 7}, patches[48] = {0}, x = 0, y = 0, z = 0;
-    uint8_t marks[5] = {7, 7, 7, 7, 7};
+    uint8_t smooth[5] = {7, 7, 7, 7, 7}, exact[16] = {0};
     uint16_t corners[4] = {7, 7, 7, 7}, twins[4] = {0};
     size_t v = 0, f = 0, e = 0, b = 0;
 
-    expect("mirror, 5 tags", mirror_into(image, marks, 5, corners), 16);
+    expect("mirror, 5 tags", mirror_into(image, smooth, 5, corners), 16);
     expect("x of vertex 2 after it", image[3 * 2], 7);
-    expect("tag of vertex 2 after it", marks[2], 7);
+    expect("tag of vertex 2 after it", smooth[2], 7);
     expect("corner 2 after it", corners[2], 7);
 
-    expect("mirror", mirror_into(image, marks, 4, corners), 0);
+    expect("mirror", mirror_into(image, smooth, 4, corners), 0);
     expect("x of vertex 2", image[3 * 2], -21);
     expect("y of vertex 2", image[3 * 2 + 1], 21);
     expect("z of vertex 2", image[3 * 2 + 2], 0);
-    expect("tag of vertex 2", marks[2], 0);
+    expect("tag of vertex 2", smooth[2], 0);
     expect("corner 0", corners[0], 0);
     expect("corner 1", corners[1], 3);
     expect("corner 2", corners[2], 2);
     expect("corner 3", corners[3], 1);
 
-    expect("patches of the image", rusketja_patches(4, 1, image, 12, marks, 4, corners, 4, twins, 4, patches, 48, &v, &f, &e, &b), 0);
+    expect("patches of the image",
+        rusketja_patches(4, 1, image, 12, smooth, 4, corners, 4, twins, 4, patches, 48, exact, 16, &v, &f, &e, &b), 0);
     expect("sample (0,1), N = 2", rusketja_sample(patches, 48, 0, 2, 0, 1, &x, &y, &z), 0);
     expect("x", x, -2688);
     expect("y", y, 0);
@@ -149,11 +182,12 @@ int main(void)
 {
     uint16_t twins[5] = {7, 7, 7, 7, 7};
     int32_t patches[49] = {0};
+    uint8_t exact[17] = {0};
     size_t v = 0, f = 0, e = 0, b = 0, first = 0;
     int32_t x = 0, y = 0, z = 0;
     double rx = 0, ry = 0, rz = 0;
 
-    patches[48] = 7;
+    patches[48] = exact[16] = 7;
     expect("check", rusketja_check(4, 1, positions, 12, tags, 4, indices, 4, twins, 5, &v, &f, &e, &b), 0);
     expect_size("V", v, 4);
     expect_size("F", f, 1);
@@ -167,7 +201,9 @@ int main(void)
     expect_size("V after it", v, 9);
     expect("check, 3 twins", rusketja_check(4, 1, positions, 12, tags, 4, indices, 4, twins, 3, &v, &f, &e, &b), 2);
 
-    expect("patches", rusketja_patches(4, 1, positions, 12, tags, 4, indices, 4, twins, 5, patches, 49, &v, &f, &e, &b), 0);
+    expect("patches, 15 marks",
+        rusketja_patches(4, 1, positions, 12, tags, 4, indices, 4, twins, 5, patches, 49, exact, 15, &v, &f, &e, &b), 2);
+    expect("patches", rusketja_patches(4, 1, positions, 12, tags, 4, indices, 4, twins, 5, patches, 49, exact, 17, &v, &f, &e, &b), 0);
     expect_size("E", e, 4);
     expect("b(1,0) x", patches[3 * 1], 1792);
     expect("b(1,1) y", patches[3 * 5 + 1], 1792);
@@ -188,6 +224,7 @@ int main(void)
     expect_micrometres("z in micrometres", rz, 0);
 
     line(patches);
+    marks(patches, exact);
 
     first = 9;
     expect_size("corners of face 1", rusketja_face_corners(indices, 4, 1, &first), 0);

@@ -6,7 +6,7 @@
  *
  * - A list is passed as a pointer to its first element and its length, which counts elements. The pointer is not null and is
  *   aligned, also where the length is 0, and that many elements may be read (and written, where it is not const).
- * - A pointer to a single number (a count, a coordinate, a place) is not null and is aligned, and the number may be read and written,
+ * - A pointer to a single number (a count, a coordinate, a place, a mark) is not null and is aligned, and the number may be read and written,
  *   also where the call leaves it alone.
  * - No two things that a call is handed overlap, where the call writes one of them.
  *
@@ -28,6 +28,7 @@
  *     indices    4F      the vertices of face f at 4f to 4f + 3, counterclockwise
  *     twins      4F      at least; place 4f + s is that of the half-edge from corner s of face f to the next corner
  *     patches   48F      at least; coordinate k of control point i + 4j of face f at 48f + 3(i + 4j) + k, in 1/256 micrometre
+ *     exact     16F      at least; the mark of control point i + 4j of face f at 16f + i + 4j: 1 where rounding left nothing, else 0
  *     line     3(n + 1)  at least; x, y, z of the sample at (a, b), for one b, at 3a, 3a + 1, 3a + 2, in 1/256 micrometre
  *     tangents   72      x, y, z of u(i, j) from 3(i + 3j) on, of v(i, j) from 3(12 + i + 4j) on, in 1/256 micrometre
  *
@@ -40,7 +41,7 @@
  * nothing:
  *
  *      1  V is not from 4 to 512, F is not from 1 to 256, or positions, tags or indices has another length than 3V, V, 4F
- *      2  twins is shorter than 4F, or patches, where the call writes it, than 48F
+ *      2  twins is shorter than 4F, or, where the call writes them, patches than 48F or exact than 16F
  *      3  a coordinate is not from -1048576 to 1048576
  *      4  a tag is above 1
  *      5  a face names a vertex of V or above
@@ -50,7 +51,7 @@
  *      9  the corners at a vertex form neither one closed turn nor one chain
  *     10  an inner vertex has fewer than 3 or more than 16 faces, or a boundary vertex more than 8
  *     11  an inner vertex is tagged 1
- *     12  patches is shorter than 48f + 48; for tangents, face g is F or above
+ *     12  patches is shorter than 48f + 48, or exact, where the call takes it, than 16f + 16; for tangents, face g is F or above
  *     13  a control value of face f is beyond 268435456 either way
  *     14  n is not from 1 to 32, or a or b is above n (a where the call is passed one)
  *     16  out_positions has another length than positions, out_tags than tags, or out_indices than indices
@@ -69,14 +70,18 @@
 extern "C" {
 #endif
 
-/* The version of these calls: a landing raises it where a prototype changes. */
-#define RUSKETJA_VERSION 1
+/* The version of these calls: a landing raises it by 1 where a prototype changes, and leaves it where calls are only added. From 1 to 2,
+ * rusketja_patches was given the list exact. */
+#define RUSKETJA_VERSION 2
 
 /* The twin of a boundary half-edge, which has none. */
 #define RUSKETJA_NO_TWIN 65535
 
 /* The control values of one face. */
 #define RUSKETJA_PATCH_VALUES 48
+
+/* The marks of one face, one for each control point. */
+#define RUSKETJA_PATCH_MARKS 16
 
 /* The numbers of the tangent vectors of one face: 24 vectors of three coordinates. */
 #define RUSKETJA_TANGENT_VALUES 72
@@ -105,11 +110,13 @@ uint8_t rusketja_check(
 /* The bicubic patches of a mesh of v vertices and f faces, which is checked first.
  *
  * Returns: 0 for an accepted mesh, or the number of the refusal.
- * Writes: accepted, the patch of each face g into places 48g to 48g + 47 of patches; twins and the four counts as
+ * Writes: accepted, the patch of each face g into places 48g to 48g + 47 of patches, and its marks into places 16g to 16g + 15 of exact:
+ *     for control point i + 4j the byte 1 where rounding left nothing in x, y and z, else 0; twins and the four counts as
  *     rusketja_check does.
- * Leaves alone: patches from place 48f on; all of patches after a refusal; twins and the four counts as rusketja_check does.
- * Refuses: 1 to 11, in this order; 2 also where patches is shorter than 48f.
- * Lengths: positions 3v, tags v, indices 4f; twins 4f or more, patches 48f or more.
+ * Leaves alone: patches from place 48f on, and exact from place 16f on; all of both after a refusal; twins and the four counts as
+ *     rusketja_check does.
+ * Refuses: 1 to 11, in this order; 2 also where patches is shorter than 48f, or exact than 16f.
+ * Lengths: positions 3v, tags v, indices 4f; twins 4f or more, patches 48f or more, exact 16f or more.
  * Units: positions in micrometres, patches in 1/256 micrometre, each rounded once to the nearest, halves to the even one. */
 uint8_t rusketja_patches(
     size_t v,
@@ -119,6 +126,7 @@ uint8_t rusketja_patches(
     const uint16_t *indices, size_t indices_len,
     uint16_t *twins, size_t twins_len,
     int32_t *patches, size_t patches_len,
+    uint8_t *exact, size_t exact_len,
     size_t *vertices,
     size_t *faces,
     size_t *edges,
@@ -141,6 +149,28 @@ uint8_t rusketja_sample(
     int32_t *x,
     int32_t *y,
     int32_t *z);
+
+/* The sample of face f at (a, b) of n by n steps, and whether it is exact. Where one call of rusketja_patches wrote both lists, and
+ * nothing has been written to them since, a sample marked 1 is a point of the exact surface itself, and not only near it (rule C12).
+ *
+ * Returns: 0, or the number of the refusal.
+ * Writes: the sample into *x, *y and *z, as rusketja_sample does; its mark into *mark: 1 where the sixteen marks of face f are all 1 and
+ *     the sample's own rounding left nothing in x, y and z, else 0.
+ * Leaves alone: *x, *y, *z and *mark after a refusal.
+ * Refuses: 12, 13, 14, in this order; 12 also where exact is shorter than 16f + 16.
+ * Lengths: patches as rusketja_sample; exact 16f + 16 or more, of which the 16 bytes from place 16f on are read.
+ * Units: as rusketja_sample. */
+uint8_t rusketja_marked_sample(
+    const int32_t *patches, size_t patches_len,
+    const uint8_t *exact, size_t exact_len,
+    size_t f,
+    size_t n,
+    size_t a,
+    size_t b,
+    int32_t *x,
+    int32_t *y,
+    int32_t *z,
+    uint8_t *mark);
 
 /* The sample of face f at (a, b) of n by n steps, in micrometres.
  *

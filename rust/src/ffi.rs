@@ -31,6 +31,8 @@ extern "C" {
         twins_len: usize,
         patches: *mut i32,
         patches_len: usize,
+        exact: *mut u8,
+        exact_len: usize,
         vertices: &mut usize,
         faces: &mut usize,
         edges: &mut usize,
@@ -47,6 +49,21 @@ extern "C" {
         x: &mut i32,
         y: &mut i32,
         z: &mut i32,
+    ) -> u8;
+
+    pub fn rusketja_marked_sample(
+        patches: *const i32,
+        patches_len: usize,
+        exact: *const u8,
+        exact_len: usize,
+        f: usize,
+        n: usize,
+        a: usize,
+        b: usize,
+        x: &mut i32,
+        y: &mut i32,
+        z: &mut i32,
+        mark: &mut u8,
     ) -> u8;
 
     pub fn rusketja_reading(

@@ -8,7 +8,7 @@
 //! 4f + s runs from corner s of face f to the next corner. Rules are those of `docs/SPECIFICATION.md`.
 //!
 //! ```
-//! use rusketja::{patches, reading, sample, sample_line, Counts, Mesh};
+//! use rusketja::{marked_sample, patches, reading, sample, sample_line, Counts, Mesh};
 //!
 //! // The square of rule X1: four vertices in micrometres, one face.
 //! let square = Mesh {
@@ -20,10 +20,14 @@
 //! };
 //! let mut twins = [0; 4];
 //! let mut controls = [0; 48];
-//! let counts = patches(&square, &mut twins, &mut controls)?;
+//! let mut exact = [0; 16];
+//! let counts = patches(&square, &mut twins, &mut controls, &mut exact)?;
 //! assert_eq!(counts, Counts { vertices: 4, faces: 1, edges: 4, boundary: 4 });
 //! assert_eq!(sample(&controls, 0, 2, 1, 1)?, [2688, 2688, 0]);
 //! assert_eq!(reading(&controls, 0, 2, 1, 1)?, [10.5, 10.5, 0.0]);
+//!
+//! // Nothing was rounded on the way to this sample.
+//! assert!(marked_sample(&controls, &exact, 0, 2, 1, 1)?.exact);
 //!
 //! // All samples with b = 1, by one call.
 //! let mut line = [0; 9];
@@ -36,9 +40,11 @@
 #![warn(missing_docs)]
 
 mod ffi;
+mod marked;
 mod refusal;
 mod tangent;
 
+pub use marked::{marked_sample, MarkedPoint};
 pub use refusal::Refusal;
 pub use tangent::{tangents, Tangents, TANGENT_VALUES};
 
@@ -47,6 +53,9 @@ pub const NO_TWIN: u16 = 65535;
 
 /// The control values of one face: sixteen points of three coordinates.
 pub const PATCH_VALUES: usize = 48;
+
+/// The marks of one face: one for each control point.
+pub const PATCH_MARKS: usize = 16;
 
 /// A mesh as it is handed to [`check`], [`patches`], [`mirror`] and [`tangents()`]: any sizes and lists, which are checked there.
 #[derive(Clone, Copy, Debug)]
@@ -133,13 +142,14 @@ pub fn check(mesh: &Mesh, twins: &mut [u16]) -> Result<Counts, Refusal> {
     accepted(code, counts)
 }
 
-/// Writes the bicubic patches of a mesh, which is checked first.
+/// Writes the bicubic patches of a mesh, which is checked first, and a mark for each control point: whether it is exact.
 ///
 /// - Returns the counts of an accepted mesh, as [`check`] does.
 /// - Writes the patch of each face f into places 48f to 48f + 47 of `patches`, in 1/256 micrometre: point i + 4j of the net, where i
-///   counts along u, as x, y, z, each rounded once with ties to even. Writes `twins` as [`check`] does.
-/// - Leaves alone `patches` from 48F on, and all of it after a refusal; `twins` as [`check`] does.
-/// - Refuses 1 to 11, in this order; 2 is a `twins` shorter than 4F or a `patches` shorter than 48F.
+///   counts along u, as x, y, z, each rounded once with ties to even. Writes the marks of face f into places 16f to 16f + 15 of `exact`:
+///   for point i + 4j the byte 1 where rounding left nothing in x, y and z, else 0. Writes `twins` as [`check`] does.
+/// - Leaves alone `patches` from 48F on and `exact` from 16F on, and all of both after a refusal; `twins` as [`check`] does.
+/// - Refuses 1 to 11, in this order; 2 is a `twins` shorter than 4F, a `patches` shorter than 48F or an `exact` shorter than 16F.
 ///
 /// ```
 /// use rusketja::{patches, Mesh};
@@ -151,15 +161,21 @@ pub fn check(mesh: &Mesh, twins: &mut [u16]) -> Result<Counts, Refusal> {
 ///     tags: &[0; 4],
 ///     indices: &[0, 1, 2, 3],
 /// };
-/// let mut controls = [0; 48];
-/// patches(&square, &mut [0; 4], &mut controls)?;
+/// let (mut controls, mut exact) = ([0; 48], [7; 17]);
+/// patches(&square, &mut [0; 4], &mut controls, &mut exact)?;
 /// // b(1,0), b(1,1) and b(2,1)
 /// assert_eq!(controls[3..6], [1792, 0, 0]);
 /// assert_eq!(controls[15..18], [1792, 1792, 0]);
 /// assert_eq!(controls[18..21], [3584, 1792, 0]);
+/// assert_eq!(exact, [1, 1, 1, 1, 1, 1, 1, 1, 1, 1, 1, 1, 1, 1, 1, 1, 7]);
+///
+/// // Of a side of 20 micrometres a third is no whole number of 1/256 micrometre.
+/// let rounded = Mesh { positions: &[0, 0, 0, 20, 0, 0, 20, 21, 0, 0, 21, 0], ..square };
+/// patches(&rounded, &mut [0; 4], &mut controls, &mut exact)?;
+/// assert_eq!(exact, [1, 0, 0, 1, 1, 0, 0, 1, 1, 0, 0, 1, 1, 0, 0, 1, 7]);
 /// # Ok::<(), rusketja::Refusal>(())
 /// ```
-pub fn patches(mesh: &Mesh, twins: &mut [u16], patches: &mut [i32]) -> Result<Counts, Refusal> {
+pub fn patches(mesh: &Mesh, twins: &mut [u16], patches: &mut [i32], exact: &mut [u8]) -> Result<Counts, Refusal> {
     let mut counts = Counts::default();
     // SAFETY: each pointer and length are those of one slice, and what is written overlaps nothing, as it is borrowed mutably.
     let code = unsafe {
@@ -176,6 +192,8 @@ pub fn patches(mesh: &Mesh, twins: &mut [u16], patches: &mut [i32]) -> Result<Co
             twins.len(),
             patches.as_mut_ptr(),
             patches.len(),
+            exact.as_mut_ptr(),
+            exact.len(),
             &mut counts.vertices,
             &mut counts.faces,
             &mut counts.edges,
@@ -202,7 +220,7 @@ pub fn patches(mesh: &Mesh, twins: &mut [u16], patches: &mut [i32]) -> Result<Co
 ///     indices: &[0, 1, 2, 3],
 /// };
 /// let mut controls = [0; 48];
-/// patches(&square, &mut [0; 4], &mut controls)?;
+/// patches(&square, &mut [0; 4], &mut controls, &mut [0; 16])?;
 /// assert_eq!(sample(&controls, 0, 2, 1, 0), Ok([2688, 0, 0]));
 /// assert_eq!(sample(&controls, 1, 2, 1, 0), Err(Refusal(12)));
 /// assert_eq!(sample(&controls, 0, 2, 3, 0), Err(Refusal(14)));
@@ -233,7 +251,7 @@ pub fn sample(patches: &[i32], face: usize, n: usize, a: usize, b: usize) -> Res
 ///     indices: &[0, 1, 2, 3],
 /// };
 /// let mut controls = [0; 48];
-/// patches(&square, &mut [0; 4], &mut controls)?;
+/// patches(&square, &mut [0; 4], &mut controls, &mut [0; 16])?;
 /// assert_eq!(reading(&controls, 0, 2, 1, 0)?, [10.5, 0.0, 0.0]);
 /// # Ok::<(), rusketja::Refusal>(())
 /// ```
@@ -264,7 +282,7 @@ pub fn reading(patches: &[i32], face: usize, n: usize, a: usize, b: usize) -> Re
 ///     indices: &[0, 1, 2, 3],
 /// };
 /// let mut controls = [0; 48];
-/// patches(&square, &mut [0; 4], &mut controls)?;
+/// patches(&square, &mut [0; 4], &mut controls, &mut [0; 16])?;
 ///
 /// let mut line = [7; 10];
 /// assert_eq!(sample_line(&controls, 0, 2, 1, &mut line[..8]), Err(Refusal(17)));
@@ -320,8 +338,8 @@ pub fn sample_line<'a>(
 ///
 /// let image = Mesh { positions: &positions, tags: &tags, indices: &indices, ..square };
 /// let (mut controls, mut mirrored) = ([0; 48], [0; 48]);
-/// patches(&square, &mut [0; 4], &mut controls)?;
-/// patches(&image, &mut [0; 4], &mut mirrored)?;
+/// patches(&square, &mut [0; 4], &mut controls, &mut [0; 16])?;
+/// patches(&image, &mut [0; 4], &mut mirrored, &mut [0; 16])?;
 /// assert_eq!(sample(&controls, 0, 2, 1, 0)?, [2688, 0, 0]);
 /// assert_eq!(sample(&mirrored, 0, 2, 0, 1)?, [-2688, 0, 0]);
 /// # Ok::<(), Refusal>(())
@@ -441,13 +459,15 @@ mod tests {
     fn empty_lists_and_the_largest_numbers_are_refused() {
         let none = Mesh { vertices: usize::MAX, faces: usize::MAX, positions: &[], tags: &[], indices: &[] };
         assert_eq!(check(&none, &mut []), Err(Refusal(1)));
-        assert_eq!(patches(&none, &mut [], &mut []), Err(Refusal(1)));
+        assert_eq!(patches(&none, &mut [], &mut [], &mut []), Err(Refusal(1)));
         assert_eq!(mirror(&none, &mut [], &mut [], &mut []), Err(Refusal(1)));
         assert_eq!(tangents(&none, usize::MAX, &mut []), Err(Refusal(1)));
         assert_eq!(check(&SQUARE, &mut []), Err(Refusal(2)));
-        assert_eq!(patches(&SQUARE, &mut [0; 4], &mut [0; 47]), Err(Refusal(2)));
+        assert_eq!(patches(&SQUARE, &mut [0; 4], &mut [0; 47], &mut [0; 16]), Err(Refusal(2)));
+        assert_eq!(patches(&SQUARE, &mut [0; 4], &mut [0; 48], &mut [0; 15]), Err(Refusal(2)));
         assert_eq!(sample(&[], 0, 1, 0, 0), Err(Refusal(12)));
         assert_eq!(reading(&[0; 48], usize::MAX, 1, 0, 0), Err(Refusal(12)));
+        assert_eq!(marked_sample(&[], &[], usize::MAX, usize::MAX, usize::MAX, 0), Err(Refusal(12)));
         assert_eq!(sample(&[268_435_457; 48], 0, 1, 0, 0), Err(Refusal(13)));
         assert_eq!(reading(&[0; 48], 0, usize::MAX, 0, 0), Err(Refusal(14)));
         assert_eq!(sample_line(&[], usize::MAX, usize::MAX, usize::MAX, &mut []), Err(Refusal(12)));
@@ -466,18 +486,24 @@ mod tests {
     fn lent_lists_are_left_alone_beyond_their_ends_and_after_a_refusal() {
         let mut twins = [7; 6];
         let mut controls = [7; 50];
+        let mut exact = [7; 18];
         let sizes = Mesh { vertices: 3, ..SQUARE };
-        assert_eq!(patches(&sizes, &mut twins, &mut controls), Err(Refusal(1)));
-        assert_eq!((twins, controls), ([7; 6], [7; 50]));
-        assert!(patches(&SQUARE, &mut twins, &mut controls).is_ok());
+        assert_eq!(patches(&sizes, &mut twins, &mut controls, &mut exact), Err(Refusal(1)));
+        assert_eq!(patches(&SQUARE, &mut twins, &mut controls, &mut exact[..15]), Err(Refusal(2)));
+        assert_eq!((twins, controls, exact), ([7; 6], [7; 50], [7; 18]));
+        assert!(patches(&SQUARE, &mut twins, &mut controls, &mut exact).is_ok());
         assert_eq!(twins, [NO_TWIN, NO_TWIN, NO_TWIN, NO_TWIN, 7, 7]);
         assert_eq!(controls[PATCH_VALUES..], [7, 7]);
-        // A vertex in no face: the twins are cleared, the patches are as they were.
-        let written = controls;
+        assert_eq!(exact[..PATCH_MARKS], [1; 16]);
+        assert_eq!(exact[PATCH_MARKS..], [7, 7]);
+        // A vertex in no face: the twins are cleared, the patches and their marks are as they were.
+        exact[3] = 9;
+        let written = (controls, exact);
         let unused = Mesh { vertices: 5, positions: &[0; 15], tags: &[0; 5], ..SQUARE };
         twins = [7; 6];
-        assert_eq!(patches(&unused, &mut twins, &mut controls), Err(Refusal(8)));
-        assert_eq!((twins, controls), ([NO_TWIN, NO_TWIN, NO_TWIN, NO_TWIN, 7, 7], written));
+        assert_eq!(patches(&unused, &mut twins, &mut controls, &mut exact), Err(Refusal(8)));
+        assert_eq!(twins, [NO_TWIN, NO_TWIN, NO_TWIN, NO_TWIN, 7, 7]);
+        assert_eq!((controls, exact), written);
     }
 
     /// The refusal of a line on a list of so many places, each 7 before and after.

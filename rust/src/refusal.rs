@@ -8,7 +8,7 @@ use std::fmt;
 /// | number | cause |
 /// |---|---|
 /// | 1 | V is not from 4 to 512, F is not from 1 to 256, or a list of the mesh has another length than 3V, V or 4F |
-/// | 2 | a lent list is too short: 4F twins, 48F control values |
+/// | 2 | a lent list is too short: 4F twins, 48F control values, 16F marks |
 /// | 3 | a coordinate is not from -1,048,576 to 1,048,576 |
 /// | 4 | a tag is above 1 |
 /// | 5 | a face names a vertex of V or above |
@@ -18,7 +18,7 @@ use std::fmt;
 /// | 9 | the corners at a vertex form neither one closed turn nor one chain |
 /// | 10 | an inner vertex has less than 3 or more than 16 faces, or a boundary vertex more than 8 |
 /// | 11 | an inner vertex is tagged 1 |
-/// | 12 | the patch list ends before the patch of the face: it is shorter than 48f + 48; for tangents, the face is F or above |
+/// | 12 | the patch list ends before the patch of the face, shorter than 48f + 48, or the list of marks before its marks, shorter than 16f + 16; for tangents, the face is F or above |
 /// | 13 | a control value of the face is beyond 268,435,456 either way |
 /// | 14 | n is not from 1 to 32, or a or b is above n (a where the function is passed one) |
 /// | 16 | a list to be written, `out_positions`, `out_tags` or `out_indices`, is not as long as that list of the mesh |
@@ -44,7 +44,7 @@ impl Refusal {
             9 => "the corners at a vertex are not one fan, closed or open",
             10 => "a vertex has too few or too many faces",
             11 => "an inner vertex is tagged as a corner",
-            12 => "the patch list, or the mesh, has no such face",
+            12 => "the patch list, the list of marks, or the mesh, has no such face",
             13 => "a control value is beyond its limit",
             14 => "the number of steps is off its range, or a place is beyond it",
             16 => "a list to be written is not as long as that list of the mesh",

@@ -19,7 +19,7 @@ fn library_sample(patches: &[i32], face: usize, n: usize, a: usize, b: usize) ->
     rusketja::sample(patches, face, n, a, b).unwrap_or_else(refused)
 }
 
-fn common_multiple(points: &[Fraction; 16]) -> i128 {
+pub fn common_multiple(points: &[Fraction; 16]) -> i128 {
     fn common_divisor(a: i128, b: i128) -> i128 {
         if b == 0 {
             a
@@ -55,7 +55,7 @@ pub fn distance(mesh: &Model, patches: &[i32], n: usize, random: &mut Random, ta
 }
 
 /// The exact surface times 256, N^6 and the common multiple.
-fn exact(points: &[Fraction; 16], multiple: i128, n: usize, a: usize, b: usize, x: usize) -> i128 {
+pub fn exact(points: &[Fraction; 16], multiple: i128, n: usize, a: usize, b: usize, x: usize) -> i128 {
     let (along_u, along_v) = (weights(n, a), weights(n, b));
     let term = |number: usize| {
         let weight = along_u[number % 4] * along_v[number / 4];
@@ -88,12 +88,18 @@ pub fn seam(mesh: &Model, patches: &[i32], n: usize, random: &mut Random, tally:
     }
 }
 
-/// The patch list of the library for a mesh that must be accepted.
-pub fn library_patches(mesh: &Model) -> Vec<i32> {
+/// The patch list and the marks of the library for a mesh that must be accepted.
+pub fn library_marks(mesh: &Model) -> (Vec<i32>, Vec<u8>) {
     let (mut twins, mut patches) = (vec![0; 4 * mesh.faces], vec![0; 48 * mesh.faces]);
+    let mut exact = vec![7; 16 * mesh.faces];
     let refused = |refusal: rusketja::Refusal| panic!("an accepted mesh is refused with {}", refusal.0);
-    rusketja::patches(&mesh.lend(), &mut twins, &mut patches).unwrap_or_else(refused);
-    patches
+    rusketja::patches(&mesh.lend(), &mut twins, &mut patches, &mut exact).unwrap_or_else(refused);
+    (patches, exact)
+}
+
+/// The patch list alone.
+pub fn library_patches(mesh: &Model) -> Vec<i32> {
+    library_marks(mesh).0
 }
 
 /// The samples of the renumbered mesh at matching places.

@@ -11,24 +11,32 @@ use std::ops::Range;
 pub struct Lent {
     pub twins: Vec<u16>,
     pub patches: Vec<i32>,
+    pub exact: Vec<u8>,
 }
 
 impl Lent {
     /// Lists of these lengths.
-    pub fn filled(twins: usize, patches: usize, random: &mut Random) -> Lent {
+    pub fn filled([twins, patches, exact]: [usize; 3], random: &mut Random) -> Lent {
         let twins = (0..twins).map(|_| random.next() as u16).collect();
         let patches = (0..patches).map(|_| random.next() as i32).collect();
-        Lent { twins, patches }
+        let exact = (0..exact).map(|_| random.next() as u8).collect();
+        Lent { twins, patches, exact }
+    }
+
+    /// The length of each list, and the places that a face takes up in it.
+    pub fn lengths(&self) -> [(usize, usize); 3] {
+        [(self.twins.len(), 4), (self.patches.len(), 48), (self.exact.len(), 16)]
     }
 
     /// Lists that are long enough, or longer, where F is in its range.
     pub fn enough(mesh: &Model, random: &mut Random) -> Lent {
         let faces = mesh.faces.min(256);
         let (more, more_patches) = (random.pick(&[0, 0, 1, 4, 9]), random.pick(&[0, 0, 1, 48, 50]));
-        Lent::filled(4 * faces + more, 48 * faces + more_patches, random)
+        let more_exact = random.pick(&[0, 0, 1, 15, 16, 17]);
+        Lent::filled([4 * faces + more, 48 * faces + more_patches, 16 * faces + more_exact], random)
     }
 
-    /// Lists of which one or both may be too short.
+    /// Lists of which some or all may be too short.
     pub fn any(mesh: &Model, random: &mut Random) -> Lent {
         let faces = mesh.faces.min(256);
         let any = |whole: usize, random: &mut Random| match random.below(4) {
@@ -37,7 +45,7 @@ impl Lent {
             2 => random.below(whole + 1),
             _ => whole + random.below(60),
         };
-        Lent::filled(any(4 * faces, random), any(48 * faces, random), random)
+        Lent::filled([4, 48, 16].map(|places| any(places * faces, random)), random)
     }
 }
 
@@ -57,8 +65,8 @@ fn same<T: PartialEq + std::fmt::Debug>(what: &str, library: &[T], document: &[T
     }
 }
 
-/// The check and the patch call on these lists; the patch list of an accepted mesh.
-pub fn mesh_calls(mesh: &Model, lent: &Lent, tally: &mut Tally) -> Option<Vec<i32>> {
+/// The check and the patch call on these lists; what the patch call left in those of an accepted mesh.
+pub fn mesh_calls(mesh: &Model, lent: &Lent, tally: &mut Tally) -> Option<Lent> {
     let before = mesh.clone();
     let (answer, twins_after) = document::check(mesh, &lent.twins);
     let mut twins = lent.twins.clone();
@@ -66,20 +74,23 @@ pub fn mesh_calls(mesh: &Model, lent: &Lent, tally: &mut Tally) -> Option<Vec<i3
     same("mates after the check", &twins, &twins_after);
     tally.check[answer.err().unwrap_or(0) as usize] += 1;
 
-    let (answer, twins_after, patches_after) = document::patches(mesh, &lent.twins, &lent.patches);
-    let Lent { mut twins, mut patches } = lent.clone();
+    let (answer, after) = document::patches(mesh, lent);
+    let mut lists = lent.clone();
     assert_eq!(
-        four(rusketja::patches(&mesh.lend(), &mut twins, &mut patches)),
+        four(rusketja::patches(&mesh.lend(), &mut lists.twins, &mut lists.patches, &mut lists.exact)),
         answer,
         "the patch call's answer, left: library"
     );
-    same("mates after the patch call", &twins, &twins_after);
-    same("patch list after the patch call", &patches, &patches_after);
+    same("mates after the patch call", &lists.twins, &after.twins);
+    same("patch list after the patch call", &lists.patches, &after.patches);
+    same("marks after the patch call", &lists.exact, &after.exact);
     assert!(*mesh == before, "a list of the mesh was written");
-    tally.causes(&document::causes(mesh, Some(twins.len()), Some(patches.len())));
+    tally.causes(&document::causes(mesh, &lent.lengths()), lent, mesh.faces);
     tally.patches[answer.err().unwrap_or(0) as usize] += 1;
-    tally.control_values += answer.map_or(0, |[_, faces, _, _]| 48 * faces as u64);
-    answer.is_ok().then_some(patches)
+    let faces = answer.map_or(0, |[_, faces, _, _]| faces);
+    tally.control_values += 48 * faces as u64;
+    lists.exact[..16 * faces].iter().for_each(|&mark| tally.marks[mark as usize] += 1);
+    answer.is_ok().then_some(lists)
 }
 
 /// The mirror call with the lists of another mesh to write.

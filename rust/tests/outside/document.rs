@@ -1,6 +1,7 @@
 //! The rules of docs/SPECIFICATION.md, one by one, in exact fractions: slow and plain. Written from the user's documents alone, not
 //! from that page, and so in the user's words: a side is a half-edge, a mate a twin, the rim the boundary, a patch number a control value.
 
+use crate::compare::Lent;
 use crate::model::Model;
 use std::collections::BTreeSet;
 
@@ -29,6 +30,11 @@ impl Fraction {
     /// Its three numbers, each rounded.
     pub fn nearest(&self) -> [i32; 3] {
         self.over.map(|over| nearest(over, self.divisor) as i32)
+    }
+
+    /// Whether its three numbers, each times a factor, are whole.
+    pub fn whole(&self, factor: i128) -> bool {
+        self.over.iter().all(|over| factor * over % self.divisor == 0)
     }
 }
 
@@ -237,18 +243,17 @@ fn off_range(ring: Ring) -> bool {
     }
 }
 
-/// The first cause met in the order of the numbers; twins and patches have the lengths of those lists where one is lent.
-pub fn refusal(mesh: &Model, twins: Option<usize>, patches: Option<usize>) -> Option<u8> {
-    causes(mesh, twins, patches).first().copied()
+/// The first cause met in the order of the numbers; of each list that is lent, its length and the places that a face takes up in it.
+pub fn refusal(mesh: &Model, lent: &[(usize, usize)]) -> Option<u8> {
+    causes(mesh, lent).first().copied()
 }
 
 /// The causes met, in the order of the numbers, as far as they can be told: nothing after 1, no 7 to 11 after 5, nothing after 7.
-pub fn causes(mesh: &Model, twins: Option<usize>, patches: Option<usize>) -> Vec<u8> {
+pub fn causes(mesh: &Model, lent: &[(usize, usize)]) -> Vec<u8> {
     if sizes_wrong(mesh) {
         return vec![1];
     }
-    let below = |length: Option<usize>, places: usize| length.is_some_and(|length| length < places * mesh.faces);
-    let short = below(twins, 4) || below(patches, 48);
+    let short = lent.iter().any(|&(length, places)| length < places * mesh.faces);
     let coordinate_off = mesh.positions.iter().any(|x| !(-1_048_576..=1_048_576).contains(x));
     let tag_off = mesh.tags.iter().any(|&tag| tag > 1);
     let vertex_off = mesh.indices.iter().any(|&p| p as usize >= mesh.vertices);
@@ -280,9 +285,9 @@ fn causes_of_surface(surface: &Surface) -> Vec<u8> {
 }
 
 /// What a call answers and what it leaves in the list of mates, given what was there before.
-fn answer(mesh: &Model, twins: &[u16], patches: Option<usize>) -> (Result<Four, u8>, Vec<u16>) {
+fn answer(mesh: &Model, twins: &[u16], lent: &[(usize, usize)]) -> (Result<Four, u8>, Vec<u16>) {
     let mut after = twins.to_vec();
-    if let Some(number) = refusal(mesh, Some(twins.len()), patches) {
+    if let Some(number) = refusal(mesh, lent) {
         if number >= 8 {
             after[..4 * mesh.faces].fill(RIM);
         }
@@ -296,24 +301,25 @@ fn answer(mesh: &Model, twins: &[u16], patches: Option<usize>) -> (Result<Four, 
 }
 
 pub fn check(mesh: &Model, twins: &[u16]) -> (Result<Four, u8>, Vec<u16>) {
-    answer(mesh, twins, None)
+    answer(mesh, twins, &[(twins.len(), 4)])
 }
 
-/// The answer of the patch call, the mates and the patch list afterwards.
-pub fn patches(mesh: &Model, twins: &[u16], patches: &[i32]) -> (Result<Four, u8>, Vec<u16>, Vec<i32>) {
-    let (answer, twins) = answer(mesh, twins, Some(patches.len()));
-    let mut after = patches.to_vec();
+/// The answer of the patch call, and the mates, the patch list and the marks afterwards.
+pub fn patches(mesh: &Model, lent: &Lent) -> (Result<Four, u8>, Lent) {
+    let (answer, twins) = answer(mesh, &lent.twins, &lent.lengths());
+    let mut after = Lent { twins, ..lent.clone() };
     if answer.is_ok() {
         let surface = Surface::new(mesh);
         for face in 0..mesh.faces {
             for (number, point) in surface.patch(face).iter().enumerate() {
                 for x in 0..3 {
-                    after[48 * face + 3 * number + x] = nearest(256 * point.over[x], point.divisor) as i32;
+                    after.patches[48 * face + 3 * number + x] = nearest(256 * point.over[x], point.divisor) as i32;
                 }
+                after.exact[16 * face + number] = point.whole(256) as u8;
             }
         }
     }
-    (answer, twins, after)
+    (answer, after)
 }
 
 /// The other foot: every vertex with x negated, every face from its first corner backwards.
@@ -325,7 +331,7 @@ fn mirrored(mesh: &Model) -> Model {
 
 /// The causes that the mirror meets, those of the mesh and then 16, and its lent lists afterwards.
 pub fn mirror(mesh: &Model, lent: &Model) -> (Vec<u8>, Model) {
-    let mut met = causes(mesh, None, None);
+    let mut met = causes(mesh, &[]);
     if lent.lengths() != mesh.lengths() {
         met.push(16);
     }
@@ -365,6 +371,24 @@ pub fn sample_fraction(patches: &[i32], face: usize, n: usize, a: usize, b: usiz
         }
     }
     Fraction { over, divisor: (n as i128).pow(6) }
+}
+
+/// A sample with its mark, or the first of 12, 13 and 14 that is met: the face has sixteen marks, all of them 1, and the fraction is whole.
+pub fn marked_sample(
+    patches: &[i32],
+    exact: &[u8],
+    face: usize,
+    n: usize,
+    a: usize,
+    b: usize,
+) -> Result<([i32; 3], bool), u8> {
+    let missing = 16 * face as u128 + 16 > exact.len() as u128;
+    if let Some(number) = missing.then_some(12).or(sample_refusal(patches, face, n, a, b)) {
+        return Err(number);
+    }
+    let fraction = sample_fraction(patches, face, n, a, b);
+    let mark = exact[16 * face..][..16] == [1; 16] && fraction.whole(1);
+    Ok((fraction.nearest(), mark))
 }
 
 /// The causes that a line meets, those of its samples and then 17, and its lent list afterwards: the samples of one b, a rising.

@@ -9,6 +9,8 @@ mod document;
 mod grown;
 mod interval;
 mod lines;
+mod mark_tally;
+mod marks;
 mod model;
 mod random;
 mod shapes;
@@ -64,7 +66,7 @@ fn accepted_meshes() {
         let _shown = Shown { case, mesh: &mesh };
         tally.mesh(&mesh);
         let lent = Lent::enough(&mesh, random);
-        let patches = compare::mesh_calls(&mesh, &lent, &mut tally).expect("an accepted mesh");
+        let patches = compare::mesh_calls(&mesh, &lent, &mut tally).expect("an accepted mesh").patches;
         let n = 1 + random.below(32);
         for _ in 0..20 {
             let (face, a, b) = (random.below(mesh.faces), claim::place(n, random), claim::place(n, random));
@@ -119,11 +121,11 @@ fn damaged_meshes() {
         let mesh = damage::damaged(random);
         let _shown = Shown { case, mesh: &mesh };
         let lent = if random.one_in(8) { Lent::any(&mesh, random) } else { Lent::enough(&mesh, random) };
-        let patches = compare::mesh_calls(&mesh, &lent, &mut tally);
+        let lists = compare::mesh_calls(&mesh, &lent, &mut tally);
         compare::face_parts(&mesh.indices, random, &mut tally);
         compare::mirror_calls(&mesh, random, &mut tally);
-        if let Some(patches) = patches {
-            compare::lines(&patches, 0..mesh.faces, 1 + random.below(8), random, &mut tally);
+        if let Some(lists) = lists {
+            compare::lines(&lists.patches, 0..mesh.faces, 1 + random.below(8), random, &mut tally);
         }
     });
     tally.print_answers("damaged meshes");
@@ -138,7 +140,7 @@ fn damaged_meshes() {
 }
 
 /// A patch list of any numbers: small, up to the limit, at the limit, now and then beyond it.
-fn patch_list(random: &mut Random) -> Vec<i32> {
+pub fn patch_list(random: &mut Random) -> Vec<i32> {
     const LIMIT: i64 = 268_435_456;
     let kind = random.below(5);
     let length = 48 * random.below(4) + random.pick(&[0, 0, 1, 47, 48]);
@@ -154,7 +156,7 @@ fn patch_list(random: &mut Random) -> Vec<i32> {
 }
 
 /// An N and a place, each now and then off its range, near or far.
-fn any_place(random: &mut Random) -> [usize; 3] {
+pub fn any_place(random: &mut Random) -> [usize; 3] {
     let n = match random.below(12) {
         0 => random.pick(&[0, 33, 34, 256 + 4, (1 << 16) + 4, (1 << 32) + 4, usize::MAX]),
         1 | 2 => random.pick(&[1, 2, 4, 8, 16, 32]),
@@ -207,10 +209,10 @@ fn hold(case: &str, quads: &Quads, lent: &Lent, random: &mut Random, tally: &mut
     let mut mesh = quads.model();
     mesh.positions.iter_mut().enumerate().for_each(|(at, x)| *x = (at * at) as i32);
     let _shown = Shown { case, mesh: &mesh };
-    let patches = compare::mesh_calls(&mesh, lent, tally);
+    let lists = compare::mesh_calls(&mesh, lent, tally);
     compare::mirror_calls(&mesh, random, tally);
-    if let Some(patches) = patches {
-        compare::lines(&patches, 0..mesh.faces, 1 + random.below(32), random, tally);
+    if let Some(lists) = lists {
+        compare::lines(&lists.patches, 0..mesh.faces, 1 + random.below(32), random, tally);
     }
 }
 
@@ -223,7 +225,7 @@ fn face_of(number: usize, base: usize) -> [usize; 4] {
 fn every_small_mesh() {
     let mut tally = Tally::default();
     let mut random = Random::case(seed(), 4, 0);
-    let lent = Lent::filled(13, 150, &mut random);
+    let lent = Lent::filled([13, 150, 50], &mut random);
     for number in 0..5usize.pow(8) {
         let faces = vec![face_of(number % 625, 5), face_of(number / 625, 5)];
         hold(

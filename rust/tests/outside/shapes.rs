@@ -27,7 +27,7 @@ impl Quads {
     }
 
     fn accepted(&self) -> bool {
-        document::refusal(&self.model(), None, None).is_none()
+        document::refusal(&self.model(), &[]).is_none()
     }
 
     /// The other mesh set beside this one.

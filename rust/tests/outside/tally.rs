@@ -1,5 +1,6 @@
 //! What a run has covered: counted along the way, printed at the end, and asserted where it must not be zero.
 
+use crate::compare::Lent;
 use crate::document::{Ring, Surface};
 use crate::model::Model;
 
@@ -21,6 +22,8 @@ pub struct Tally {
     pub patches: [u64; 15],
     /// Patch calls by the first cause met and by each other one.
     pub together: [[u64; 12]; 12],
+    /// Patch calls with 2 for one list alone: twins, patches, marks.
+    pub alone_short: [u64; 3],
     /// Answers of the mirror by number; those by an earlier cause where 16 was met too; 16 for one list alone, shorter or longer.
     pub mirror: [u64; 17],
     pub before_16: [u64; 12],
@@ -40,6 +43,8 @@ pub struct Tally {
     /// Coordinates of samples that were halves: below zero or not, even number below or above.
     pub halves: [[u64; 2]; 2],
     pub control_values: u64,
+    /// Marks 0 and 1 of control points.
+    pub marks: [u64; 2],
     pub corner_parts: u64,
     pub distances: u64,
     pub seams: u64,
@@ -77,10 +82,14 @@ impl Tally {
         }
     }
 
-    /// Counts the causes met by a patch call.
-    pub fn causes(&mut self, causes: &[u8]) {
+    /// Counts the causes met by a patch call on these lists.
+    pub fn causes(&mut self, causes: &[u8], lent: &Lent, faces: usize) {
         for &other in causes.iter().skip(1) {
             self.together[causes[0] as usize][other as usize] += 1;
+        }
+        let short = lent.lengths().map(|(length, places)| length < places * faces);
+        if causes.first() == Some(&2) && short.iter().filter(|&&short| short).count() == 1 {
+            (0..3).filter(|&list| short[list]).for_each(|list| self.alone_short[list] += 1);
         }
     }
 
@@ -114,9 +123,11 @@ impl Tally {
         println!("{title}: answers of the check, 0 to 11: {:?}", &self.check[..12]);
         println!("  answers of the patch call, 0 to 11: {:?}", &self.patches[..12]);
         println!("  control values {}, face parts {}", self.control_values, self.corner_parts);
+        println!("  marks 0 and 1 of control points: {:?}", self.marks);
     }
 
     pub fn print_causes(&self) {
+        println!("  refused with 2 for the twins, the patches, the marks alone: {:?}", self.alone_short);
         for first in 2..11 {
             println!(
                 "  refused with {first}, other causes met from {}: {:?}",
@@ -183,12 +194,14 @@ impl Tally {
         assert!(self.rim[1..].iter().flatten().all(|&seen| seen > 0), "a k or a tag was not seen");
         assert!(self.closed > 0 && self.open > 0);
         assert_eq!((self.most_vertices, self.most_faces), (512, 256), "the largest sizes were not seen");
+        assert!(self.marks.iter().all(|&seen| seen > 0), "a mark was not seen");
     }
 
     /// Every refusal of the calls on meshes.
     pub fn assert_refusals(&self) {
         assert!(self.check[..12].iter().all(|&seen| seen > 0), "a refusal of the check was not seen");
         assert!(self.patches[..12].iter().all(|&seen| seen > 0), "a refusal of the patch call was not seen");
+        assert!(self.alone_short.iter().all(|&seen| seen > 0), "2 was not seen for each list alone");
         for (first, other) in (2..11).flat_map(|first| (first + 1..12).map(move |other| (first, other))) {
             assert!(
                 !can_meet(first, other) || self.together[first][other] > 0,

@@ -78,7 +78,7 @@ pub struct Rules<'a> {
 
 impl<'a> Rules<'a> {
     pub fn new(mesh: &'a Model, masks: &'a Masks) -> Rules<'a> {
-        let causes = document::causes(mesh, None, None);
+        let causes = document::causes(mesh, &[]);
         let surface = causes.is_empty().then(|| Surface::new(mesh));
         let closed = surface.as_ref().is_some_and(|surface| surface.counts()[3] == 0);
         Rules { mesh, closed, surface, masks, causes }

@@ -17,7 +17,7 @@ pub fn model(positions: &[[i32; 3]], faces: &[[usize; 4]]) -> Model {
 fn answer(mesh: &Model) -> u8 {
     let (mut tally, mut random) = (Tally::default(), Random::case(0, 0, 0));
     let faces = mesh.faces.min(300);
-    compare::mesh_calls(mesh, &Lent::filled(4 * faces, 48 * faces, &mut random), &mut tally);
+    compare::mesh_calls(mesh, &Lent::filled([4, 48, 16].map(|places| places * faces), &mut random), &mut tally);
     compare::mirror_call(mesh, &mesh.filled(mesh.lengths(), &mut random), &mut tally);
     let check = tally.check.iter().position(|&seen| seen > 0);
     assert_eq!(check, tally.patches.iter().position(|&seen| seen > 0));
@@ -35,7 +35,7 @@ fn sample(patches: &[i32], face: usize, n: usize, a: usize, b: usize) -> [i32; 3
     rusketja::sample(patches, face, n, a, b).expect("a sample")
 }
 
-fn square() -> Model {
+pub fn square() -> Model {
     model(&[[0, 0, 0], [21, 0, 0], [21, 21, 0], [0, 21, 0]], &[[0, 1, 2, 3]])
 }
 
@@ -78,7 +78,7 @@ fn cube() {
     assert_eq!(at(&patches, 1, 0), [1536, 3840, 3840]);
 }
 
-fn strip() -> Model {
+pub fn strip() -> Model {
     let positions = [[0, 0, 0], [9, 0, 0], [18, 0, 9], [18, 9, 0], [9, 9, 0], [0, 9, 0]];
     model(&positions, &[[0, 1, 4, 5], [1, 2, 3, 4]])
 }
