@@ -19,18 +19,27 @@ pub fn turned(i: usize, c: usize) -> usize {
     (c & !3) | ((c + i) & 3)
 }
 
-/// `num / den` rounded once, a half to the even neighbour; 0 for a divisor 0.
+/// A rounded quotient, and what the rounding leaves.
+#[derive(Clone, Copy)]
+pub struct Rounded {
+    pub value: i64,
+    pub rest: i64,
+}
+
+/// `num / den` rounded once, a half to the even neighbour, and `num` less that times `den`; 0 and `num` for a divisor 0.
 #[inline(always)]
-pub fn round(num: i64, den: u32) -> i64 {
+pub fn round(num: i64, den: u32) -> Rounded {
     if den == 0 {
-        return 0;
+        return Rounded { value: 0, rest: num };
     }
     let (size, den) = (num.unsigned_abs(), u64::from(den));
     let (quotient, rest) = (size / den, size % den);
-    let size = quotient + u64::from(den < 2 * rest + (quotient & 1));
+    let up = den < 2 * rest + (quotient & 1);
+    let value = (quotient + u64::from(up)) as i64;
+    let rest = if up { rest as i64 - den as i64 } else { rest as i64 };
     if num < 0 {
-        (size as i64).wrapping_neg()
+        Rounded { value: value.wrapping_neg(), rest: -rest }
     } else {
-        size as i64
+        Rounded { value, rest }
     }
 }

@@ -47,9 +47,9 @@ pub fn sample_line<'a, A: Access>(
     let first_sums = |k| first_sums(n, [column(k, 0), column(k, 1), column(k, 2), column(k, 3)]);
     let (mut x, mut y, mut z) = (first_sums(0), first_sums(1), first_sums(2));
     for a in 0..=n {
-        *A::at(line, 3 * a) = round(x[0], divisor) as i32;
-        *A::at(line, 3 * a + 1) = round(y[0], divisor) as i32;
-        *A::at(line, 3 * a + 2) = round(z[0], divisor) as i32;
+        *A::at(line, 3 * a) = round(x[0], divisor).value as i32;
+        *A::at(line, 3 * a + 1) = round(y[0], divisor).value as i32;
+        *A::at(line, 3 * a + 2) = round(z[0], divisor).value as i32;
         (x, y, z) = (stepped(x), stepped(y), stepped(z));
     }
     Ok(line.as_chunks().0)

@@ -1,14 +1,28 @@
-//! The patches of a mesh, in Rust: sums by vertex in scatter passes, then sixteen points a face.
+//! The patches of a mesh and their marks, in Rust: sums by vertex in scatter passes, then sixteen points a face.
 
 use crate::access::Access;
 use crate::check::check;
 use crate::limits::*;
-use rusketja::{Counts, Mesh, Refusal, NO_TWIN, PATCH_VALUES};
+use rusketja::{Counts, Mesh, Refusal, NO_TWIN, PATCH_MARKS, PATCH_VALUES};
 
 /// A fraction in units, rounded once.
 #[inline(always)]
-pub fn in_units(num: i64, den: u32) -> i32 {
-    round(256 * num, den) as i32
+pub fn in_units(num: i64, den: u32) -> Rounded {
+    round(256 * num, den)
+}
+
+/// A control value in units, and whether nothing was left when it was rounded.
+#[derive(Clone, Copy)]
+struct Value {
+    units: i32,
+    exact: bool,
+}
+
+impl From<Rounded> for Value {
+    #[inline(always)]
+    fn from(rounded: Rounded) -> Value {
+        Value { units: rounded.value as i32, exact: rounded.rest == 0 }
+    }
 }
 
 /// A checked mesh with its twins, and the tables by vertex.
@@ -18,8 +32,9 @@ struct Tables<'a> {
     twins: &'a [u16],
     /// n at an inner vertex; at a boundary vertex 2k, but 4 for k = 1.
     weights: [u16; MAX_VERTICES],
-    /// The corner point of each vertex.
+    /// The corner point of each vertex, and its mark.
     points: [i32; 3 * MAX_VERTICES],
+    marks: [bool; MAX_VERTICES],
 }
 
 /// The four points of its face that each corner owns.
@@ -116,20 +131,22 @@ impl Tables<'_> {
             for p in 0..tags.len() {
                 let x = i64::from(A::get(self.positions, 3 * p + k));
                 let valence = A::get(&valences, p) as u32;
-                *A::at(&mut self.points, 3 * p + k) = if A::get(&leaving, p) == 0 {
+                let value = Value::from(if A::get(&leaving, p) == 0 {
                     in_units(i64::from(valence * valence) * x + A::get(&ring, p), valence * (valence + 5))
                 } else if A::get(tags, p) == CORNER_TAG || valence == 1 {
                     in_units(x, 1)
                 } else {
                     in_units(4 * x + A::get(&sharp, p), 6)
-                };
+                });
+                *A::at(&mut self.points, 3 * p + k) = value.units;
+                *A::at(&mut self.marks, p) &= value.exact;
             }
         }
     }
 
     /// The edge point on the inner edge of half-edge c, with twin d, near its start.
     #[inline(always)]
-    fn edge_point<A: Access>(&self, k: usize, c: usize, d: usize) -> i32 {
+    fn edge_point<A: Access>(&self, k: usize, c: usize, d: usize) -> Rounded {
         let weight = 2 * self.weight::<A>(c);
         let value = |i, c| self.value::<A>(k, turned(i, c));
         let near = i64::from(weight) * value(0, c) + 4 * value(1, c);
@@ -138,10 +155,13 @@ impl Tables<'_> {
 
     /// Coordinate k of a point of corner c.
     #[inline(always)]
-    fn number<A: Access>(&self, k: usize, c: usize, kind: Kind) -> i32 {
+    fn number<A: Access>(&self, k: usize, c: usize, kind: Kind) -> Value {
         let value = |i| self.value::<A>(k, turned(i, c));
-        match kind {
-            Kind::Corner => A::get(&self.points, 3 * self.vertex::<A>(c) + k),
+        let rounded = match kind {
+            Kind::Corner => {
+                let p = self.vertex::<A>(c);
+                return Value { units: A::get(&self.points, 3 * p + k), exact: A::get(&self.marks, p) };
+            }
             Kind::Along => match A::get(self.twins, c) {
                 NO_TWIN => in_units(2 * value(0) + value(1), 3),
                 d => self.edge_point::<A>(k, c, d.into()),
@@ -154,22 +174,32 @@ impl Tables<'_> {
                 let weight = self.weight::<A>(c);
                 in_units(i64::from(weight) * value(0) + 2 * value(1) + 2 * value(3) + value(2), weight + 5)
             }
-        }
+        };
+        rounded.into()
     }
 
-    fn write_patch<A: Access>(&self, face: usize, patch: &mut [i32]) {
+    fn write_patch<A: Access>(&self, face: usize, patch: &mut [i32], marks: &mut [u8]) {
         for (m, (owner, kind)) in POINTS.into_iter().enumerate() {
+            let mut exact = true;
             for k in 0..3 {
-                *A::at(patch, 3 * m + k) = self.number::<A>(k, 4 * face + owner, kind);
+                let value = self.number::<A>(k, 4 * face + owner, kind);
+                *A::at(patch, 3 * m + k) = value.units;
+                exact &= value.exact;
             }
+            *A::at(marks, m) = exact.into();
         }
     }
 }
 
-/// Writes the patches of a mesh, as [`rusketja::patches`] does.
+/// Writes the patches of a mesh and their marks, as [`rusketja::patches`] does.
 #[inline(never)]
-pub fn patches<A: Access>(mesh: &Mesh, twins: &mut [u16], patches: &mut [i32]) -> Result<Counts, Refusal> {
-    if patches.len() / PATCH_VALUES < mesh.faces {
+pub fn patches<A: Access>(
+    mesh: &Mesh,
+    twins: &mut [u16],
+    patches: &mut [i32],
+    exact: &mut [u8],
+) -> Result<Counts, Refusal> {
+    if patches.len() / PATCH_VALUES < mesh.faces || exact.len() / PATCH_MARKS < mesh.faces {
         return check::<A>(mesh, &mut []);
     }
     let counts = check::<A>(mesh, twins)?;
@@ -179,10 +209,12 @@ pub fn patches<A: Access>(mesh: &Mesh, twins: &mut [u16], patches: &mut [i32]) -
         twins,
         weights: [0; MAX_VERTICES],
         points: [0; 3 * MAX_VERTICES],
+        marks: [true; MAX_VERTICES],
     };
     tables.fill::<A>(mesh.tags);
     for face in 0..mesh.faces {
-        tables.write_patch::<A>(face, A::part_mut(patches, PATCH_VALUES * face, PATCH_VALUES));
+        let patch = A::part_mut(patches, PATCH_VALUES * face, PATCH_VALUES);
+        tables.write_patch::<A>(face, patch, A::part_mut(exact, PATCH_MARKS * face, PATCH_MARKS));
     }
     Ok(counts)
 }

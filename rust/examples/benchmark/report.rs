@@ -23,17 +23,20 @@ pub enum Phase {
     Patches,
     Tangents,
     Samples,
+    Marked,
     Lines,
     Whole,
 }
 
 /// Each phase with each N that it is measured with, 0 for a phase that has none.
-const MEASURED: [(Phase, usize); 8] = [
+const MEASURED: [(Phase, usize); 10] = [
     (Phase::Check, 0),
     (Phase::Patches, 0),
     (Phase::Tangents, 0),
     (Phase::Samples, N),
     (Phase::Samples, FEW),
+    (Phase::Marked, N),
+    (Phase::Marked, FEW),
     (Phase::Lines, N),
     (Phase::Lines, FEW),
     (Phase::Whole, N),
@@ -46,6 +49,7 @@ impl Phase {
             Phase::Patches => "patches",
             Phase::Tangents => "tangents",
             Phase::Samples => "samples",
+            Phase::Marked => "marked",
             Phase::Lines => "lines",
             Phase::Whole => "whole",
         }
@@ -55,7 +59,7 @@ impl Phase {
     fn unit(self) -> &'static str {
         match self {
             Phase::Check | Phase::Patches => "face",
-            Phase::Tangents | Phase::Samples => "call",
+            Phase::Tangents | Phase::Samples | Phase::Marked => "call",
             Phase::Lines => "point",
             Phase::Whole => "line",
         }
@@ -76,7 +80,7 @@ impl Row {
     fn units(&self) -> usize {
         match self.phase {
             Phase::Check | Phase::Patches | Phase::Tangents => self.faces,
-            Phase::Samples | Phase::Lines | Phase::Whole => self.faces * (self.n + 1) * (self.n + 1),
+            Phase::Samples | Phase::Marked | Phase::Lines | Phase::Whole => self.faces * (self.n + 1) * (self.n + 1),
         }
     }
 
@@ -165,13 +169,11 @@ impl Report {
                 &format!("mean {mean:.2}, at most {most:.2}"),
             );
         }
-        let samples = [N, FEW].into_iter().flat_map(|n| self.of(Phase::Samples, n));
-        let slowest = samples.map(Row::each).fold(0.0, f64::max);
-        goal(
-            &format!("a sample call below {SAMPLE_GOAL_NS} ns"),
-            slowest < SAMPLE_GOAL_NS,
-            &format!("{slowest:.1} ns"),
-        );
+        for (phase, words) in [(Phase::Samples, "a sample call"), (Phase::Marked, "a marked sample call")] {
+            let calls = [N, FEW].into_iter().flat_map(|n| self.of(phase, n));
+            let slowest = calls.map(Row::each).fold(0.0, f64::max);
+            goal(&format!("{words} below {SAMPLE_GOAL_NS} ns"), slowest < SAMPLE_GOAL_NS, &format!("{slowest:.1} ns"));
+        }
         for (n, share) in POINT_GOALS {
             let pairs = self.of(Phase::Lines, n).zip(self.of(Phase::Samples, n));
             let (mean, most) =

@@ -1,8 +1,8 @@
-//! The sample of a patch, in Rust: Bernstein sums along v, then along u, and one rounding.
+//! The sample of a patch, with its mark and without, in Rust: Bernstein sums along v, then along u, and one rounding.
 
 use crate::access::Access;
 use crate::limits::*;
-use rusketja::{Refusal, PATCH_VALUES};
+use rusketja::{MarkedPoint, Refusal, PATCH_MARKS, PATCH_VALUES};
 
 /// The weights of place a.
 #[inline(always)]
@@ -37,9 +37,9 @@ pub fn column<A: Access>(patch: &[i32; PATCH_VALUES], k: usize, v: [u32; 4], i: 
 }
 
 /// Coordinate k of the sample.
-fn coordinate<A: Access>(patch: &[i32; PATCH_VALUES], k: usize, u: [u32; 4], v: [u32; 4], divisor: u32) -> i32 {
+fn coordinate<A: Access>(patch: &[i32; PATCH_VALUES], k: usize, u: [u32; 4], v: [u32; 4], divisor: u32) -> Rounded {
     let column = |i| column::<A>(patch, k, v, i);
-    round(blend(u, [column(0), column(1), column(2), column(3)]), divisor) as i32
+    round(blend(u, [column(0), column(1), column(2), column(3)]), divisor)
 }
 
 /// The patch of a face, with no control value beyond its limit.
@@ -55,14 +55,42 @@ pub fn patch_of<A: Access>(patches: &[i32], face: usize) -> Result<&[i32; PATCH_
     Ok(patch)
 }
 
-/// Takes a sample, as [`rusketja::sample`] does. Not inlined, since the library's is called too.
-#[inline(never)]
-pub fn sample<A: Access>(patches: &[i32], face: usize, n: usize, a: usize, b: usize) -> Result<[i32; 3], Refusal> {
-    let patch = patch_of::<A>(patches, face)?;
+/// The three coordinates of the sample of a patch.
+#[inline(always)]
+fn coordinates<A: Access>(patch: &[i32; PATCH_VALUES], n: usize, a: usize, b: usize) -> Result<[Rounded; 3], Refusal> {
     if !STEPS.contains(&n) || n < a || n < b {
         return Err(Refusal(14));
     }
     let (u, v, divisor) = (weights(n, a), weights(n, b), divisor(n));
     let coordinate = |k| coordinate::<A>(patch, k, u, v, divisor);
     Ok([coordinate(0), coordinate(1), coordinate(2)])
+}
+
+/// Takes a sample, as [`rusketja::sample`] does. Not inlined, since the library's is called too.
+#[inline(never)]
+pub fn sample<A: Access>(patches: &[i32], face: usize, n: usize, a: usize, b: usize) -> Result<[i32; 3], Refusal> {
+    let coordinates = coordinates::<A>(patch_of::<A>(patches, face)?, n, a, b)?;
+    Ok(coordinates.map(|x| x.value as i32))
+}
+
+/// Takes a sample with its mark, as [`rusketja::marked_sample`] does. Not inlined either.
+#[inline(never)]
+pub fn marked_sample<A: Access>(
+    patches: &[i32],
+    exact: &[u8],
+    face: usize,
+    n: usize,
+    a: usize,
+    b: usize,
+) -> Result<MarkedPoint, Refusal> {
+    if exact.len() / PATCH_MARKS <= face {
+        return Err(Refusal(12));
+    }
+    let coordinates = coordinates::<A>(patch_of::<A>(patches, face)?, n, a, b)?;
+    let marks: &[u8; PATCH_MARKS] = A::array(exact, PATCH_MARKS * face);
+    let whole = coordinates.iter().fold(true, |whole, x| whole & (x.rest == 0));
+    Ok(MarkedPoint {
+        point: coordinates.map(|x| x.value as i32),
+        exact: marks.iter().fold(whole, |exact, &mark| exact & (mark == 1)),
+    })
 }

@@ -90,7 +90,7 @@ impl Around<'_> {
             sum += i64::from(A::get(faces, i)) * self.value::<A>(k, 2, e);
             e = self.twin::<A>(turned(3, e));
         }
-        round(256 * sum, ONE as u32)
+        round(256 * sum, ONE as u32).value
     }
 
     /// The edge point of half-edge c near its start.
@@ -98,14 +98,14 @@ impl Around<'_> {
     fn edge_point<A: Access>(&self, k: usize, c: usize, valence: usize) -> i64 {
         let (value, d) = (|i, c| self.value::<A>(k, i, c), self.twin::<A>(c));
         let near = 2 * valence as i64 * value(0, c) + 4 * value(1, c);
-        in_units(near + 2 * value(3, c) + 2 * value(2, d) + value(2, c) + value(3, d), 2 * valence as u32 + 10).into()
+        in_units(near + 2 * value(3, c) + 2 * value(2, d) + value(2, c) + value(3, d), 2 * valence as u32 + 10).value
     }
 
     /// The inner point of corner c.
     #[inline(always)]
     fn inner_point<A: Access>(&self, k: usize, c: usize, valence: usize) -> i64 {
         let value = |i| self.value::<A>(k, i, c);
-        in_units(valence as i64 * value(0) + 2 * value(1) + 2 * value(3) + value(2), valence as u32 + 5).into()
+        in_units(valence as i64 * value(0) + 2 * value(1) + 2 * value(3) + value(2), valence as u32 + 5).value
     }
 
     /// Coordinate k of the six vectors of the side from one corner to the next.
@@ -117,7 +117,7 @@ impl Around<'_> {
         let (b1, b2) = (self.edge_point::<A>(k, from.c, from.valence), self.edge_point::<A>(k, d, to.valence));
         let (b5, b6) = (self.inner_point::<A>(k, from.c, from.valence), self.inner_point::<A>(k, to.c, to.valence));
         let middle = 3 * (b2 - b1);
-        let corrected = |term: i64, x: i64| round(term + 9 * ONE * x, 3 * ONE as u32);
+        let corrected = |term: i64, x: i64| round(term + 9 * ONE * x, 3 * ONE as u32).value;
         let from_start = corrected(2 * from.cosine * middle - to.cosine * start, b5 - b1);
         let from_end = corrected(from.cosine * end - 2 * to.cosine * middle, b6 - b2);
         [start, middle, end, 3 * (b6 - b5), from_start, from_end]

@@ -4,7 +4,7 @@ use crate::access::Access;
 use crate::limits::*;
 use crate::line::{sample_line, PLACES};
 use crate::patch::patches;
-use rusketja::{Mesh, Refusal, PATCH_VALUES};
+use rusketja::{Mesh, Refusal, PATCH_MARKS, PATCH_VALUES};
 use std::io::{self, Read, Write};
 
 /// Printed bytes are handed on in stretches of about this length.
@@ -93,7 +93,8 @@ fn print<A: Access, W: Write>(file: &[u8], printer: &mut Printer<W>) -> Result<(
     let mesh = Mesh { vertices, faces, positions: &positions, tags, indices: &indices };
     let mut twins = [0; 4 * MAX_FACES];
     let mut controls = [0; PATCH_VALUES * MAX_FACES];
-    let counts = patches::<A>(&mesh, &mut twins, &mut controls)?;
+    let mut exact = [0; PATCH_MARKS * MAX_FACES];
+    let counts = patches::<A>(&mesh, &mut twins, &mut controls, &mut exact)?;
     if !STEPS.contains(&n) {
         return Err(Refusal(14).into());
     }
