@@ -53,7 +53,7 @@ sub-result : tie.Need-sub-result
 sub-result c = let s = c .before in rw (rest-is s, divisor-is s) (less-fits s)
 
 cast-result-3 : tie.Need-cast-result-3
-cast-result-3 c = search needs
+cast-result-3 c = record { sfits = omega (arith, small (c .before)) }
 
 returns : tie.Need-returns
 returns c =
