@@ -1,7 +1,7 @@
 /* Rusketja: the calls of the library for C and C++.
  *
  * Link with target/staticlib/libcapi.a, which `rt staticlib capi` writes (x86-64 Linux); it needs memset of the C library and nothing
- * else. examples/square.c makes every call. The contracts are in crates/capi/src/lib.rt, and every call meets its contract for every
+ * else. examples/square.c makes every call. The contracts are in crates/capi/src, and every call meets its contract for every
  * input; what C itself must keep to is this:
  *
  * - A list is passed as a pointer to its first element and its length, which counts elements. The pointer is not null and is

@@ -53,7 +53,8 @@ def of_crate():
 
 def of_code():
     """The same in the proved code."""
-    found = re.findall(r'pub extern "C" fn (rusketja_\w+)\(([^)]*)\) -> (\w+)', code("crates/capi/src/lib.rt"))
+    files = sorted((ROOT / "crates/capi/src").glob("*.rt"))
+    found = re.findall(r'pub extern "C" fn (rusketja_\w+)\(([^)]*)\) -> (\w+)', "\n".join(map(code, files)))
     return {name: (result, sum(map(in_code, words(arguments)), [])) for name, arguments, result in found}
 
 

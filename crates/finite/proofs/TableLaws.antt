@@ -3,6 +3,7 @@
 --
 --   From rows rest   what is first met of rows is what is first met of rest, the rows that are not checked yet
 --   orElse m m'    the first of two numbers, where it is there, else the second
+--   over g answer  the answer with g of its result, or the same refusal
 --   `firstMet (row b k ∷ rows)` is `cond b (some k) (firstMet rows)`; the laws speak of that form, with m what the rows after it give.
 use mathlib.Core.Path.{_≡_, refl, sym, _∙_}
 use mathlib.Core.Bool.{Bool, true, false, cond}
@@ -10,7 +11,7 @@ use mathlib.Core.List.{List, [], _∷_, _++_}
 use mathlib.Core.Option.{Option, none, some}
 use Prim.Native.Nat.{ℕ, zero, suc}
 use native.Mathlib.Omega.{arith}
-use Rattle.finite.specs.Table.{Row, row, firstMet, result, refusal, answerBy, refusalOf}
+use Rattle.finite.specs.Table.{Row, row, firstMet, Answer, result, refusal, answerBy, refusalOf}
 
 -- ---- one row
 module _ (k : ℕ) (m : Option ℕ) {b : Bool} where
@@ -71,6 +72,15 @@ result-none (some k) e = let z : _≡_ {A = ℕ} 0 1 = cc in absurd (omega arith
 pub refusal-met : {A : Type 0} (x : A) {k : ℕ} (met : Option ℕ) → refusal k ≡ answerBy met x → met ≡ some k
 refusal-met x none e = let z : _≡_ {A = ℕ} 0 1 = cc in absurd (omega arith)
 refusal-met x (some j) e = cc
+
+-- another result, by the same causes
+abbrev pub over : {A B : Type 0} → (A → B) → Answer A → Answer B
+over g (result a) = result (g a)
+over g (refusal k) = refusal k
+
+pub over-by : {A B : Type 0} (g : A → B) (met : Option ℕ) (a : A) → over g (answerBy met a) ≡ answerBy met (g a)
+over-by g none a = refl
+over-by g (some k) a = refl
 
 -- a refusal that is handed on as a number
 pub refusal-some : (r : ℕ) → (r ≡ 0 → ⊥) → refusalOf r ≡ some r

@@ -1,9 +1,9 @@
 -- The answer of the marked sample call: its causes are those of a sample, with 12 for the marks too, and its mark is that of the patch and of the
 -- division.
-use mathlib.Core.Path.{_≡_, ap, ap₂, _∙_}
+use mathlib.Core.Path.{_≡_, _∙_}
 use mathlib.Core.Bool.{Bool, true, _&&_}
 use mathlib.Core.List.{List}
-use mathlib.Core.Option.{none, some}
+use mathlib.Core.Option.{some}
 use Prim.Native.Nat.{ℕ, _+_, _-_, _*_, _/_, _≤_, _<_}
 use native.Mathlib.Omega.{arith}
 use lib.Dec.{eqb}
@@ -12,13 +12,13 @@ use lib.ListN.{length, getD, take, drop, length-take, length-drop}
 use lib.Seq.{getD-drop, getD-take}
 use borrow.Author.Tests.{lt-ltb, le-ltb}
 use Rattle.finite.specs.Fold.{allBelow}
-use Rattle.finite.specs.Table.{firstMet, result, refusal}
+use Rattle.finite.specs.Table.{firstMet, refusal}
 use Rattle.finite.proofs.FoldLaws.{fold-ext, bool-cases}
+use Rattle.finite.proofs.TableLaws.{over, over-by}
 use Rattle.sample.specs.declared.model.MarkedPoint.{MarkedPoint}
 use Rattle.sample.specs.Refusal.{faceOff, sampleRows}
 use Rattle.sample.specs.Marked.{marksOff, markedRows, patchMarked, markedAnswer}
-use Rattle.sample.proofs.BlendLaws.{same-marked}
-use Rattle.sample.proofs.PatchLaws.{patchOf, pointOf, patch-point, patch-whole}
+use Rattle.sample.proofs.RefusalLaws.{ownAnswer}
 
 -- ---- the causes: 12 for the marks, then those of a sample
 module _ (patches : List ℤ) (exact : List ℕ) (f n a b : ℕ) where
@@ -50,20 +50,17 @@ module _ (exact : List ℕ) (f : ℕ) (within : f < length exact / 16) where
   unfolding patchMarked
   marks-all = rw marks-length (fold-ext true _&&_ 16 (λ i l. rw (marks-at i l)))
 
--- ---- the answer, by the first cause met
+-- ---- the answer
+--   withMarks m p   the sample p with both marks: m, and that of its own division
+abbrev pub withMarks : Bool → MarkedPoint → MarkedPoint
+withMarks m p = record { point = p .point; exact = m && p .exact }
+
 module _ (patches : List ℤ) (exact : List ℕ) (f n a b : ℕ) where
   pub marked-refused : {k : ℕ} → firstMet (markedRows patches exact f n a b) ≡ some k → refusal k ≡ markedAnswer patches exact f n a b
   unfolding markedAnswer
   marked-refused e = rw e
 
-  pub marked-answered : firstMet (markedRows patches exact f n a b) ≡ none → f < length patches / 48 → f < length exact / 16
-      → {p : MarkedPoint} {e : Bool} → p ≡ pointOf (patchOf patches f) n a b
-      → e ≡ allBelow (λ i. eqb (getD (marksOf exact f) i 0) 1) (length (marksOf exact f))
-      → result (record { point = p .point; exact = e && p .exact }) ≡ markedAnswer patches exact f n a b
+  -- where the marks are listed, the answer of the sample with its own mark is the call's, the marks asked as well
+  pub own-marked : f < length exact / 16 → over (withMarks (patchMarked exact f)) (ownAnswer patches f n a b) ≡ markedAnswer patches exact f n a b
   unfolding markedAnswer
-  marked-answered none-met listed within q h =
-      ap result
-      (same-marked
-      (ap (λ (p : MarkedPoint). p .point) q ∙ patch-point patches f listed n a b)
-      (ap₂ _&&_ (h ∙ marks-all exact f within) (ap (λ (p : MarkedPoint). p .exact) q ∙ patch-whole patches f listed n a b)))
-      ∙ rw none-met
+  own-marked h = over-by (withMarks (patchMarked exact f)) (firstMet (sampleRows patches f n a b)) _ ∙ rw (marks-on patches exact f n a b h)

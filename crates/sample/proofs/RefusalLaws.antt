@@ -9,14 +9,16 @@ use lib.Dec.{ltb}
 use lib.IntN.{ℤ}
 use lib.ListN.{length}
 use borrow.Author.Tests.{lt-ltb, le-ltb, ltb-false}
-use Rattle.finite.specs.Table.{firstMet, result, refusal}
+use Rattle.finite.specs.Table.{firstMet, Answer, result, refusal, answerBy}
 use Rattle.finite.proofs.AnyAll.{or-false}
-use Rattle.finite.proofs.TableLaws.{none-met}
-use Rattle.sample.specs.declared.model.Point.{Point}
+use Rattle.finite.proofs.TableLaws.{none-met, over, over-by}
+use Rattle.sample.specs.declared.model.MarkedPoint.{MarkedPoint}
 use Rattle.sample.specs.Refusal.{minSteps, maxSteps, faceOff, controlOff, placeOff, sampleRows}
-use Rattle.sample.specs.Answer.{sampleAnswer}
+use Rattle.sample.specs.Answer.{pointAt, sampleAnswer}
+use Rattle.sample.specs.Marked.{divisionWhole}
 use Rattle.sample.specs.Blend.{Small, Steps}
-use Rattle.sample.proofs.PatchLaws.{patchOf, pointOf, patch-small, patch-point}
+use Rattle.sample.proofs.BlendLaws.{same-marked}
+use Rattle.sample.proofs.PatchLaws.{patchOf, pointOf, patch-small, patch-point, patch-whole}
 
 -- ---- the causes as the code tests them
 pub face-off : (patches : List ℤ) (f : ℕ) → length patches / 48 ≤ f → faceOff patches f ≡ true
@@ -62,13 +64,21 @@ allowed patches f n a b e =
     }
 
 -- ---- the answer, by the first cause met
+--   ownAnswer ..   the sample and whether its own division leaves nothing, or the number of a refusal
+abbrev pub ownAnswer : List ℤ → ℕ → ℕ → ℕ → ℕ → Answer MarkedPoint
+ownAnswer patches f n a b =
+    answerBy (firstMet (sampleRows patches f n a b)) (record { point = pointAt patches f n a b; exact = divisionWhole patches f n a b })
+
 module _ (patches : List ℤ) (f n a b : ℕ) where
-  pub refused : {k : ℕ} → firstMet (sampleRows patches f n a b) ≡ some k → refusal k ≡ sampleAnswer patches f n a b
-  unfolding sampleAnswer
+  pub refused : {k : ℕ} → firstMet (sampleRows patches f n a b) ≡ some k → refusal k ≡ ownAnswer patches f n a b
   refused e = rw e
 
   -- by the part of the list
   pub answered : firstMet (sampleRows patches f n a b) ≡ none → f < length patches / 48
-      → {p : Point} → p ≡ pointOf (patchOf patches f) n a b .point → result p ≡ sampleAnswer patches f n a b
+      → {p : MarkedPoint} → p ≡ pointOf (patchOf patches f) n a b → result p ≡ ownAnswer patches f n a b
+  answered e h q = ap result (q ∙ same-marked (patch-point patches f h n a b) (patch-whole patches f h n a b)) ∙ rw e
+
+  -- its point is what the sample call answers
+  pub own-point : over (λ (p : MarkedPoint). p .point) (ownAnswer patches f n a b) ≡ sampleAnswer patches f n a b
   unfolding sampleAnswer
-  answered e h q = ap result (q ∙ patch-point patches f h n a b) ∙ rw e
+  own-point = over-by (λ (p : MarkedPoint). p .point) (firstMet (sampleRows patches f n a b)) _

@@ -7,9 +7,9 @@ mod micrometres;
 pub mod model;
 mod refusal;
 
-use crate::bernstein::point;
 use crate::line::write_points;
 use crate::marked::all_exact;
+use crate::marked::own_sample;
 use crate::micrometres::in_micrometres;
 use crate::model::Marked;
 use crate::model::MarkedPoint;
@@ -31,15 +31,13 @@ ghost use Rattle.sample.specs.Marked.{marked, markedAnswer};
 pub fn sample(patches: &[i32], f: usize, n: usize, a: usize, b: usize) -> Sampled
     ensures { λ r. ⌜ sampled r ≡ sampleAnswer (now (patches .entry)) f n a b ⌝ }
 {
-    let k = sample_refusal(patches, f, n, a, b);
-    if k != 0 {
-        return Sampled::Refused(k);
+    match own_sample(patches, f, n, a, b) {
+        Marked::At(own) => {
+            let p = own.point;
+            Sampled::At(p)
+        }
+        Marked::Refused(k) => Sampled::Refused(k),
     }
-    let at = 48 * f;
-    let end = at + 48;
-    let found = point(&patches[at..end], n, a, b);
-    let p = found.point;
-    Sampled::At(p)
 }
 
 // The sample of face f at (a, b), for N = n, and whether it is exact (rule S7).
@@ -61,20 +59,18 @@ pub fn marked_sample(
     if exact.len() / 16 <= f {
         return Marked::Refused(12);
     }
-    let k = sample_refusal(patches, f, n, a, b);
-    if k != 0 {
-        return Marked::Refused(k);
+    match own_sample(patches, f, n, a, b) {
+        Marked::At(own) => {
+            let p = own.point;
+            let at = 16 * f;
+            let end = at + 16;
+            Marked::At(MarkedPoint {
+                point: p,
+                exact: all_exact(&exact[at..end]) & own.exact,
+            })
+        }
+        Marked::Refused(k) => Marked::Refused(k),
     }
-    let at = 48 * f;
-    let end = at + 48;
-    let own = point(&patches[at..end], n, a, b);
-    let p = own.point;
-    let first = 16 * f;
-    let behind = first + 16;
-    Marked::At(MarkedPoint {
-        point: p,
-        exact: all_exact(&exact[first..behind]) & own.exact,
-    })
 }
 
 // The sample of face f at (a, b), for N = n, in micrometres (rule S5).

@@ -1,77 +1,33 @@
--- `sample` meets its contract: a cause that is met is the answer; where none is, the part of the list that is handed on is the patch of the face.
-use mathlib.Core.Path.{_≡_, sym, ap, _∙_}
-use mathlib.Core.Option.{none}
-use native.Mathlib.Omega.{arith}
-use Rattle.finite.specs.Table.{firstMet, refusalOf}
-use Rattle.finite.proofs.TableLaws.{refusal-some}
+-- `sample` meets its contract: its answer is that of the sample with its own mark, without the mark.
+use mathlib.Core.Path.{sym, ap, _∙_}
+use borrow.Author.Needs.{needs}
+use Rattle.finite.proofs.TableLaws.{over}
 use Rattle.sample.specs.declared.model.MarkedPoint.{MarkedPoint}
-use Rattle.sample.specs.Refusal.{sampleRows}
-use Rattle.sample.proofs.BlendLaws.{steps-at}
-use Rattle.sample.proofs.RefusalLaws.{Allowed, allowed, refused, answered}
+use Rattle.sample.specs.Marked.{marked}
+use Rattle.sample.proofs.RefusalLaws.{own-point}
 use Rattle.sample.proofs.sample.Statement.{statement}
 use Rattle.sample.proofs.sample.Tie as tie
 
--- ---- no cause is met
-module _ (c : tie.Else1) where
-  abbrev start : tie.Start
-  start = c .before .before
+own-sample-requires : tie.Need-own-sample-requires
+own-sample-requires c κs = tt
 
-  nothing-met : (let s = start .args in firstMet (sampleRows (s .patches .now) (s .f) (s .n) (s .a) (s .b)) ≡ none)
-  nothing-met = sym (c .before .sample-refusal .ensures) ∙ ap refusalOf (c .if1 .left)
+enum-known-own : tie.Need-enum-known-own
+enum-known-own c = search needs
 
-  holds : (let s = start .args in Allowed (s .patches .now) (s .f) (s .n) (s .a) (s .b))
-  holds = allowed _ _ _ _ _ nothing-met
-
--- ---- the answers, in the order of the code
-sample-refusal-requires : tie.Need-sample-refusal-requires
-sample-refusal-requires c κs = tt
+enum-known-k : tie.Need-enum-known-k
+enum-known-k c = search needs
 
 returns : tie.Need-returns
-returns c = refused _ _ _ _ _ (sym (c .before .sample-refusal .ensures) ∙ refusal-some _ (c .if1 .taken))
-
-mul-at : tie.Need-mul-at
-mul-at c = omega (arith, holds c .listed)
-
-add-end : tie.Need-add-end
-add-end c = omega (arith, holds c .listed)
-
-mul-point : tie.Need-mul-point
-mul-point c = omega (arith, holds c .listed)
-
-sub-point : tie.Need-sub-point
-sub-point c = omega (arith, holds c .listed)
-
-part-point-start : tie.Need-part-point-start
-part-point-start c = omega (arith, holds c .listed)
-
-part-point-end : tie.Need-part-point-end
-part-point-end c = omega (arith, holds c .listed)
-
-point-requires : tie.Need-point-requires
-point-requires c κs =
-    let h = holds (c .before) in (
-      h .small,
-      steps-at (h .at) _ (omega (arith, h .at .within, h .across .within)),
-      steps-at (h .at) _ (omega (arith, h .at .within, h .across .within)),
-    )
+returns c =
+    let known = c .before .before in
+    let called : tie.After-own-sample = known .before .before in
+    ap (over (λ (p : MarkedPoint). p .point)) (sym (ap marked (known .own .given .1)) ∙ called .own-sample .ensures) ∙ own-point _ _ _ _ _
 
 returns-2 : tie.Need-returns-2
 returns-2 c =
-    let called : tie.After-point = c .before in
-    let e : tie.Else1 = called .before .before in
-    answered _ _ _ _ _ (nothing-met e) (holds e .listed) (ap (λ (p : MarkedPoint). p .point) (called .point .ensures))
+    let known = c .before in
+    let called : tie.After-own-sample = known .before .before in
+    ap (over (λ (p : MarkedPoint). p .point)) (sym (ap marked (known .k .given .1)) ∙ called .own-sample .ensures) ∙ own-point _ _ _ _ _
 
 pub sample-spec : {M : Type 1} → statement M
-sample-spec =
-    tie.close
-    (tie.spec
-    sample-refusal-requires
-    returns
-    mul-at
-    add-end
-    mul-point
-    sub-point
-    part-point-start
-    part-point-end
-    point-requires
-    returns-2)
+sample-spec = tie.close (tie.spec own-sample-requires enum-known-own enum-known-k returns returns-2)

@@ -8,8 +8,8 @@ use Rattle.finite.specs.Table.{Answer}
 use Rattle.sample.specs.declared.model.MarkedPoint.{MarkedPoint}
 use Rattle.sample.specs.Marked.{marked}
 use Rattle.capi.specs.Answer.{code, placed, unmarked, markStored}
-use Rattle.capi.proofs.rusketja_marked_sample.Statement.{statement}
-use Rattle.capi.proofs.rusketja_marked_sample.Tie as tie
+use Rattle.capi.proofs.samples.rusketja_marked_sample.Statement.{statement}
+use Rattle.capi.proofs.samples.rusketja_marked_sample.Tie as tie
 
 -- ---- at the entry: where the code goes back to, and what an answer leaves in the lent numbers and in the lent byte
 abbrev start : tie.After-marked-sample → tie.Start

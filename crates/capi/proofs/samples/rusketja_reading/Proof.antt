@@ -10,8 +10,8 @@ use Rattle.finite.specs.Table.{Answer, result, refusal}
 use Rattle.sample.specs.declared.model.Point.{Point}
 use Rattle.sample.specs.Answer.{Reads, sampleAnswer}
 use Rattle.capi.specs.Answer.{ReadingStored}
-use Rattle.capi.proofs.rusketja_reading.Statement.{statement}
-use Rattle.capi.proofs.rusketja_reading.Tie as tie
+use Rattle.capi.proofs.samples.rusketja_reading.Statement.{statement}
+use Rattle.capi.proofs.samples.rusketja_reading.Tie as tie
 
 read-at : (answer : Answer Point) (p : Micrometres) (x y z : Float) → Reads (At p) answer → ReadingStored answer x y z 0 (p .x) (p .y) (p .z)
 read-at (result q) p x y z h = record { code-is = refl; reading-is = h }

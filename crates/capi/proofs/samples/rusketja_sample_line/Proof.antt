@@ -2,8 +2,8 @@
 use mathlib.Core.Path.{ap, _∙_}
 use borrow.Author.Needs.{needs}
 use Rattle.capi.specs.Answer.{code}
-use Rattle.capi.proofs.rusketja_sample_line.Statement.{statement}
-use Rattle.capi.proofs.rusketja_sample_line.Tie as tie
+use Rattle.capi.proofs.samples.rusketja_sample_line.Statement.{statement}
+use Rattle.capi.proofs.samples.rusketja_sample_line.Tie as tie
 
 -- ---- the way back: from the number to the line call
 abbrev called : tie.After-outcome-code → tie.After-sample-line

@@ -7,8 +7,8 @@ use Rattle.finite.specs.Table.{Answer}
 use Rattle.sample.specs.declared.model.Point.{Point}
 use Rattle.sample.specs.Answer.{sampled}
 use Rattle.capi.specs.Answer.{code, placed}
-use Rattle.capi.proofs.rusketja_sample.Statement.{statement}
-use Rattle.capi.proofs.rusketja_sample.Tie as tie
+use Rattle.capi.proofs.samples.rusketja_sample.Statement.{statement}
+use Rattle.capi.proofs.samples.rusketja_sample.Tie as tie
 
 -- what the three lent numbers held
 abbrev lent : tie.Start → List ℤ
