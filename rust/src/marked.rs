@@ -39,6 +39,8 @@ pub struct MarkedPoint {
 /// assert_eq!(marked_sample(&controls, &exact[..15], 0, 7, 1, 1), Err(Refusal(12)));
 /// # Ok::<(), Refusal>(())
 /// ```
+// Inlined: it has more arguments than there are registers, and to hand them on from the stack takes a third of the call's time.
+#[inline]
 pub fn marked_sample(
     patches: &[i32],
     exact: &[u8],
@@ -47,14 +49,14 @@ pub fn marked_sample(
     a: usize,
     b: usize,
 ) -> Result<MarkedPoint, Refusal> {
-    let (mut point, mut mark) = ([0; 3], 0);
-    let [x, y, z] = &mut point;
+    let (mut x, mut y, mut z, mut mark) = (0, 0, 0, 0);
     let (list, places) = (patches.as_ptr(), patches.len());
     // SAFETY: each pointer and length are those of one slice, and x, y, z and the mark are apart from them and from each other.
     let code = unsafe {
-        ffi::rusketja_marked_sample(list, places, exact.as_ptr(), exact.len(), face, n, a, b, x, y, z, &mut mark)
+        let (marks, count) = (exact.as_ptr(), exact.len());
+        ffi::rusketja_marked_sample(list, places, marks, count, face, n, a, b, &mut x, &mut y, &mut z, &mut mark)
     };
-    accepted(code, MarkedPoint { point, exact: mark == 1 })
+    accepted(code, MarkedPoint { point: [x, y, z], exact: mark == 1 })
 }
 
 #[cfg(test)]

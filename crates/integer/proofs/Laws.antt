@@ -1,16 +1,14 @@
 -- The laws of ℤ that the kit's `lib.IntN` and `lib.Signed` lack: ring, order, absolute value, and numbers that fit a signed width.
-use mathlib.Core.Path.{_≡_, refl, sym, _∙_}
-use Prim.Native.Nat.{ℕ, zero, suc, _+_, _-_, _*_, _<_, _≤_, _^_}
+use mathlib.Core.Path.{_≡_, refl, _∙_}
+use Prim.Native.Nat.{ℕ, zero, suc, _+_, _*_, _<_, _≤_, _^_}
 use native.Mathlib.Omega.{arith}
 use native.Mathlib.Nat.{mul-le-mul}
-use lib.Dec.{eqb}
 use lib.IntN.{ℤ, pos, negsuc, negℤ, natAbs, _+ℤ_, _-ℤ_, _*ℤ_}
 use lib.Pow.{pow-pos}
 use lib.Signed.{mag, _≤ℤ_}
-use mir.Syntax.{Width, w64}
+use mir.Syntax.{Width}
 use mir.Val.{SFits, toZ, ofZ, hbits}
 use mir.Facts.{toZ-ofZ}
-use borrow.Author.Tests.{ne-eqb}
 use Rattle.integer.proofs.Difference.{eq-by, le-by, lt-by, le-is, lt-is, abs-is, int, nat, _⊕_, _⊝_, _⊛_, ~, prove-eq, prove-le, read-eq, read-abs}
 
 -- ---- the ring
@@ -78,11 +76,6 @@ sfits-+ a b h = sfits-abs (a +ℤ b) (omega (arith, abs-+ a b))
 -- a number that a call gave, read back from its bits
 pub read-back : (w : Width) {r z : ℤ} → mag r < 2 ^ hbits w → r ≡ z → toZ w (ofZ w r) ≡ z
 read-back w ok e = toZ-ofZ (record { sfits = ok }) ∙ e
-
--- the test for 0 looks at the bits
-pub zero-bits : (z : ℤ) → mag z < 2 ^ 63 → eqb (ofZ w64 z) 0 ≡ eqb (natAbs z) 0
-zero-bits (pos a) ok = refl
-zero-bits (negsuc a) ok = ne-eqb (2 ^ 64 - suc a) 0 (λ e. omega arith) ∙ sym (ne-eqb (suc a) 0 (λ e. omega arith))
 
 -- a negative number may be one larger
 pub sfits-neg : {w : Width} (a : ℕ) → a ≤ 2 ^ hbits w → SFits w (negℤ (pos a))

@@ -1,17 +1,19 @@
--- What the functions of `src/` use: an integer by the test of its sign, the rounding of naturals by one comparison of the rest, and what it leaves.
+-- What the functions of `src/` use: an integer by the test of its sign, the rounding of naturals by one comparison of the rest, what it leaves, and when
+-- that is nothing.
 --
 --   restℕ a d   what rounding a / d leaves, of two naturals
-use mathlib.Core.Path.{_≡_, refl, subst}
-use mathlib.Core.Bool.{true, false, cond}
+use mathlib.Core.Path.{_≡_, refl, sym, ap, _∙_, subst}
+use mathlib.Core.Bool.{Bool, true, false, cond}
 use Prim.Native.Nat.{ℕ, zero, suc, _+_, _*_, _%_, _/_, _≤_, _<_}
-use native.Mathlib.Nat.{div-add-mod'}
+use native.Mathlib.Nat.{div-add-mod', mod-lt}
 use native.Mathlib.Omega.{arith}
-use lib.Dec.{T}
+use lib.Dec.{T, eqb, ltb}
 use lib.IntN.{ℤ, pos, negsuc, negℤ, natAbs, _-ℤ_, _*ℤ_}
 use lib.Signed.{ltZ, nonNeg, mag}
-use borrow.Author.Tests.{ltb-true, le-ltb}
-use Rattle.integer.specs.Nearest.{halfEven, nearestℕ, nearest, remainder}
-use Rattle.integer.proofs.Difference.{int, nat, _⊝_, _⊛_, ~, prove-eq}
+use borrow.Author.Tests.{ltb-true, ltb-false, le-ltb, ne-eqb}
+use Rattle.integer.specs.Nearest.{halfEven, nearestℕ, nearest, remainder, whole}
+use Rattle.integer.proofs.Difference.{int, nat, _⊝_, _⊛_, ~, prove-eq, read-abs}
+use Rattle.integer.proofs.Laws.{abs-neg}
 use Rattle.integer.proofs.NearestLaws.{halfEven-cases, nearestℕ-halfEven, nearest-bounded, nearest-meets}
 
 -- ---- a negative integer
@@ -92,6 +94,28 @@ unfolding nearest remainder
 remainder-signed (pos a) d = rw (le-ltb a 0 (omega arith))
 remainder-signed (negsuc a) d =
     prove-eq (~ (nat (suc a) ⊝ nat (nearestℕ (suc a) d) ⊛ nat d)) (int (negsuc a) ⊝ ~ (nat (nearestℕ (suc a) d)) ⊛ nat d) (omega arith)
+
+-- nothing, exactly where the division of the magnitude leaves nothing
+rest-none : (a d : ℕ) → 0 < d → eqb (natAbs (restℕ a d)) 0 ≡ eqb (a % d) 0
+rest-none a d h = go (ltb d (2 * (a % d) + a / d % 2)) refl
+  where
+    go : (b : Bool) → ltb d (2 * (a % d) + a / d % 2) ≡ b → eqb (natAbs (restℕ a d)) 0 ≡ eqb (a % d) 0
+    go true t =
+        let up : d < 2 * (a % d) + a / d % 2 = ltb-true d (2 * (a % d) + a / d % 2) t in
+        ap (λ (r : ℤ). eqb (natAbs r) 0) (sym (rest-up a d h up))
+        ∙ ne-eqb (natAbs (pos (a % d) -ℤ pos d)) 0 (λ e. omega (arith, e, mod-lt a h, read-abs (nat (a % d) ⊝ nat d)))
+        ∙ sym (ne-eqb (a % d) 0 (λ e. omega (arith, e, up)))
+    go false t = ap (λ (r : ℤ). eqb (natAbs r) 0) (sym (rest-down a d h (ltb-false d (2 * (a % d) + a / d % 2) t)))
+
+abs-signed : (b : Bool) (r : ℤ) → natAbs (cond b (negℤ r) r) ≡ natAbs r
+abs-signed true r = abs-neg r
+abs-signed false r = refl
+
+pub whole-magnitude : (z : ℤ) (d : ℕ) → 0 < d → whole z d ≡ eqb (natAbs z % d) 0
+whole-magnitude z d h =
+    ap (λ (r : ℤ). eqb (natAbs r) 0) (sym (remainder-signed z d))
+    ∙ ap (λ (a : ℕ). eqb a 0) (abs-signed (ltZ z (pos 0)) (restℕ (natAbs z) d))
+    ∙ rest-none (natAbs z) d h
 
 pub remainder-0 : (z : ℤ) → z ≡ remainder z 0
 unfolding nearest nearestℕ remainder

@@ -7,7 +7,7 @@ ghost use mathlib.Core.Bool.{cond};
 ghost use Prim.Native.Nat.{_≤_, _<_, _^_};
 ghost use lib.Dec.{ltb};
 ghost use lib.IntN.{pos, negℤ, natAbs, _-ℤ_, _*ℤ_};
-ghost use Rattle.integer.specs.Nearest.{nearestℕ, nearest, remainder};
+ghost use Rattle.integer.specs.Nearest.{nearestℕ, nearest, remainder, whole};
 
 // Returns the magnitude of `num`, for every `num`: for a negative number one more than that of `num + 1`, since the smallest one has no negation.
 pub fn magnitude(num: i64) -> u64
@@ -88,14 +88,27 @@ fn rest(num: i64, den: u32) -> i64
     num
 }
 
-// Returns `num / den` as a whole number, rounded once with ties to even, and `num` less that number times `den`, for every `num`;
+// Whether rounding `num / den` leaves nothing: `den` divides `num`; for a divisor 0, `num` is 0. Told from the division itself, so that a caller who asks
+// no more is spared the work on the rest.
+fn is_whole(num: i64, den: u32) -> bool
+    ensures { λ r. ⌜ r ≡ whole num den ⌝ }
+{
+    let size = magnitude(num);
+    if 0 < den {
+        return size % den as u64 == 0;
+    }
+    size == 0
+}
+
+// Returns `num / den` as a whole number, rounded once with ties to even, and `num` less that number times `den`, for every `num`, with whether this is 0;
 // 0 and `num` for a divisor 0.
 pub fn round(num: i64, den: u32) -> Rounded
-    ensures { λ r. ⌜ (r .value ≡ nearest num den) × (r .rest ≡ remainder num den) ⌝ }
+    ensures { λ r. ⌜ (r .value ≡ nearest num den) × (r .rest ≡ remainder num den) × (r .exact ≡ whole num den) ⌝ }
 {
     Rounded {
         value: quotient(num, den),
         rest: rest(num, den),
+        exact: is_whole(num, den),
     }
 }
 

@@ -28,7 +28,7 @@ pub(crate) fn in_units(q: Fraction) -> Value
     let rounded = integer::round(256 * q.num, q.den);
     Value {
         units: rounded.value as i32,
-        exact: rounded.rest == 0,
+        exact: rounded.exact,
     }
 }
 

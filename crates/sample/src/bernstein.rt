@@ -97,20 +97,16 @@ pub(crate) fn rounded_quotient(sum: i64, divisor: u32) -> Coordinate
     let quotient = integer::round(sum, divisor);
     Coordinate {
         value: quotient.value as i32,
-        exact: quotient.rest == 0,
+        exact: quotient.exact,
     }
 }
 
-// Coordinate k of the sample: blended along u too, and rounded once.
-fn coordinate(patch: &[i32], k: usize, u: [u32; 4], v: [u32; 4], divisor: u32) -> Coordinate
+// What coordinate k of the sample is divided from: blended along v, then along u.
+fn coordinate_sum(patch: &[i32], k: usize, u: [u32; 4], v: [u32; 4]) -> i64
     requires { ⌜ Small (now patch) × (k < 3) × Light u × Light v ⌝ }
-    requires { ⌜ Mean (blendedTwice u v (controlOf (now patch) k)) divisor ⌝ }
-    ensures { λ r. ⌜ r ≡ record {
-      value = nearest (blendedTwice u v (controlOf (now (patch .entry)) k)) divisor;
-      exact = whole (blendedTwice u v (controlOf (now (patch .entry)) k)) divisor;
-    } ⌝ }
+    ensures { λ r. ⌜ r ≡ blendedTwice u v (controlOf (now (patch .entry)) k) ⌝ }
 {
-    rounded_quotient(blend(u, curve(patch, k, v)), divisor)
+    blend(u, curve(patch, k, v))
 }
 
 // The point of the patch at (a, b), exact where the division left nothing in any coordinate.
@@ -128,9 +124,9 @@ pub(crate) fn point(patch: &[i32], n: usize, a: usize, b: usize) -> MarkedPoint
     let u = weights(n, a);
     let v = weights(n, b);
     let over = divisor(n);
-    let x = coordinate(patch, 0, u, v, over);
-    let y = coordinate(patch, 1, u, v, over);
-    let z = coordinate(patch, 2, u, v, over);
+    let x = rounded_quotient(coordinate_sum(patch, 0, u, v), over);
+    let y = rounded_quotient(coordinate_sum(patch, 1, u, v), over);
+    let z = rounded_quotient(coordinate_sum(patch, 2, u, v), over);
     MarkedPoint {
         point: Point {
             x: x.value,

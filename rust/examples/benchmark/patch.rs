@@ -21,7 +21,7 @@ struct Value {
 impl From<Rounded> for Value {
     #[inline(always)]
     fn from(rounded: Rounded) -> Value {
-        Value { units: rounded.value as i32, exact: rounded.rest == 0 }
+        Value { units: rounded.value as i32, exact: rounded.exact }
     }
 }
 

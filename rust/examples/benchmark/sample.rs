@@ -88,7 +88,7 @@ pub fn marked_sample<A: Access>(
     }
     let coordinates = coordinates::<A>(patch_of::<A>(patches, face)?, n, a, b)?;
     let marks: &[u8; PATCH_MARKS] = A::array(exact, PATCH_MARKS * face);
-    let whole = coordinates.iter().fold(true, |whole, x| whole & (x.rest == 0));
+    let whole = coordinates.iter().fold(true, |whole, x| whole & x.exact);
     Ok(MarkedPoint {
         point: coordinates.map(|x| x.value as i32),
         exact: marks.iter().fold(whole, |exact, &mark| exact & (mark == 1)),

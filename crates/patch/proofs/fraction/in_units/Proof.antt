@@ -2,14 +2,13 @@
 use mathlib.Core.Path.{_≡_, ap, _∙_}
 use native.Mathlib.Omega.{arith}
 use Prim.Native.Nat.{_*_}
-use lib.Dec.{eqb}
-use lib.IntN.{ℤ, pos, natAbs, _*ℤ_}
+use lib.IntN.{ℤ, pos, _*ℤ_}
 use mir.Syntax.{w32, w64}
 use mir.Val.{SFits, toZ, ofZ}
 use mir.Facts.{toZ-ofZ}
 use borrow.Author.Needs.{needs}
-use Rattle.integer.specs.Nearest.{nearest, remainder}
-use Rattle.integer.proofs.Laws.{abs-*, sfits-abs, read-back, zero-bits}
+use Rattle.integer.specs.Nearest.{nearest, whole}
+use Rattle.integer.proofs.Laws.{abs-*, sfits-abs, read-back}
 use Rattle.integer.proofs.NearestLaws.{nearest-bounded}
 use Rattle.limits.specs.Limits.{maxCoordinate}
 use Rattle.patch.specs.Patch.{units, exactly}
@@ -57,18 +56,14 @@ module _ (c : tie.After-struct-told2) where
   read : toZ w64 (ofZ w64 (called .round .result .value)) ≡ units (fractionOf (start .args .q))
   read = read-back w64 (c .struct-told2 .given .0 .1) (called .round .ensures .0 ∙ ap (λ (z : ℤ). nearest z (start .args .q .den)) passed)
 
-  left : eqb (ofZ w64 (called .round .result .rest)) 0 ≡ exactly (fractionOf (start .args .q))
-  left =
-      zero-bits (called .round .result .rest) (c .struct-told2 .given .1 .0 .1)
-      ∙ ap (λ (z : ℤ). eqb (natAbs z) 0) (called .round .ensures .1 ∙ ap (λ (z : ℤ). remainder z (start .args .q .den)) passed)
+  left : called .round .result .exact ≡ exactly (fractionOf (start .args .q))
+  left = called .round .ensures .2 ∙ ap (λ (z : ℤ). whole z (start .args .q .den)) passed
 
 cast-t4 : tie.Need-cast-t4
 cast-t4 c = rw (read c) (rounded-fits (start c))
 
 returns : tie.Need-returns
-returns c =
-    let told : tie.After-struct-told2 = c .before .before in
-    same-value (ap (λ (z : ℤ). toZ w32 (ofZ w32 z)) (read told) ∙ toZ-ofZ (rounded-fits (start told))) (left told)
+returns c = same-value (ap (λ (z : ℤ). toZ w32 (ofZ w32 z)) (read c) ∙ toZ-ofZ (rounded-fits (start c))) (left c)
 
 pub in-units-spec : {M : Type 1} → statement M
 in-units-spec = tie.close (tie.spec mul-round round-requires cast-t4 returns)

@@ -1,14 +1,12 @@
--- `rounded_quotient` meets its contract: it rounds once, a quotient no further from 0 than a control value fits 32 bits, and nothing is left where
--- the rest is 0.
+-- `rounded_quotient` meets its contract: it rounds once, and a quotient no further from 0 than a control value fits 32 bits.
 use mathlib.Core.Path.{_≡_, sym, ap, _∙_, subst}
 use native.Mathlib.Omega.{arith}
-use lib.Dec.{eqb}
-use lib.IntN.{ℤ, natAbs}
+use lib.IntN.{ℤ}
 use mir.Syntax.{w32, w64}
 use mir.Val.{SFits, toZ, ofZ}
 use mir.Facts.{toZ-ofZ}
 use Rattle.integer.specs.Nearest.{nearest, whole}
-use Rattle.integer.proofs.Laws.{sfits-abs, read-back, zero-bits}
+use Rattle.integer.proofs.Laws.{sfits-abs, read-back}
 use Rattle.integer.proofs.NearestLaws.{nearest-bounded}
 use Rattle.sample.specs.Refusal.{maxControl}
 use Rattle.sample.proofs.BlendLaws.{same-coordinate}
@@ -33,18 +31,14 @@ module _ (c : tie.After-struct-told) where
   rounds : toZ w64 (ofZ w64 (called .round .result .value)) ≡ nearest (start .args .sum) (start .args .divisor)
   rounds = read-back w64 (c .struct-told .given .0 .1) (rw (toZ-ofZ (start .fits .sum)) at (called .round .ensures .0))
 
-  leaves : eqb (ofZ w64 (called .round .result .rest)) 0 ≡ whole (start .args .sum) (start .args .divisor)
-  leaves =
-      zero-bits (called .round .result .rest) (c .struct-told .given .1 .0 .1)
-      ∙ ap (λ (z : ℤ). eqb (natAbs z) 0) (rw (toZ-ofZ (start .fits .sum)) at (called .round .ensures .1))
+  leaves : called .round .result .exact ≡ whole (start .args .sum) (start .args .divisor)
+  leaves = rw (toZ-ofZ (start .fits .sum)) at (called .round .ensures .2)
 
 cast-t4 : tie.Need-cast-t4
 cast-t4 c = subst (SFits w32) (sym (rounds c)) (fits (start c))
 
 returns : tie.Need-returns
-returns c =
-    let told : tie.After-struct-told = c .before .before in
-    same-coordinate (ap (λ (z : ℤ). toZ w32 (ofZ w32 z)) (rounds told) ∙ toZ-ofZ (fits (start told))) (leaves told)
+returns c = same-coordinate (ap (λ (z : ℤ). toZ w32 (ofZ w32 z)) (rounds c) ∙ toZ-ofZ (fits (start c))) (leaves c)
 
 pub rounded-quotient-spec : {M : Type 1} → statement M
 rounded-quotient-spec = tie.close (tie.spec round-requires cast-t4 returns)
