@@ -28,7 +28,7 @@ module _ (patches : List ℤ) (exact : List ℕ) (f n a b : ℕ) where
       let short = lt-ltb (length exact) (16 * f + 16) (omega arith) in
       bool-cases (faceOff patches f) (λ e. rw e) (λ e. rw (e, short))
 
-  pub marks-on : f < length exact / 16 → firstMet (markedRows patches exact f n a b) ≡ firstMet (sampleRows patches f n a b)
+  marks-on : f < length exact / 16 → firstMet (markedRows patches exact f n a b) ≡ firstMet (sampleRows patches f n a b)
   unfolding marksOff
   marks-on h =
       let long = le-ltb (length exact) (16 * f + 16) (omega arith) in

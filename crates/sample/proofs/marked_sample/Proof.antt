@@ -1,6 +1,6 @@
 -- `marked_sample` meets its contract: 12 is tested for the marks; where they are listed, the part of them that is handed on is that of the face, and the
 -- answer is that of the sample with its own mark, with the marks of the face asked too.
-use mathlib.Core.Path.{_≡_, sym, ap, _∙_}
+use mathlib.Core.Path.{sym, ap, _∙_}
 use mathlib.Core.Bool.{Bool}
 use Prim.Native.Nat.{_/_, _<_}
 use native.Mathlib.Omega.{arith}

@@ -1,5 +1,5 @@
 -- `coordinate_sum` meets its contract: the curve is small, so that it can be blended.
-use mathlib.Core.Path.{sym, _∙_, subst}
+use mathlib.Core.Path.{sym, subst}
 use mir.Syntax.{w64}
 use Rattle.integer.proofs.Laws.{read-back}
 use Rattle.sample.specs.Blend.{Fine}
