@@ -99,23 +99,28 @@ class MeshReading:
         """Whether a lent list is too short; here none is lent."""
         return False
 
+    def faults(self):
+        """Where each cause is met, by its number: vertices, faces (5, 6) or sides (7), in order; nothing is said of where for 1 and 2."""
+        t = self.mesh
+        lengths = (len(t.positions), len(t.tags), len(t.faces))
+        first = {ends: c for c, ends in reversed(list(enumerate(self.sides)))}
+        return {
+            1: [None] if t.v not in VERTICES or t.f not in FACES or lengths != (3 * t.v, t.v, 4 * t.f) else [],
+            2: [None] if self.lent_short() else [],
+            3: sorted({place // 3 for place, x in enumerate(t.positions) if x not in COORDINATES}),
+            4: [p for p, tag in enumerate(t.tags) if tag not in TAGS],
+            5: sorted({c // 4 for c, p in enumerate(t.faces) if p >= t.v}),
+            6: [f for f, quad in enumerate(self.quads) if len(set(quad)) < 4],
+            7: [c for c, ends in enumerate(self.sides) if first[ends] != c],
+            8: [p for p in range(t.v) if p not in self.fans],
+            9: sorted(p for p, fans in self.fans.items() if len(fans) > 1),
+            10: sorted(p for p, count in self.whole() if count not in (INNER_VALENCES if self.inner[p] else BOUNDARY_FACES)),
+            11: sorted(p for p in self.fans if self.inner[p] and t.tags[p : p + 1] == [1]),
+        }
+
     def causes(self):
         """The numbers of all causes that are met, in order; the answer is the first."""
-        t = self.mesh
-        met = {
-            1: t.v not in VERTICES or t.f not in FACES or len(t.positions) != 3 * t.v or len(t.tags) != t.v or len(t.faces) != 4 * t.f,
-            2: self.lent_short(),
-            3: any(x not in COORDINATES for x in t.positions),
-            4: any(x not in TAGS for x in t.tags),
-            5: any(p >= t.v for p in t.faces),
-            6: any(len(set(quad)) < 4 for quad in self.quads),
-            7: len(set(self.sides)) < len(self.sides),
-            8: any(p not in self.fans for p in range(t.v)),
-            9: any(len(fans) > 1 for fans in self.fans.values()),
-            10: any(count not in (INNER_VALENCES if self.inner[p] else BOUNDARY_FACES) for p, count in self.whole()),
-            11: any(self.inner[p] and t.tags[p : p + 1] == [1] for p in self.fans),
-        }
-        return [number for number, holds in met.items() if holds]
+        return [number for number, places in self.faults().items() if places]
 
     def counts(self):
         """V, F, E and B of an accepted mesh."""

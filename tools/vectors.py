@@ -9,24 +9,12 @@ in -refused-N where the file is refused. The coordinates that no vector names ar
 import argparse
 import random
 import struct
-from dataclasses import dataclass
 from itertools import combinations
 from pathlib import Path
 
 from last import last
-from meshes import (
-    BOUNDARY_FACES,
-    FACES,
-    INNER_VALENCES,
-    MESH_FAULTS,
-    STEPS,
-    VERTICES,
-    Mesh,
-    PatchReading,
-    changed,
-    numbered,
-    spoiled,
-)
+from mesh_files import SIZES, FileMesh, FileReading
+from meshes import BOUNDARY_FACES, INNER_VALENCES, MESH_FAULTS, PatchReading, changed, numbered, spoiled
 from patches import shuffled
 from shapes import (
     Shape,
@@ -55,64 +43,12 @@ CRATE = Path(__file__).resolve().parent.parent / "crates" / "vectors"
 
 RANDOM = random.Random(20250609)
 
-# The bytes of the sizes, the places of the program's buffer, and the bytes of the square's file.
-SIZES = 6
+# The places of the program's buffer, and the bytes of the square's file.
 BUFFER = 65536
 SQUARE = 66
 
 
 # ---- Files.
-
-
-@dataclass
-class FileMesh(Mesh):
-    n: int
-
-    def bytes(self):
-        return struct.pack("<3H", self.v, self.f, self.n) + self.packed()
-
-
-def length(v, f):
-    """The length of a file with these sizes."""
-    return SIZES + 13 * v + 8 * f
-
-
-def parsed(content, v, f, n):
-    """The mesh in a file of these sizes; what stands behind it is left out."""
-    tags_at, faces_at, end = SIZES + 12 * v, SIZES + 13 * v, length(v, f)
-    positions = struct.unpack(f"<{3 * v}i", content[SIZES:tags_at])
-    faces = struct.unpack(f"<{4 * f}H", content[faces_at:end])
-    return FileMesh(v, f, list(positions), list(content[tags_at:faces_at]), list(faces), n)
-
-
-class FileReading:
-    """What rules F1 to F10 say of a file."""
-
-    def __init__(self, content):
-        self.content = content
-        # Of a file that is too short nothing but the sizes is read.
-        self.v, self.f, self.n = struct.unpack_from("<3H", content) if len(content) >= SIZES else (None, None, None)
-        is_there = self.v is not None and len(content) >= length(self.v, self.f)
-        self.reading = PatchReading(parsed(content, self.v, self.f, self.n)) if is_there else None
-
-    def causes(self):
-        """The numbers of all causes that are met, in the file's order; the answer is the first."""
-        if self.v is None:
-            return [15]
-        met = [1] if self.v not in VERTICES or self.f not in FACES else []
-        met += [15] if len(self.content) != length(self.v, self.f) else []
-        met += [number for number in self.reading.causes() if number > 1] if self.reading else []
-        return met + ([14] if self.n not in STEPS else [])
-
-    def lines(self):
-        """The lines that are printed."""
-        causes = self.causes()
-        if causes:
-            return [f"refused {causes[0]}"]
-        places = range(self.n + 1)
-        samples = enumerate(self.reading.samples)
-        rows = [[f, a, b, *at[a, b]] for f, at in samples for b in places for a in places]
-        return [" ".join(map(str, row)) for row in [self.reading.counts(), *rows]]
 
 
 def file(mesh, n=2):

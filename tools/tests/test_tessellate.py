@@ -6,40 +6,25 @@ import shutil
 import signal
 import subprocess
 import sys
-import tempfile
 import time
 import tty
 import unittest
 from pathlib import Path
 
-ROOT = Path(__file__).resolve().parent.parent.parent
+import cases
+from cases import ROOT, SQUARE, SQUARE_LINES, VECTORS
+
 TOOL = ROOT / "tools" / "tessellate"
-SQUARE = ROOT / "crates" / "tessellate" / "stdin"
-SQUARE_LINES = (ROOT / "crates" / "tessellate" / "stdout").read_bytes()
-VECTORS = ROOT / "crates" / "vectors"
 
 
-class Case(unittest.TestCase):
-    """A folder of its own for each test, and the tool run in it."""
+class Case(cases.Case):
+    """The tool run with a program of its own, and programs."""
 
-    def setUp(self):
-        folder = tempfile.TemporaryDirectory()
-        self.addCleanup(folder.cleanup)
-        self.folder = Path(folder.name)
-
-    def run_tool(self, *words, program=None, tool=TOOL, **more):
+    def run_tool(self, *words, program=None, tool=TOOL, environment=(), **more):
         """The exit status, standard output and standard error of a run."""
-        environment = {key: value for key, value in os.environ.items() if key != "TESSELLATE_PROGRAM"}
-        if program is not None:
-            environment["TESSELLATE_PROGRAM"] = str(program)
-        environment.update(more.pop("environment", {}))
-        if "input" not in more:
-            more.setdefault("stdin", subprocess.DEVNULL)
-        more.setdefault("stdout", subprocess.PIPE)
-        done = subprocess.run([tool, *words], cwd=self.folder, env=environment, stderr=subprocess.PIPE, timeout=1200, **more)
-        error = done.stderr.decode()
-        self.assertNotIn("Traceback", error)
-        return done.returncode, done.stdout, error
+        usual = {key: value for key, value in os.environ.items() if key != "TESSELLATE_PROGRAM"}
+        given = {} if program is None else {"TESSELLATE_PROGRAM": str(program)}
+        return self.run_command(tool, *words, environment={**usual, **given, **dict(environment)}, **more)
 
     def script(self, text, name="program"):
         """A program of these lines of Python."""
@@ -51,9 +36,6 @@ class Case(unittest.TestCase):
     def printing(self, output, status=0):
         """A program that reads its input and prints these bytes."""
         return self.script(f"sys.stdin.buffer.read()\nsys.stdout.buffer.write({output!r})\nsys.stdout.flush()\nos._exit({status})")
-
-    def files(self):
-        return sorted(path.name for path in self.folder.iterdir() if path.name != "program")
 
 
 class Whole(Case):
@@ -339,7 +321,8 @@ class Building(Case):
         self.tool = self.folder / "tools" / "tessellate"
         for name in ("tools", "docs", "crates/mesh", "bin"):
             (self.folder / name).mkdir(parents=True)
-        shutil.copy(TOOL, self.tool)
+        for name in ("tessellate", "command.py"):
+            shutil.copy(TOOL.with_name(name), self.folder / "tools")
         (self.folder / "crates.txt").write_text("")
         (self.folder / "crates" / "mesh" / "lib.rt").write_text("")
         self.script(RT.replace("PROGRAM", repr(str(self.printing(SQUARE_LINES)))), "bin/rt")
