@@ -6,6 +6,7 @@ import os
 import signal
 import sys
 import tempfile
+import traceback
 from contextlib import contextmanager, suppress
 from pathlib import Path
 
@@ -34,11 +35,12 @@ def stop(number, _frame):
 
 
 def say(*lines):
-    """Lines on standard error, as far as there is one."""
+    """Lines on standard error, as far as there is one; what a terminal would not show as it is, by its number."""
     with suppress(OSError):
         if sys.stderr is not None:
             for line in lines:
-                print(f"{NAME}: {line}", file=sys.stderr, flush=True)
+                words = "".join(c if c.isprintable() or c == "\n" else f"\\x{ord(c):02x}" for c in str(line))
+                print(f"{NAME}: {words}", file=sys.stderr, flush=True)
 
 
 def reason(error):
@@ -100,7 +102,8 @@ def show(lines):
     if sys.stdout is None:
         raise Failure("standard output is closed")
     try:
-        write_all(sys.stdout.fileno(), "".join(f"{line}\n" for line in lines).encode())
+        # a name that is no text came in as one by the same way
+        write_all(sys.stdout.fileno(), "".join(f"{line}\n" for line in lines).encode(errors="surrogateescape"))
     except OSError as error:
         raise Failure(f"standard output: {reason(error)}; not all of it was written") from None
 
@@ -119,12 +122,23 @@ def named(beside, target, force):
 
 
 def assert_free(name, force):
-    """That a file can have this name: nothing has it, or with force a regular file."""
+    """That a file can have this name: its folder is there, and nothing has it, or with force a regular file."""
     target = os.path.realpath(name)
     if not os.path.basename(name) or os.path.exists(target) and not os.path.isfile(target):
         raise Failure(f"{name}: is not a regular file; it was not written")
+    if not os.path.isdir(os.path.dirname(target)):
+        raise Failure(f"{name}: No such file or directory; it was not written")
     if not force and os.path.exists(target):
         raise Failure(f"{name}: exists; -f overwrites it")
+
+
+def rights(target):
+    """The rights of a file that gets this name: those of the file that has it, or the usual ones."""
+    if os.path.exists(target):
+        return os.stat(target).st_mode & 0o777
+    mask = os.umask(0)
+    os.umask(mask)
+    return 0o666 & ~mask
 
 
 @contextmanager
@@ -133,12 +147,10 @@ def written(name, force=True):
     target, beside = os.path.realpath(name), None
     assert_free(name, force)
     try:
-        place, beside = tempfile.mkstemp(prefix=f".{os.path.basename(target)}.", dir=os.path.dirname(target))
+        place, beside = tempfile.mkstemp(prefix=f".{os.path.basename(target)[:32]}.", dir=os.path.dirname(target))
         with open(place, "wb", buffering=0) as out:
             yield lambda data: write_all(out.fileno(), data)
-            mask = os.umask(0)
-            os.umask(mask)
-            os.fchmod(out.fileno(), 0o666 & ~mask)
+            os.fchmod(out.fileno(), rights(target))
             os.fsync(out.fileno())
         named(beside, target, force)
         beside = None
@@ -171,10 +183,14 @@ def add_output(made, what):
 def parsed(made, *inputs):
     """The command's words; its output must not be one of its inputs, which have these names, nor without -f any file that exists."""
     given = made.parse_args()
+    sources = [getattr(given, name) for name in inputs]
+    if given.output == "-":
+        raise Failure("-: OUT is a file, not standard output")
+    if sources.count("-") > 1:
+        raise Failure("-: standard input can be one file, not two")
     assert_free(given.output, given.force)
-    for source in (getattr(given, name) for name in inputs):
-        if is_same(source, given.output):
-            raise Failure(f"{given.output}: is a file to read; it was not written")
+    if any(is_same(source, given.output) for source in sources):
+        raise Failure(f"{given.output}: is a file to read; it was not written")
     return given
 
 
@@ -216,6 +232,10 @@ def run(command):
         return REFUSED
     except (Failure, OSError) as failure:
         say(failure)
+        return FAILED
+    except Exception:
+        # a fault of the command itself: not to be taken for one of its input
+        traceback.print_exc()
         return FAILED
     except Stopped as stopped:
         signal.signal(*stopped.args, signal.SIG_DFL)

@@ -37,7 +37,9 @@ def no_vertex(reading, f, names):
 
 def vertex_twice(reading, f, names):
     quad = reading.quads[f]
-    return f"{names.face(f)} names {names.vertex(next(p for p in quad if quad.count(p) > 1))} twice"
+    p = max(quad, key=quad.count)
+    often = {2: "twice"}.get(quad.count(p), f"{quad.count(p)} times")
+    return f"{names.face(f)} names {names.vertex(p)} {often}"
 
 
 def same_half_edge(reading, c, names):

@@ -4,7 +4,7 @@ import re
 from dataclasses import dataclass
 from math import isqrt
 
-from command import Unusable, meaning
+from command import Unusable, meaning, plural
 
 COUNTS = re.compile(rb"[0-9]{1,9}(?: [0-9]{1,9}){3}")
 SAMPLE = re.compile(rb"([0-9]{1,9}) ([0-9]{1,9}) ([0-9]{1,9}) (-?[0-9]{1,12}) (-?[0-9]{1,12}) (-?[0-9]{1,12})")
@@ -30,8 +30,19 @@ def steps(name, lines, faces):
     """N, from the number of the lines behind the first."""
     side = isqrt(lines // faces) if faces else 0
     if side < 2 or faces * side**2 != lines:
-        raise Unusable(f"{name}: {lines} lines of samples for {faces} faces: it is not whole, for no N is F (N + 1)^2 that number")
+        count = f"{plural(lines, 'line')} of samples for {plural(faces, 'face')}"
+        raise Unusable(f"{name}: {count}: it is not whole, for no N is F (N + 1)^2 that number")
     return side - 1
+
+
+def counts_of(name, line):
+    """V, F, E and B of the first line."""
+    if not COUNTS.fullmatch(line):
+        raise Unusable(f"{name}:1: the first line is not V F E B: is this what tools/tessellate printed?")
+    v, f, e, b = map(int, line.split())
+    if 4 * f + b != 2 * e or b > 4 * f:
+        raise Unusable(f"{name}:1: V F E B are not those of a mesh: 4F + B = 2E for each, and B is at most 4F")
+    return [v, f, e, b]
 
 
 def parsed(name, content):
@@ -41,11 +52,9 @@ def parsed(name, content):
         cause, *repair = meaning(int(refused[1]))
         raise Unusable(f"{name}: is the listing of a refused file, {int(refused[1])}: {cause}", *repair)
     first, *lines = content.split(b"\n")
-    if not COUNTS.fullmatch(first):
-        raise Unusable(f"{name}:1: the first line is not V F E B: is this what tools/tessellate printed?")
+    counts = counts_of(name, first)
     if not lines or lines.pop():
         raise Unusable(f"{name}:{1 + content.count(10)}: the last line has no line end: the listing is not whole")
-    counts = [int(word) for word in first.split()]
     n = steps(name, len(lines), counts[1])
     samples = [{} for _ in range(counts[1])]
     places = ((f, a, b) for f in range(counts[1]) for b in range(n + 1) for a in range(n + 1))

@@ -3,11 +3,12 @@
 tools/vectors.py and the commands that read or write a mesh file use it.
 """
 
+import shlex
 import struct
 from dataclasses import dataclass
 from functools import cached_property
 
-from command import Unusable, meaning
+from command import Unusable, meaning, shown
 from meshes import FACES, STEPS, VERTICES, Mesh, PatchReading
 
 # The bytes of the sizes.
@@ -84,10 +85,23 @@ class FileReading:
         return [" ".join(map(str, row)) for row in [self.reading.counts(), *rows]]
 
 
+# What is said of a file that is no mesh file at all.
+TEXT = "this is a text file: tools/obj2mesh makes a mesh file of a model, and tools/preview and tools/listing2obj take whole listings"
+
+
+def is_text(content):
+    """Whether these bytes begin as text does; an accepted mesh file does not, with a 0 among its sizes."""
+    front = content[:512]
+    text = front.decode(errors="ignore")
+    # a letter of several bytes may be cut off at the end
+    return len(content) >= SIZES and len(text.encode()) > len(front) - 4 and all(c.isprintable() or c.isspace() for c in text)
+
+
 def accepted(name, content):
-    """The reading of a file of this name that has to be accepted."""
+    """The reading of the file of this name, - for standard input, that has to be accepted."""
     file = FileReading(content)
     number = file.refusal()
     if number is not None:
-        raise Unusable(f"{name}: refused {number}: {meaning(number)[0]}", f"tools/explain {name} says where")
+        hint = TEXT if is_text(content) else f"tools/explain {shlex.quote(name)} says where"
+        raise Unusable(f"{shown(name)}: refused {number}: {meaning(number)[0]}", hint)
     return file

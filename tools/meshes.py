@@ -113,8 +113,8 @@ class MeshReading:
             6: [f for f, quad in enumerate(self.quads) if len(set(quad)) < 4],
             7: [c for c, ends in enumerate(self.sides) if first[ends] != c],
             8: [p for p in range(t.v) if p not in self.fans],
-            9: sorted(p for p, fans in self.fans.items() if len(fans) > 1),
-            10: sorted(p for p, count in self.whole() if count not in (INNER_VALENCES if self.inner[p] else BOUNDARY_FACES)),
+            9: sorted(p for p, fans in self.fans.items() if p < t.v and len(fans) > 1),
+            10: sorted(p for p, count in self.whole() if p < t.v and count not in (INNER_VALENCES if self.inner[p] else BOUNDARY_FACES)),
             11: sorted(p for p in self.fans if self.inner[p] and t.tags[p : p + 1] == [1]),
         }
 

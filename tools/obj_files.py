@@ -14,6 +14,7 @@ from command import Unusable
 # A decimal of at most so many digits, and of an exponent that a fraction can carry.
 DECIMAL = re.compile(r"[+-]?(?:[0-9]+\.?[0-9]*|\.[0-9]+)(?:[eE][+-]?[0-9]{1,3})?")
 LONGEST = 400
+COMMENT = re.compile(r"(?:^|\s)#.*")
 REFERENCE = re.compile(r"([+-]?[0-9]{1,9})(?:/(?:[+-]?[0-9]{1,9})?){0,2}")
 
 
@@ -47,11 +48,16 @@ class Model:
         return Unusable(f"{self.name}:{line}: {words}")
 
 
-def statements(text):
-    """The words of each statement without its comment, and the line that it begins in."""
+def lines(content):
+    """The lines of a text file, each with its number and without its comment, which a # begins at the line's begin or behind a blank."""
+    text = content.decode("utf-8-sig", errors="replace")
+    return enumerate((COMMENT.sub("", line).rstrip() for line in re.split("\r\n|\r|\n", text)), 1)
+
+
+def statements(content):
+    """The words of each statement, and the line that it begins in."""
     start, words = None, []
-    for number, line in enumerate(re.split("\r\n|\r|\n", text), 1):
-        code = line.partition("#")[0].rstrip()
+    for number, code in lines(content):
         start = start or number
         words += code.rstrip("\\").split()
         if code.endswith("\\"):
@@ -99,8 +105,8 @@ def assert_named(model, elements):
 
 def parsed(name, content):
     """The model in the bytes of a file of this name."""
-    model, current = Model(name), []
-    for line, (keyword, *words) in statements(content.decode("utf-8-sig", errors="replace")):
+    model, current, elements = Model(name), ["default"], []
+    for line, (keyword, *words) in statements(content):
         if keyword == "v":
             model.vertices.append(vertex(model, line, words))
         elif keyword == "g":
@@ -108,10 +114,9 @@ def parsed(name, content):
             for group in current:
                 model.groups.setdefault(group, [])
         elif keyword in ("f", "p", "l"):
-            element = Element(keyword, [reference(model, line, word) for word in words], line)
+            elements.append(Element(keyword, [reference(model, line, word) for word in words], line))
             for group in current:
-                model.groups[group].append(element)
-            if keyword == "f":
-                model.faces.append(element)
-    assert_named(model, [*model.faces, *(element for elements in model.groups.values() for element in elements)])
+                model.groups.setdefault(group, []).append(elements[-1])
+    assert_named(model, elements)
+    model.faces = [element for element in elements if element.kind == "f"]
     return model

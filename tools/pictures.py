@@ -7,6 +7,7 @@ some times finer than the picture, whose colours are the means of its points.
 import struct
 import zlib
 from array import array
+from itertools import product
 from math import ceil, floor, inf
 
 TONES = 256
@@ -50,20 +51,23 @@ class Canvas:
             depth += depth_step
             tone += tone_step
 
-    def line(self, start, end, tone, width):
-        """Draws a line between two points (x, y, depth) over what is not nearer; it leaves the depths as they are."""
+    def line(self, start, end, tone, over, width):
+        """Draws a line between two points (x, y, depth) over these tones, where its middle is not behind anything; depths stay."""
         (x0, y0, z0), (x1, y1, z1) = start, end
         steps = max(1, ceil(max(abs(x1 - x0), abs(y1 - y0))))
         offsets = range(-(width // 2), width - width // 2)
         for step in range(steps + 1):
             part = step / steps
             x, y, depth = round(x0 + (x1 - x0) * part), round(y0 + (y1 - y0) * part), z0 + (z1 - z0) * part
-            for row in offsets:
-                for column in offsets:
-                    if 0 <= x + column < self.width and 0 <= y + row < self.height:
-                        at = (y + row) * self.width + x + column
-                        if depth > self.depths[at]:
-                            self.tones[at] = tone
+            if self.holds(x, y) and depth >= self.depths[y * self.width + x]:
+                for column, row in product(offsets, repeat=2):
+                    at = (y + row) * self.width + x + column
+                    if self.holds(x + column, y + row) and self.tones[at] in over:
+                        self.tones[at] = tone
+
+    def holds(self, x, y):
+        """Whether there is such a point."""
+        return 0 <= x < self.width and 0 <= y < self.height
 
     def rows(self, colours, finer):
         """The rows of the picture as bytes, red, green and blue: each point the mean of finer by finer of the canvas."""

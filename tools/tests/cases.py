@@ -70,7 +70,7 @@ class Case(unittest.TestCase):
 
 
 class Writing:
-    """What every command that writes a file does, for a case that has `words`, those of a run but for -o, and `source`, its file to read."""
+    """What every command that writes a file does; for a case with `words`, those of a run but for -o, and `source`, its file to read."""
 
     def written(self):
         """The bytes that it writes."""
@@ -111,6 +111,18 @@ class Writing:
             status, _, error = self.run_command(*self.words, "-f", "-o", name)
             self.assertEqual((status, error.splitlines()[-1]), (2, f"{self.words[0]}: {name}: {words}; it was not written"))
         self.assertEqual(self.files(), before)
+
+    def test_rights_are_kept(self):
+        self.file("out", b"old").chmod(0o600)
+        self.assertEqual(self.run_command(*self.words, "-f", "-o", "out")[0], 0)
+        self.assertEqual((self.folder / "out").stat().st_mode & 0o777, 0o600)
+
+    def test_not_to_standard_output(self):
+        status, output, error = self.run_command(*self.words, "-o", "-")
+        self.assertEqual((status, output, error), (2, b"", f"{self.words[0]}: -: OUT is a file, not standard output\n"))
+
+    def test_long_name(self):
+        self.assertEqual(self.run_command(*self.words, "-o", "o" * 255)[0], 0)
 
     def test_input_that_is_not_there(self):
         words = [word if word != str(self.source) else "missing" for word in map(str, self.words)]

@@ -47,7 +47,7 @@ class Program(unittest.TestCase):
                 number, said = explain.explained(content)
                 if number is None:
                     accepted += 1
-                    counts = re.match(r"  counts: V = (\d+) vertices, F = (\d+) faces, E = (\d+) edges, B = (\d+) boundary", said[1])
+                    counts = re.match(r"  counts: V = (\d+) vertices, F = (\d+) faces?, E = (\d+) edges, B = (\d+) boundary", said[1])
                     self.assertEqual(first, " ".join(counts.groups()))
                     self.assertRegex(said[0], rf"^accepted, with N = \d+: the listing has 1 \+ {lines - 1} lines$")
                     self.assertEqual("closed" in said[2], counts[4] == "0")
@@ -78,6 +78,7 @@ class Places(unittest.TestCase):
         content = file(cube(), positions={23: -1048577, 4: 1048577, 5: 7000000})
         rest = self.first(content, 3, "vertex 1 has y = 1,048,577 micrometres; 1 more vertex at fault")
         self.assertEqual(rest, ["vertex 1 is at (0.021, 1048.577, 7000.000) mm"])
+        self.first(file(cube(), positions={6: 1048576, 7: -1048576, 8: -1048577}), 3, "vertex 2 has z = -1,048,577 micrometres")
 
     def test_tag(self):
         self.first(file(square(), tags={2: 255, 3: 2}), 4, "vertex 2 has the tag 255; 1 more vertex at fault")
@@ -85,12 +86,27 @@ class Places(unittest.TestCase):
     def test_vertex_that_is_not_there(self):
         place = "face 2 names vertex 9, and the vertices are those from 0 to 7; 1 more face at fault"
         rest = self.first(file(cube(), faces={10: 9, 23: 8}), 5, place)
-        self.assertEqual(rest[0], "vertex 0 is at (0.000, 0.000, 0.000) mm")
+        self.assertEqual(rest[0], "its vertex 0 is at (0.000, 0.000, 0.000) mm")
         self.first(file(square(), faces=[4, 5, 6, 7]), 5, "face 0 names vertex 4, and the vertices are those from 0 to 3")
+
+    def test_vertices_that_are_not_there_have_no_faults(self):
+        faces = [0, 1, 2, 3, 9, 4, 5, 6, 9, 7, 3, 2]
+        place = "face 1 names vertex 9, and the vertices are those from 0 to 7; 1 more face at fault"
+        rest = self.first(file(join(square(), square()), f=3, faces=faces), 5, place)
+        self.assertEqual(rest, ["its vertex 4 is at (0.084, 0.016, -0.004) mm"])
+
+    def test_text(self):
+        hint = f"  {explain.TEXT}"
+        for text in ("# Blender v3.6 \u00fc\nv 0 0 0\n" * 40, "4 1 4 4\r\n0 0 0 0 0 0\r\n", "solid last\n"):
+            number, lines = explain.explained(text.encode())
+            self.assertEqual((number, lines[-1]), (1, hint))
+        for content in (b"abc", SQUARE.read_bytes(), b"\xff" * 66, b"\x01\x02\x03" * 22):
+            self.assertNotIn(hint, explain.explained(content)[1])
 
     def test_vertex_twice(self):
         rest = self.first(file(join(cube(), Shape([(2, 0, 1, 0)]))), 6, "face 6 names vertex 8 twice")
-        self.assertEqual(rest[0], "vertex 8 is at (0.168, 0.064, -0.008) mm")
+        self.assertEqual(rest[0], "its vertex 8 is at (0.168, 0.064, -0.008) mm")
+        self.first(file(Shape([(3, 3, 3, 1), (0, 1, 2, 3)])), 6, "face 0 names vertex 3 3 times")
 
     def test_half_edge(self):
         place = "face 5 has half-edge 20, from vertex 7 to vertex 4, and face 1 has it too; 3 more half-edges at fault"
@@ -152,6 +168,13 @@ class Run(Case):
         self.assertEqual((status, error), (1, ""))
         self.assertTrue(output.startswith(b"standard input: refused 9: the corners at a vertex are not one fan"))
         self.assertIn(b"  the repair: Split the vertex", output)
+
+    def test_names_that_are_no_text(self):
+        name = b"\xff.mesh"
+        os.rename(self.file("mesh", SQUARE.read_bytes()), os.path.join(os.fsencode(self.folder), name))
+        for environment in (None, {**os.environ, "LC_ALL": "C", "PYTHONUTF8": "0", "PYTHONCOERCECLOCALE": "0"}):
+            status, output, error = self.run_command("explain", name, environment=environment)
+            self.assertEqual((status, output.partition(b",")[0], error), (0, name + b": accepted", ""))
 
     def test_failures(self):
         self.assertEqual(self.run_command("explain", "missing"), (2, b"", "explain: missing: No such file or directory\n"))

@@ -9,9 +9,9 @@ from cases import EXAMPLES, SQUARE_LINES, Case, Writing, vector
 
 import listings
 import obj_files
-from mesh_files import UNITS, FileReading, FileMesh
+from mesh_files import UNITS, FileMesh, FileReading
 from meshes import numbered
-from shapes import join, square
+from shapes import cube, join, square
 
 # The square of rule X1, in millimetres.
 SQUARE_OBJ = """\
@@ -85,8 +85,23 @@ class Listings(Converting):
         mesh = numbered(join(square(), square()))
         mesh.positions = [x for point in points for x in (*point, 0)]
         listing = self.done("tessellate", "-", input=FileMesh(**vars(mesh), n=3).bytes())
-        model = self.converted(listing, says=["warning: 2 boundary half-edges of the mesh lie on each other; they are one edge in OUT"])
+        says = "warning: 2 boundary half-edges of the mesh lie on others, and each two that do are one edge in OUT"
+        model = self.converted(listing, says=[says])
         self.assertEqual(len(model.vertices), 7 * 4)
+
+    def test_two_cubes_in_one_place(self):
+        mesh = numbered(join(cube(), cube()))
+        mesh.positions[24:] = mesh.positions[:24]
+        listing = self.done("tessellate", "-", input=FileMesh(**vars(mesh), n=2).bytes())
+        says = "warning: more than two sides lie on each other; which of them are one edge in OUT is a choice"
+        self.assertEqual(set(edges(self.converted(listing, says=[says])).values()), {1})
+
+    def test_face_that_is_folded(self):
+        """Two sides of one face that lie on each other stay two."""
+        mesh = numbered(square())
+        mesh.positions = [0, 0, 0, 9, 0, 0, 0, 0, 0, 0, 9, 0]
+        listing = self.done("tessellate", "-", input=FileMesh(**vars(mesh), n=3).bytes())
+        self.assert_samples(self.converted(listing), listing)
 
     def test_more_than_two_sides_on_each_other(self):
         listing = self.done("tessellate", vector("every-coordinate-1048576"))
@@ -114,15 +129,21 @@ class Damaged(Converting):
         self.unusable(b"", words)
         self.unusable(vector("cube-1-steps").read_bytes(), words)
 
+    def test_counts(self):
+        words = ":1: V F E B are not those of a mesh: 4F + B = 2E for each, and B is at most 4F"
+        for first in (b"4 1 4 2", b"4 1 5 4", b"4 1 5 6", b"4 2 4 4"):
+            self.unusable(SQUARE_LINES.replace(b"4 1 4 4", first), words)
+        self.unusable(SQUARE_LINES.replace(b"4 1 4 4", b"5 1 4 4"), ":1: V = 5, and the samples are those of a mesh with V = 4")
+
     def test_cut_off(self):
         self.unusable(SQUARE_LINES[:-1], ":5: the last line has no line end: the listing is not whole")
         self.unusable(SQUARE_LINES[:9], ":2: the last line has no line end: the listing is not whole")
         self.unusable(b"4 1 4 4", ":1: the last line has no line end: the listing is not whole")
         lines = SQUARE_LINES.splitlines(True)
         for kept in (1, 2, 4):
-            words = f": {kept - 1} lines of samples for 1 faces: it is not whole, for no N is F (N + 1)^2 that number"
-            self.unusable(b"".join(lines[:kept]), words)
-        self.unusable(b"4 0 4 4\n", ": 0 lines of samples for 0 faces: it is not whole, for no N is F (N + 1)^2 that number")
+            count = f"{kept - 1} line{'s' if kept != 2 else ''} of samples for 1 face"
+            self.unusable(b"".join(lines[:kept]), f": {count}: it is not whole, for no N is F (N + 1)^2 that number")
+        self.unusable(b"4 0 0 0\n", ": 0 lines of samples for 0 faces: it is not whole, for no N is F (N + 1)^2 that number")
 
     def test_lines(self):
         for old, new in ((b"0 1 0 5376", b"0 1 0 x"), (b"0 1 0 5376", b"0 1 0 5376 5"), (b"0 1 0 ", b"0 0 1 "), (b"0 1 0 ", b"1 1 0 ")):
@@ -132,7 +153,12 @@ class Damaged(Converting):
         listing = self.done("tessellate", vector("cube-1-steps"))
         number = re.search(rb"\n(0 0 0 (-?\d+)) ", listing)
         moved = listing.replace(number[1], b"0 0 0 %d" % (int(number[2]) + 1), 1)
-        self.unusable(moved, ": 4 sides of faces lie on no other, and B = 0: the samples are not those of one mesh")
+        words = "no other face has the samples of side 0 of face 0, which begins here; there are 4 such sides"
+        self.unusable(moved, f":2: {words}, and B = 0 is the number of those at the boundary")
+        lines = listing.split(b"\n")
+        lines[-2] = lines[-2] + b"0"
+        words = "no other face has the samples of side 3 of face 1, which begins here; there are 4 such sides"
+        self.unusable(b"\n".join(lines), f":8: {words}, and B = 0 is the number of those at the boundary")
 
 
 class Run(Writing, Case):

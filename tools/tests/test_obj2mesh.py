@@ -1,53 +1,12 @@
-"""tools/obj2mesh: what of an OBJ file comes into the mesh, how it is rounded, what it is refused for, and what is warned of."""
+"""tools/obj2mesh: what of an OBJ file comes into the mesh, how it is rounded, which vertices are tagged, and what is left behind."""
 
 import unittest
 
 from cases import EXAMPLES, SQUARE, Case, Writing
+from obj_cases import CORNERS, QUAD, SQUARE_OBJ, Converting, obj, vertices
 
 import example_last
-from mesh_files import FileReading
-from shapes import Shape, cube, flipped, grid, isolated, join, pillow, square, strip
-
-QUAD = "f 1 2 3 4\n"
-
-
-def vertices(*points):
-    return "".join(f"v {' '.join(map(str, point))}\n" for point in points)
-
-
-# The square of rule X1, in micrometres.
-CORNERS = ((0, 0, 0), (21, 0, 0), (21, 21, 0), (0, 21, 0))
-SQUARE_OBJ = vertices(*CORNERS) + QUAD
-
-
-def obj(shape, size=1000):
-    """A shape with its vertices at places of their own, millimetres apart for a model in micrometres."""
-    points = [(size * (p % 23), size * (p // 23), size * (p * p % 7)) for p in range(shape.vertices)]
-    return vertices(*points) + "".join(f"f {' '.join(str(p + 1) for p in face)}\n" for face in shape.faces)
-
-
-class Converting(Case):
-    def converted(self, text, *words, unit="um", n="1"):
-        """The status, the mesh file if there is one, and the lines on standard error."""
-        self.file("in.obj", text)
-        status, output, error = self.run_command("obj2mesh", "in.obj", "-n", n, "--unit", unit, "-o", "out", "-f", *words)
-        self.assertEqual(output, b"")
-        written = FileReading((self.folder / "out").read_bytes()) if status == 0 else None
-        self.assertEqual("out" in self.files(), status == 0)
-        return status, written, error.splitlines()
-
-    def mesh(self, text, *words, says=(), **more):
-        """The mesh that a model becomes, with these lines on standard error."""
-        status, written, error = self.converted(text, *words, **more)
-        self.assertEqual((status, error), (0, [f"obj2mesh: {line}" for line in says]))
-        self.assertEqual(len(written.content), 6 + 13 * written.v + 8 * written.f)
-        return written.reading.mesh
-
-    def unusable(self, text, *lines, words=()):
-        """That a model cannot be converted, for these reasons."""
-        (self.folder / "out").unlink(missing_ok=True)
-        self.assertEqual(self.converted(text, *words), (1, None, [f"obj2mesh: {line}" for line in lines]))
-
+from shapes import cube, grid, square, strip
 
 # What is said of every model as small as the square.
 SMALL = "in.obj: warning: the whole model is 21 micrometres across: is --unit right?"
@@ -158,7 +117,8 @@ class Corners(Converting):
         text = obj(strip(3)) + "g rim other\np 1 -8\nl 3 5\ng\np 7\n"
         self.assertEqual(self.tags(text, "--corner-group", "rim"), [0, 2, 4])
         self.assertEqual(self.tags(text, "--corner-group", "other"), [0, 2, 4])
-        self.assertEqual(self.tags(text, "--corner-group", "default"), [6])
+        self.assertEqual(self.tags(text.replace("g\n", "g #\n").replace("f", "g all#1\nf", 1), "--corner-group", "default"), [6])
+        self.assertEqual(len(self.tags(text, "--corner-group", "default")), 8)
         self.assertEqual(self.tags(text), [])
 
     def test_faces_of_a_group(self):
@@ -171,113 +131,27 @@ class Corners(Converting):
         self.file("corners", "4")
         self.assertEqual(self.tags(obj(strip(2)) + "g rim\np 1\n", "--corners", "corners", "--corner-group", "rim"), [0, 3])
 
+    def test_nothing_tagged(self):
+        says = ["in.obj: warning: no corner is tagged: the list or group names no vertex, or its faces none of the boundary"]
+        self.file("corners", "# none\n")
+        self.assertEqual(self.tags(obj(square()), "--corners", "corners", says=says), [])
+        self.assertEqual(self.tags(obj(cube()) + "g rim\n", "--corner-group", "rim", says=says), [])
+        self.assertEqual(self.tags(obj(cube()), "--corner-group", "default", says=says), [])
+
+    def test_list_as_text_files_are(self):
+        self.file("corners", "\ufeff1\r\n\x0c3\r\n")
+        self.assertEqual(self.tags(obj(strip(2)), "--corners", "corners"), [0, 2])
+
     def test_group_that_is_not_there(self):
-        self.unusable(obj(square()) + "g a b\n", "in.obj: there is no group c; the groups are: a, b", words=("--corner-group", "c"))
-        self.unusable(obj(square()), "in.obj: there is no group ; the groups are: none", words=("--corner-group", ""))
+        known = "in.obj: there is no group c; the groups are: a, b, default"
+        self.unusable(obj(square()) + "g a b\n", known, words=("--corner-group", "c"))
+        self.unusable(obj(square()), "in.obj: there is no group ; the groups are: default", words=("--corner-group", ""))
 
     def test_inner_corner(self):
         """A point of a group is taken as it is named: the mesh will be refused."""
         words = "an inner vertex is tagged as a corner: vertex 5 is inner and tagged as a corner"
         says = f"in.obj:5: warning: the mesh will be refused (11), since {words}"
         self.tags(obj(grid(2, 2)) + "g rim\np 5\n", "--corner-group", "rim", says=[says])
-
-
-WHAT_TO_DO = (
-    "what to do: join triangles to quads in the modeller, or subdivide once, which makes quads of any faces; export without triangulating"
-)
-
-
-class Unusable(Converting):
-    """Models that cannot be mesh files, each with its line."""
-
-    def test_other_faces(self):
-        self.unusable(obj(square()) + "f 1 2 3\n", "in.obj:6: this face has 3 corners, and only quads are taken", WHAT_TO_DO)
-        more = "; 2 other faces are no quads either"
-        text = obj(square()) + "\nf 1 2 3 4 1\nf 1 2\nf 1 2 3\n"
-        self.unusable(text, f"in.obj:7: this face has 5 corners, and only quads are taken{more}", WHAT_TO_DO)
-        more = "; 1 other face is no quad either"
-        self.unusable(obj(square()) + "f 1\nf\n", f"in.obj:6: this face has 1 corner, and only quads are taken{more}", WHAT_TO_DO)
-
-    def test_no_face(self):
-        words = "in.obj: there is no face in it: an OBJ file of a mesh has lines that begin with f"
-        for text in ("", vertices(*CORNERS), "solid\nfacet normal 0 0 1\n", bytes(range(256)) * 4):
-            self.unusable(text, words)
-
-    def test_references(self):
-        words = "is no reference to a vertex: v, v/vt, v//vn or v/vt/vn"
-        for word in ("x", "1.0", "1/2/3/4", "/1", "1//x", "--1", "1234567890"):
-            self.unusable(vertices(*CORNERS) + f"f 1 2 3 {word}\n", f"in.obj:5: {word} {words}")
-        self.unusable(vertices(*CORNERS) + "f 1 2 3 0\n", "in.obj:5: there is no vertex 0, with 4 before this line")
-        self.unusable(vertices(*CORNERS) + "f 1 2 3 -5\n", "in.obj:5: there is no vertex -5, with 4 before this line")
-        self.unusable(QUAD + "f 1 2 3 5\n" + vertices(*CORNERS), "in.obj:2: there is no vertex 5: the file has 4")
-        self.unusable(SQUARE_OBJ + "g rim\np 9\n", "in.obj:7: there is no vertex 9: the file has 4")
-
-    def test_coordinates(self):
-        for word in ("x", "nan", "inf", "1,5", "0x10", "1e", "1_000", "\u0661", "1e1000", "9" * 500):
-            self.unusable(f"v 0 0 {word}\n{QUAD}", f"in.obj:1: {word[:40]} is not a decimal number")
-        self.unusable(f"# two\nv 0 0\n{QUAD}", "in.obj:2: a vertex has three coordinates, and here are 2")
-
-    def test_line_that_runs_on(self):
-        self.unusable(vertices(*CORNERS) + "# more\nf 1 \\\n2 \\\n3 \\\n9\n" + QUAD, "in.obj:6: there is no vertex 9: the file has 4")
-
-    def test_room_of_the_file(self):
-        far = "this vertex is kilometres away, and a mesh file has no room for that: is --unit right?"
-        for x in ("2147483647.5", "-2147483648.51", "1e300"):
-            self.unusable(vertices((0, 0, 0), (9, 0, 0), (9, x, 0), (0, 9, 0)) + QUAD, f"in.obj:3: {far}")
-        many = "a mesh file has room for 65535, and the mesh program takes 4 to 512 vertices and 1 to 256 faces"
-        self.unusable(obj(square()) + QUAD * 65535, f"in.obj: 65536 faces: {many}")
-
-
-class Warnings(Converting):
-    """Models that are written, and what is wrong with them."""
-
-    def test_vertices_that_should_be_one(self):
-        apart = vertices(*[(9000 * x, 9000 * y, 0) for x, y in ((0, 0), (1, 0), (1, 1), (0, 1))])
-        words = "{} is within a micrometre of {} and not the same: the surface will be open there{}; merge them by distance in the modeller"
-        near, far = [("9000", "0"), ("9000.6", "0.8"), ("9001", "0")], [("9000.6", "0.9"), ("9001.001", "0")]
-        for x, y in near + far:
-            text = apart + vertices((x, y, 0), (18000, 0, 0), (18000, 9000, 0), (9000, 9005, 0)) + QUAD + "f 5 6 7 8\n"
-            self.mesh(text, says=["in.obj:5: warning: " + words.format("vertex 5", "vertex 2", "")] if (x, y) in near else [])
-        text = apart + vertices((9000, "-0.5", 0), (18000, 0, 0), (18000, 9000, 0), ("9000.25", "8999.75", 0)) + QUAD + "f 5 6 7 8\n"
-        self.mesh(text, says=["in.obj:5: warning: " + words.format("vertex 5", "vertex 2", "; 1 more vertex is near another")])
-
-    def test_vertices_that_are_left_out_do_not_count(self):
-        text = obj(square()) + vertices((0, 0, 0))
-        self.mesh(text, says=["in.obj:6: note: no face uses this vertex: left out"])
-
-    def test_small(self):
-        self.mesh(obj(cube(), 142), says=["in.obj: warning: the whole model is 994 micrometres across: is --unit right?"])
-        self.mesh(obj(cube(), 143))
-        text = vertices((0, 0, 0), ("0.002", 0, 0), ("0.002", "0.003", 0), (0, "0.003", 0)) + QUAD
-        self.mesh(text, unit="mm", says=["in.obj: warning: the whole model is 3 micrometres across: is --unit right?"])
-
-    def test_large(self):
-        takes = "the mesh program takes 4 to 512 vertices and 1 to 256 faces, and will refuse this mesh (1)"
-        self.mesh(obj(join(grid(16, 16), square())), says=[f"in.obj: warning: 293 vertices and 257 faces: {takes}"])
-        self.mesh(obj(join(*[square()] * 129)), says=[f"in.obj: warning: 516 vertices and 129 faces: {takes}"])
-        self.mesh(obj(join(*[square()] * 128)))
-        self.mesh(obj(grid(16, 16)))
-
-    def refused(self, text, line, number, words):
-        self.mesh(text, says=[f"in.obj:{line}: warning: the mesh will be refused ({number}), since {words}"])
-
-    def test_refusals(self):
-        twice = "one half-edge occurs twice the same way round: the face of line 14 has the half-edge, from vertex 8 to vertex 5, and"
-        self.refused(obj(flipped(cube(), 5)), 14, 7, f"{twice} the face of line 10 has it too; 3 more half-edges at fault")
-        why = "an inner vertex has fewer than 3 or more than 16 faces, or a boundary vertex more than 8"
-        self.refused(obj(pillow()), 1, 10, f"{why}: vertex 1 is inner and has 2 faces; 3 more vertices at fault")
-        text = obj(cube()).replace("v 1000 0 1000", "v 1048576.51 0 1000")
-        self.refused(text, 2, 3, "a coordinate is beyond 1,048,576 micrometres either way: vertex 2 has x = 1,048,577 micrometres")
-        text = obj(join(cube(), Shape([(0, 1, 2, 3)]))).replace("f 9 10 11 12", "f 9 10 11 10")
-        note = "in.obj:12: note: no face uses this vertex: left out"
-        words = "a face names one vertex twice: the face of line 19 names vertex 10 twice"
-        self.mesh(text, says=[note, f"in.obj:19: warning: the mesh will be refused (6), since {words}"])
-
-    def test_refusal_names_the_model_s_own_numbers(self):
-        text = obj(join(isolated(), pillow()))
-        why = "an inner vertex has fewer than 3 or more than 16 faces, or a boundary vertex more than 8: vertex 2 is inner and has 2 faces"
-        says = ["in.obj:1: note: no face uses this vertex: left out"]
-        self.mesh(text, says=[*says, f"in.obj:2: warning: the mesh will be refused (10), since {why}; 3 more vertices at fault"])
 
 
 class Run(Writing, Case):
@@ -292,14 +166,25 @@ class Run(Writing, Case):
             ("in.obj", "-n", "4", "-o", "out"),
             ("in.obj", "-n", "4", "--unit", "mm"),
             ("in.obj", "-n", "4", "--unit", "cm", "-o", "out"),
-            *(("in.obj", f"-n={n}", "--unit", "mm", "-o", "out") for n in ("0", "33", "x", "4.0", "-4", "")),
+            *(("in.obj", f"-n={n}", "--unit", "mm", "-o", "out") for n in ("0", "33", "x", "4.0", "-4", "", "\u0664")),
         ):
             status, output, error = self.run_command("obj2mesh", *words)
             self.assertEqual((status, output), (2, b""), words)
             self.assertIn("usage:", error)
         self.assertEqual(self.files(), ["in.obj"])
 
+    def test_standard_input_twice(self):
+        words = ("obj2mesh", "-", "-n", "4", "--unit", "mm", "--corners", "-", "-o", "out")
+        status, _, error = self.run_command(*words, input=obj(cube()).encode())
+        self.assertEqual((status, error), (2, "obj2mesh: -: standard input can be one file, not two\n"))
+
+    def test_what_a_terminal_would_not_show(self):
+        words = [word if word != self.source else "-" for word in self.words]
+        status, _, error = self.run_command(*words, "-o", "out", input=b"v \x1b[31m 0 0\n")
+        self.assertEqual((status, error), (1, "obj2mesh: standard input:1: \\x1b[31m is not a decimal number\n"))
+
     def test_corners_that_cannot_be_read(self):
+        self.assertEqual(self.run_command(*self.words, "--corners", "", "-o", "out")[0], 2)
         status, _, error = self.run_command(*self.words, "--corners", "missing", "-o", "out")
         self.assertEqual((status, error), (2, "obj2mesh: missing: No such file or directory\n"))
 

@@ -1,4 +1,4 @@
-"""The pages: the commands of docs/TOOLS.md print what it shows, every command has a section there and a line in the README, the picture is theirs."""
+"""The pages: the commands of docs/TOOLS.md print what it shows, each has a section there and a line in the README."""
 
 import re
 import subprocess
@@ -53,7 +53,8 @@ class Page(Case):
             helped = subprocess.run([TOOLS / name, "--help"], stdout=subprocess.PIPE, text=True).stdout
             for word in re.findall(r"--?[a-z-]+", usage):
                 self.assertIn(word, helped)
-            for word in set(re.findall(r"--[a-z-]+", helped.partition("exit status:")[0])) - {"--help", "--version", "--force", "--output", "--steps"}:
+            usual = {"--help", "--version", "--force", "--output", "--steps"}
+            for word in set(re.findall(r"--[a-z-]+", helped.partition("exit status:")[0])) - usual:
                 self.assertTrue(word in PAGE, word)
 
     def test_readme(self):

@@ -8,7 +8,7 @@ import zlib
 from cases import SQUARE, SQUARE_LINES, Case, Writing, loaded, vector
 
 from mesh_files import FileMesh
-from meshes import Mesh
+from meshes import Mesh, numbered
 from pictures import Canvas, png
 from shapes import grid
 
@@ -61,6 +61,10 @@ def is_cool(red, green, blue):
     return blue > red + 25
 
 
+def is_dark(red, green, blue):
+    return red + green + blue < 400
+
+
 def box(size, inside_out=False, open_above=False):
     """The mesh file of a box with so many cells along each axis, all of whose faces are squares, so that it stays near a box."""
     faces, points = [], {}
@@ -82,8 +86,24 @@ def box(size, inside_out=False, open_above=False):
     return FileMesh(**vars(Mesh(len(points), len(faces), positions, [0] * len(points), [p for face in faces for p in face])), n=3).bytes()
 
 
+def flat_mesh(n, height=0):
+    """A flat square of n by n faces."""
+    mesh = numbered(grid(n, n))
+    mesh.positions = [x for j in range(n + 1) for i in range(n + 1) for x in (60000 * i // n, 60000 * j // n, height)]
+    return mesh
+
+
+def flat(n, more=None):
+    """The mesh file of a flat square, with another behind it."""
+    mesh = flat_mesh(n)
+    if more is not None:
+        mesh.faces += [mesh.v + p for p in more.faces]
+        mesh = Mesh(mesh.v + more.v, mesh.f + more.f, mesh.positions + more.positions, mesh.tags + more.tags, mesh.faces)
+    return FileMesh(**vars(mesh), n=4).bytes()
+
+
 class Seen(Case):
-    """What is seen of boxes."""
+    """What is seen of boxes and squares."""
 
     def picture(self, content, *words):
         self.file("in", content)
@@ -142,19 +162,32 @@ class Seen(Case):
 
     def test_edges(self):
         """The edges of four faces cross in the middle of a flat square, and nowhere in that of one face."""
-        flat = lambda n: FileMesh(
-            (n + 1) ** 2,
-            n * n,
-            [x for j in range(n + 1) for i in range(n + 1) for x in (60000 // n * i, 60000 // n * j, 0)],
-            [0] * (n + 1) ** 2,
-            [p for face in grid(n, n).faces for p in face],
-            4,
-        ).bytes()
         one = self.picture(flat(1), "--view", "top", "--size", "101")
         four = self.picture(flat(2), "--view", "top", "--size", "101")
         self.assertTrue(is_warm(*one.at(0.5, 0.5)))
         self.assertLess(sum(four.at(0.5, 0.5)), sum(one.at(0.5, 0.5)) - 200)
         self.assertEqual(one.at(0.25, 0.4), four.at(0.25, 0.4))
+        # all four sides, a margin of 16 points from the picture's own
+        for x, y in ((0.5, 0.16), (0.16, 0.5), (0.5, 0.84), (0.84, 0.5)):
+            near = [sum(one.at(x + i / 100, y + j / 100)) for i in range(-2, 3) for j in range(-2, 3)]
+            self.assertLess(min(near), sum(one.at(0.5, 0.5)) - 200)
+
+    def test_edges_of_a_slope(self):
+        """Each edge is drawn throughout on a surface that leans, from every side."""
+        counts = {view: self.picture(flat(3), "--view", view, "--size", "200").count(is_dark) for view in ("top", "iso")}
+        self.assertGreater(counts["iso"], counts["top"] // 3)
+        self.assertGreater(counts["top"], 8 * 150)
+
+    def test_edges_behind(self):
+        """Those of faces that lie a little behind another are hidden."""
+        both = flat(1, more=flat_mesh(3, height=-1500))
+        pictures = [self.picture(content, "--view", "top", "--size", "101") for content in (both, flat(1))]
+        self.assertEqual(pictures[0].rows, pictures[1].rows)
+
+    def test_light(self):
+        """It comes from above, the left and the front."""
+        picture = self.picture(box((2, 2, 2)), "--view", "front", "--size", "120")
+        self.assertGreater(sum(picture.at(0.35, 0.35)), sum(picture.at(0.65, 0.65)) + 60)
 
     def test_listing_and_mesh_alike(self):
         content = vector("last-16-steps").read_bytes()
@@ -186,8 +219,27 @@ class Seen(Case):
         self.assertLess(time.monotonic() - begun, 10)
 
 
+class Square:
+    """A frame that leaves points where they are."""
+
+    lift = 1.0
+
+    @staticmethod
+    def placed(point):
+        return point
+
+
 class Drawing(unittest.TestCase):
     """The canvas."""
+
+    def test_edges_and_sides(self):
+        """Edges on the side that is turned away are drawn over the inner side alone."""
+        grid = [[(1.0, 1.0, 0.0), (6.0, 1.0, 0.0)], [(1.0, 6.0, 0.0), (6.0, 6.0, 0.0)]]
+        for facing, tone, is_drawn in ((1, 100, True), (1, 200, True), (1, 0, True), (-1, 100, False), (-1, 200, True), (-1, 0, False)):
+            canvas = Canvas(8, 8)
+            canvas.tones[:] = bytes([tone]) * 64
+            preview.draw_edges(canvas, Square, [grid], {point: (0.0, 0.0, facing) for row in grid for point in row})
+            self.assertEqual(preview.EDGE in canvas.tones, is_drawn, (facing, tone))
 
     def test_nearer_hides(self):
         for order in (1, -1):
@@ -206,16 +258,18 @@ class Drawing(unittest.TestCase):
     def test_beside_the_canvas(self):
         canvas = Canvas(4, 4)
         canvas.triangle([(-9, -9, 1, 7), (30, -9, 1, 7), (-9, 30, 1, 7)])
-        canvas.line((-3, -3, 2), (9, 9, 2), 1, 2)
+        canvas.line((-3, -3, 2), (9, 9, 2), 1, {7}, 2)
         self.assertEqual(canvas.tones[3], 7)
         self.assertEqual(canvas.tones[5], 1)
 
     def test_lines_behind(self):
         canvas = Canvas(4, 4)
         canvas.triangle([(0, 0, 5, 7), (30, 0, 5, 7), (0, 30, 5, 7)])
-        canvas.line((0, 0, 4), (3, 3, 4), 1, 1)
+        canvas.line((0, 0, 4), (3, 3, 4), 1, {7}, 1)
         self.assertEqual(set(canvas.tones), {7})
-        canvas.line((0, 0, 6), (3, 3, 6), 1, 1)
+        canvas.line((0, 0, 6), (3, 3, 6), 1, {8}, 1)
+        self.assertEqual(set(canvas.tones), {7})
+        canvas.line((0, 0, 6), (3, 3, 6), 1, {7}, 1)
         self.assertEqual([canvas.tones[5 * i] for i in range(4)], [1] * 4)
 
     def test_means(self):
@@ -236,7 +290,7 @@ class Run(Writing, Case):
         self.words = ("preview", self.source, "--size", "64")
 
     def test_words(self):
-        for more in ((), ("-o", "out", "--view", "back"), ("-o", "out", "--size", "63"), ("-o", "out", "--size", "4097")):
+        for more in ((), ("-o", "out", "--view", "back"), ("-o", "out", "--size", "63"), ("-o", "out", "--size", "2049")):
             words = ("in", *more)
             status, output, error = self.run_command("preview", *words)
             self.assertEqual((status, output), (2, b""), words)

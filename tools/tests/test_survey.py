@@ -5,7 +5,7 @@ import subprocess
 import unittest
 from math import dist
 
-from cases import SQUARE, VECTORS, Case, loaded, vector
+from cases import EXAMPLES, SQUARE, VECTORS, Case, loaded, vector
 
 import grids
 import patches
@@ -122,6 +122,8 @@ class Chords(unittest.TestCase):
                 patch[3 * (i + 4 * j)], patch[3 * (i + 4 * j) + 2] = 4000 * i, height
         self.assertAlmostEqual(survey.on_lines([patch], 1).value, 3000)
         self.assertAlmostEqual(measured(patch, 1), 3000)
+        self.assertRegex(survey.least_steps([patch], 3000 / 256), "is 1: ")
+        self.assertRegex(survey.least_steps([patch], 2999 / 256), "is 2: ")
         # a chord of N = 2 goes 6000 along and 3000 up
         self.assertAlmostEqual(survey.on_lines([patch], 2).value, 750 * 2 / 5**0.5)
 
@@ -190,6 +192,10 @@ class Run(Case):
         status, output, error = self.run_command("survey", vector("pillow-refused-10"))
         self.assertEqual((status, output), (1, b""))
         self.assertIn("refused 10: an inner vertex has fewer than 3", error)
+        self.assertIn("survey: tools/explain - says where\n", self.run_command("survey", "-", input=b"")[2])
+        self.file("a b", b"")
+        self.assertIn("survey: tools/explain 'a b' says where\n", self.run_command("survey", "a b")[2])
+        self.assertIn("survey: this is a text file: tools/obj2mesh makes", self.run_command("survey", EXAMPLES / "last.obj")[2])
 
     def test_words(self):
         for words in ((), (SQUARE, "--within", "x"), (SQUARE, "--within", "0"), (SQUARE, "--within", "nan"), (SQUARE, "--within", "-1")):
