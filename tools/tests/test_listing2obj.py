@@ -1,17 +1,23 @@
 """tools/listing2obj: its decimals, the vertices that faces share, damaged listings; and the way from an OBJ file to an OBJ file."""
 
+import random
 import re
 import unittest
 from collections import Counter
 from fractions import Fraction
+from unittest import mock
 
-from cases import EXAMPLES, SQUARE_LINES, Case, Writing, vector
+from cases import EXAMPLES, SQUARE_LINES, Case, Writing, loaded, vector
 
 import listings
 import obj_files
 from mesh_files import UNITS, FileMesh, FileReading
 from meshes import numbered
-from shapes import cube, join, square
+from shapes import closed_fan, cube, join, notched, open_fan, ring, square, strip, torus
+
+listing2obj = loaded("listing2obj")
+
+SEED = 20250702
 
 # The square of rule X1, in millimetres.
 SQUARE_OBJ = """\
@@ -103,10 +109,31 @@ class Listings(Converting):
         listing = self.done("tessellate", "-", input=FileMesh(**vars(mesh), n=3).bytes())
         self.assert_samples(self.converted(listing), listing)
 
-    def test_more_than_two_sides_on_each_other(self):
-        listing = self.done("tessellate", vector("every-coordinate-1048576"))
+    def test_no_mesh_is_taken_for_damaged(self):
+        """Shapes with few places for their vertices, so that many sides lie on each other."""
+        chance = random.Random(SEED)
+        shapes = (cube(), torus(3, 3), strip(4), ring(5), notched(3, 3), closed_fan(5), open_fan(4), join(cube(), square(), square()))
+        warned = 0
+        for shape in shapes * 8:
+            mesh = numbered(shape)
+            mesh.positions = [chance.choice((0, 40)) for _ in mesh.positions]
+            content = "".join(f"{line}\n" for line in FileReading(FileMesh(**vars(mesh), n=2).bytes()).lines()).encode()
+            listing = listings.parsed("in.txt", content)
+            others = listing2obj.matches(listing.samples, 2)
+            listing2obj.assert_matched("in.txt", listing, others)
+            _, points = listing2obj.numbered(listing.samples, 2, listing2obj.paired(others))
+            with mock.patch.object(listing2obj, "say") as say:
+                listing2obj.assert_counted("in.txt", listing, others, len(points))
+            warned += say.called
+        self.assertTrue(10 < warned < 60)
+
+    def test_all_in_one_place(self):
+        """A closed mesh with an odd number of faces and all vertices at one point: sides stay alone, and the listing is not damaged."""
+        mesh = numbered(torus(3, 3))
+        mesh.positions = [7] * len(mesh.positions)
+        listing = self.done("tessellate", "-", input=FileMesh(**vars(mesh), n=2).bytes())
         says = "warning: more than two sides lie on each other; which of them are one edge in OUT is a choice"
-        self.assertEqual(set(edges(self.converted(listing, says=[says])).values()), {1})
+        self.assertEqual(len(self.converted(listing, says=[says]).faces), 36)
 
 
 class Damaged(Converting):
