@@ -7,7 +7,7 @@ The faces are those of tools/last.py; the vertices lie on the outlines below, in
 import argparse
 from pathlib import Path
 
-from last import HEIGHTS, MIDDLES, WIDTH, cell_faces, OPENED
+from last import HEIGHTS, MIDDLES, WIDTH, surface
 
 EXAMPLES = Path(__file__).resolve().parent.parent / "examples"
 
@@ -26,23 +26,24 @@ SIDES = 1.12
 TOPS = (0.55, 0.52, 0.5, 0.5, 0.55, 0.62, 0.68, 0.72, 0.76, 0.78, 0.8)
 HEEL = (0, -11, -11, -5, 0)
 
+# The corners of the opening, on top of the cells.
+OPENING = ((0, 0), (0, WIDTH), (3, WIDTH), (3, 1), (2, 1), (2, 0))
+
 # How far the middle of the ridge rises above its sides, and the middle of the sole.
 CROWN, ARCH = 6, 2
 
 
-def top(i):
-    """The height of the ridge at the end of a cell, and whether a step's foot is below it."""
-    beside = [HEIGHTS[column] for column in (i - 1, i) if 0 <= column < len(HEIGHTS)]
-    return max(beside), min(beside)
+def foot(i):
+    """The height of the ridge at the end of a cell, or where there is a step that of its foot."""
+    return min(HEIGHTS[column] for column in (i - 1, i) if 0 <= column < len(HEIGHTS))
 
 
 def outline(i, k):
     """x and z of the side's outline, and how high between the sole and the ridge this is, from 0 to 1."""
-    _, foot = top(i)
-    if k >= foot:
+    if k >= foot(i):
         return (*RIDGE[i, k], 1.0)
-    part = k / foot
-    (x0, z0), (x1, z1) = SOLE[i], RIDGE[i, foot]
+    part = k / foot(i)
+    (x0, z0), (x1, z1) = SOLE[i], RIDGE[i, foot(i)]
     bulge = HEEL[k] if i == 0 else 0
     return (x0 + (x1 - x0) * part + bulge, z0 + (z1 - z0) * part, part)
 
@@ -59,15 +60,11 @@ def place(i, j, k):
 
 def text(opened=False):
     """The lines of the OBJ file, and the numbers of the vertices at the corners of the opening."""
-    is_open = lambda cell, axis, way: opened and (axis, way) == (2, 1) and cell[:2] in OPENED
-    faces = [corners for cell, axis, way, corners in cell_faces() if not is_open(cell, axis, way)]
-    vertices = sorted({corner for face in faces for corner in face})
-    number = {corner: p for p, corner in enumerate(vertices, 1)}
+    shape, corners = surface(opened)
     lines = ["# A last, in millimetres.", "o last"]
-    lines += ["v " + " ".join(f"{x:.3f}" for x in place(*corner)) for corner in vertices]
-    lines += ["s 1"] + ["f " + " ".join(str(number[corner]) for corner in face) for face in faces]
-    ends = [number[i, j, HEIGHTS[0]] for i, j in ((0, 0), (0, WIDTH), (3, WIDTH), (2, 0), (2, 1), (3, 1))]
-    return "".join(f"{line}\n" for line in lines), sorted(ends)
+    lines += ["v " + " ".join(f"{x:.3f}" for x in place(*corner)) for corner in corners]
+    lines += ["s 1"] + ["f " + " ".join(str(p + 1) for p in face) for face in shape.faces]
+    return "".join(f"{line}\n" for line in lines), sorted(1 + corners.index((i, j, HEIGHTS[0])) for i, j in OPENING)
 
 
 def main():

@@ -1,4 +1,6 @@
-"""A model like a last, for the vectors: the surface of a solid of cells, pulled into shape. tools/vectors.py uses it.
+"""A model like a last, for the vectors: the surface of a solid of cells, pulled into shape.
+
+tools/vectors.py uses it, and tools/example_last.py the surface without its places.
 
 The solid is as wide everywhere, and lower from the heel to the toe. Its surface has a vertex of valence 3 at each convex corner, one of
 valence 5 at either end of each step's foot, and valence 4 elsewhere.
@@ -50,11 +52,16 @@ def place(random, i, j, k):
     return [value + random.randint(-900, 900) for value in (x, y, z)]
 
 
-def last(random, opened=False):
-    """The shape and the places of its vertices, closed or with an opening at the top."""
+def surface(opened):
+    """The shape, closed or with an opening at the top, and the corner of the cells that each of its vertices is."""
     is_open = lambda cell, axis, way: opened and (axis, way) == (2, 1) and cell[:2] in OPENED
     faces = [corners for cell, axis, way, corners in cell_faces() if not is_open(cell, axis, way)]
     corners = sorted({corner for face in faces for corner in face})
     number = {corner: p for p, corner in enumerate(corners)}
-    shape = Shape([tuple(number[corner] for corner in face) for face in faces])
+    return Shape([tuple(number[corner] for corner in face) for face in faces]), corners
+
+
+def last(random, opened=False):
+    """The shape and the places of its vertices."""
+    shape, corners = surface(opened)
     return shape, [place(random, *corner) for corner in corners]

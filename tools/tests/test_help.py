@@ -8,21 +8,21 @@ from pathlib import Path
 ROOT = Path(__file__).resolve().parent.parent.parent
 
 
-def times(crate):
-    """When each file of a crate was last written."""
-    return {path: path.stat().st_mtime_ns for path in sorted((ROOT / "crates" / crate).rglob("*"))}
+def times(folder):
+    """When each file of a folder was last written."""
+    return {path: path.stat().st_mtime_ns for path in sorted((ROOT / folder).rglob("*"))}
 
 
 class Writers(unittest.TestCase):
     def test_help_and_wrong_words(self):
-        for name in ("trials", "vectors"):
+        for name, folder in (("trials", "crates/trials"), ("vectors", "crates/vectors"), ("example_last", "examples")):
             for word, status in (("--help", 0), ("-h", 0), ("--wrong", 2), ("wrong", 2)):
                 with self.subTest(name=name, word=word):
-                    before = times(name)
+                    before = times(folder)
                     done = subprocess.run([sys.executable, "-B", ROOT / "tools" / f"{name}.py", word], capture_output=True)
                     self.assertEqual(done.returncode, status)
                     self.assertIn(b"usage:", done.stderr if status else done.stdout)
-                    self.assertEqual(times(name), before)
+                    self.assertEqual(times(folder), before)
 
     def test_help_and_wrong_words_of_the_long_runs(self):
         for name in ("outside", "benchmark"):
