@@ -12,6 +12,9 @@ from math import ceil, floor, inf
 
 TONES = 256
 
+# Twice the area, in points, below which a triangle shows nothing, and its depths and tones would be those of rounding errors.
+SLIVER = 1e-6
+
 
 class Canvas:
     """width by height points, each with a depth and a tone, which is 0 where there is nothing."""
@@ -25,7 +28,7 @@ class Canvas:
         """Fills a triangle of three corners (x, y, depth, tone), the tone as a number between its neighbours."""
         (x0, y0, z0, t0), (x1, y1, z1, t1), (x2, y2, z2, t2) = sorted(corners, key=lambda corner: corner[1])
         area = (x1 - x0) * (y2 - y0) - (x2 - x0) * (y1 - y0)
-        if area == 0:
+        if abs(area) < SLIVER:
             return
         # How depth and tone change for a step to the right and a step down.
         dzx = ((z1 - z0) * (y2 - y0) - (z2 - z0) * (y1 - y0)) / area

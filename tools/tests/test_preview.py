@@ -1,5 +1,6 @@
 """tools/preview: the picture's bytes, what is seen from where, what hides what, and both kinds of input."""
 
+import random
 import struct
 import time
 import unittest
@@ -13,6 +14,8 @@ from pictures import Canvas, png
 from shapes import grid
 
 preview = loaded("preview")
+
+SEED = 20250703
 
 
 class Picture:
@@ -254,6 +257,20 @@ class Drawing(unittest.TestCase):
         canvas = Canvas(9, 9)
         canvas.triangle([(0, 0, 0, 10), (8, 0, 8, 90), (0, 8, 0, 10)])
         self.assertEqual((canvas.depths[4], canvas.tones[4], canvas.depths[9 + 4]), (4.0, 50, 4.0))
+
+    def test_slivers(self):
+        """Triangles of next to no width, or of none, have no other tones than between those of their corners."""
+        chance = random.Random(SEED)
+        for _ in range(8000):
+            canvas = Canvas(24, 24)
+            x, y, along, down = (round(chance.uniform(-20, 40)) for _ in range(4))
+            part, width = chance.uniform(-1, 2), 10 ** chance.uniform(-17, -2)
+            third = (x + along * part + width * chance.uniform(-1, 1), y + down * part + width * chance.uniform(-1, 1))
+            tones = [chance.uniform(2, 127) for _ in range(3)]
+            points = ((x, y), (x + along, y + down), third)
+            canvas.triangle([(*point, chance.uniform(-9, 9), tone) for point, tone in zip(points, tones)])
+            drawn = [tone for tone in canvas.tones if tone]
+            self.assertTrue(all(min(tones) - 1 <= tone <= max(tones) for tone in drawn), (points, tones))
 
     def test_beside_the_canvas(self):
         canvas = Canvas(4, 4)
