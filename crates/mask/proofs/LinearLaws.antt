@@ -5,12 +5,12 @@
 --   Related R q q'    two fractions with one divisor above 0, and their numerators related with it
 --   bounds B          the instance for sizes: a sum of terms within B, with weights that sum to k, is within B k
 use mathlib.Core.Path.{_≡_, refl, subst}
-use Prim.Native.Nat.{ℕ, _+_, _*_, _≤_, _<_}
+use Prim.Native.Nat.{ℕ, _+_, _-_, _*_, _≤_, _<_}
 use native.Mathlib.Nat.{mul-pos, mul-le-mul-left}
 use native.Mathlib.Omega.{arith}
 use lib.IntN.{ℤ, pos, natAbs, _+ℤ_, _*ℤ_}
 use Rattle.integer.proofs.Laws.{abs-+, abs-*}
-use Rattle.mask.specs.Mask.{Fraction, innerMask, edgeMask, boundaryEdgeMask, smoothCornerMask, boundaryCornerMask, vertexMask}
+use Rattle.mask.specs.Mask.{Fraction, innerMask, edgeMask, boundaryEdgeMask, smoothCornerMask, boundaryCornerMask, vertexMask, sharpCornerMask, maxSharpness}
 
 pub record Linear (R : ℕ → ℤ → ℤ → Type 0) : Type 0 where
   pub nil : R 0 (pos 0) (pos 0)
@@ -65,6 +65,14 @@ module _ {R : ℕ → ℤ → ℤ → Type 0} (L : Linear R) where
   pub boundary-corner-mask : {p s p' s' : ℤ} → R 1 p p' → R 2 s s' → Related R (boundaryCornerMask p s) (boundaryCornerMask p' s')
   unfolding boundaryCornerMask
   boundary-corner-mask hp hs = record { positive = omega arith; same = refl; related = L .plus (L .scale 4 hp) hs }
+
+  pub sharp-corner-mask : (g : ℕ) {p s p' s' : ℤ} → g ≤ maxSharpness → R 1 p p' → R 2 s s' → Related R (sharpCornerMask g p s) (sharpCornerMask g p' s')
+  unfolding sharpCornerMask
+  sharp-corner-mask g l hp hs = record {
+    positive = omega arith;
+    same = refl;
+    related = cast (let t : (64 + 2 * g) * 1 + (maxSharpness - g) * 2 ≡ 96 = omega arith in t) (L .plus (L .scale (64 + 2 * g) hp) (L .scale (maxSharpness - g) hs));
+  }
 
   pub vertex-mask : {p p' : ℤ} → R 1 p p' → Related R (vertexMask p) (vertexMask p')
   unfolding vertexMask

@@ -15,10 +15,17 @@
 --                           others, section 3)
 --   vertexMask p            p itself: for a boundary vertex with tag 1, or with k = 1 (rule B11; Kovacs and others, section 4; Loop and Schaefer,
 --                           figure 20)
-use mathlib.Core.Bool.{Bool, cond}
-use Prim.Native.Nat.{ℕ, _+_, _*_}
-use lib.Dec.{eqb}
+--
+-- How the code makes a corner point; proofs/RuleLaws.antt shows that its value and its mark are those of the masks above.
+--
+--   sharpCornerMask g p s   ((64 + 2g) p + (16 - g) s) / 96, for g from 0 to 16: the mask over 6 for 0, and p itself for 16
+--   cornerRule inside tag m   the rule of a vertex with m faces, one number: 16 + m inside; on the boundary 16 where its corner point is p itself, else 0
+--   cornerMask r p ring sharp   the corner point by the rule r, from both sums
+use mathlib.Core.Bool.{Bool, cond, _||_}
+use Prim.Native.Nat.{ℕ, _+_, _-_, _*_}
+use lib.Dec.{eqb, ltb}
 use lib.IntN.{ℤ, pos, _+ℤ_, _*ℤ_}
+use Rattle.limits.specs.Limits.{cornerTag}
 
 pub record Fraction : Type 0 where
   pub num : ℤ
@@ -45,3 +52,15 @@ boundaryCornerMask p s = record { num = pos 4 *ℤ p +ℤ s; den = 6 }
 
 unfoldable pub vertexMask : ℤ → Fraction
 vertexMask p = record { num = p; den = 1 }
+
+abbrev pub maxSharpness : ℕ
+maxSharpness = 16
+
+unfoldable pub sharpCornerMask : ℕ → ℤ → ℤ → Fraction
+sharpCornerMask g p s = record { num = pos (64 + 2 * g) *ℤ p +ℤ pos (maxSharpness - g) *ℤ s; den = 96 }
+
+unfoldable pub cornerRule : Bool → ℕ → ℕ → ℕ
+cornerRule inside tag m = cond inside (maxSharpness + m) (cond (eqb tag cornerTag || eqb m 1) maxSharpness 0)
+
+unfoldable pub cornerMask : ℕ → ℤ → ℤ → ℤ → Fraction
+cornerMask r p ring sharp = cond (ltb maxSharpness r) (smoothCornerMask (r - maxSharpness) p ring) (sharpCornerMask r p sharp)
