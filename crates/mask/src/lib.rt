@@ -6,11 +6,15 @@ use crate::model::Fraction;
 use limits::model::Mesh;
 ghost use mathlib.Core.Path.{_≡_};
 ghost use mathlib.Core.Bool.{_||_};
+ghost use Prim.Native.Nat.{_≤_, _<_};
 ghost use lib.Dec.{eqb};
 ghost use lib.IntN.{pos, _+ℤ_, _*ℤ_};
-ghost use Rattle.limits.specs.Limits.{cornerTag};
-ghost use Rattle.mask.specs.Mask.{cornerWeight, innerMask, edgeMask, boundaryEdgeMask, smoothCornerMask, boundaryCornerMask, vertexMask};
+ghost use Rattle.limits.specs.Limits.{cornerTag, maxValence};
+ghost use Rattle.mask.specs.Mask.{cornerWeight, innerMask, edgeMask, boundaryEdgeMask, smoothCornerMask, sharpCornerMask, maxSharpness, cornerRule};
 ghost use Rattle.mask.specs.FractionOf.{fractionOf};
+
+// The sharpness at which the corner point of a boundary vertex is the vertex itself; a rule above it is that of an inner vertex.
+pub const MAX_SHARPNESS: u8 = 16;
 
 // The inner point at a corner of weight w. Writes: nothing. Refuses: nothing.
 pub fn inner_mask(w: u16, a: FaceValues) -> Fraction
@@ -60,34 +64,39 @@ pub fn smooth_corner(n: u8, p: i32, s: i32) -> Fraction
     }
 }
 
-// The corner point of a boundary vertex that is its own. Writes: nothing. Refuses: nothing.
-pub fn vertex_corner(p: i32) -> Fraction
-    ensures { λ r. ⌜ fractionOf r ≡ vertexMask p ⌝ }
+// The corner point of a boundary vertex of sharpness g, from the sum s of its two boundary neighbours. Writes: nothing. Refuses: nothing.
+pub fn boundary_corner(g: u8, p: i32, s: i32) -> Fraction
+    requires { ⌜ g ≤ maxSharpness ⌝ }
+    ensures { λ r. ⌜ fractionOf r ≡ sharpCornerMask g p s ⌝ }
 {
     Fraction {
-        num: p as i64,
-        den: 1,
+        num: (64 + 2 * g) as i64 * p as i64 + (MAX_SHARPNESS - g) as i64 * s as i64,
+        den: 96,
     }
 }
 
-// The corner point of another boundary vertex, from the sum s of its two boundary neighbours. Writes: nothing. Refuses: nothing.
-pub fn boundary_corner(p: i32, s: i32) -> Fraction
-    ensures { λ r. ⌜ fractionOf r ≡ boundaryCornerMask p s ⌝ }
-{
-    Fraction {
-        num: 4 * p as i64 + s as i64,
-        den: 6,
-    }
-}
-
-// Whether the corner point of a boundary vertex with so many faces is the vertex itself. Writes: nothing. Refuses: nothing.
-pub fn fixed(tag: u8, faces: u16) -> bool
+// Whether the corner point of a boundary vertex with so many faces is the vertex itself.
+fn fixed(tag: u8, faces: u16) -> bool
     ensures { λ r. ⌜ r ≡ (eqb tag cornerTag || eqb faces 1) ⌝ }
 {
     if tag == Mesh::CORNER_TAG {
         return true;
     }
     faces == 1
+}
+
+// How the corner point of a vertex, inside or not, with so many faces is made. Writes: nothing. Refuses: nothing.
+pub fn corner_rule(inside: bool, tag: u8, faces: u16) -> u8
+    requires { ⌜ faces ≤ maxValence ⌝ }
+    ensures { λ r. ⌜ r ≡ cornerRule inside tag faces ⌝ }
+{
+    if inside {
+        return MAX_SHARPNESS + faces as u8;
+    }
+    if fixed(tag, faces) {
+        return MAX_SHARPNESS;
+    }
+    0
 }
 
 // The weight of a corner of a vertex, inside or not, with so many faces. Writes: nothing. Refuses: nothing.

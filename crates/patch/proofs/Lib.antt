@@ -7,6 +7,8 @@ pub mod WrittenLaws
 pub mod MaskLaws
 pub mod SumLaws
 pub mod TableLaws
+pub mod CornerTableLaws
+pub mod RuledLaws
 pub mod FacePointLaws
 pub mod SourceLaws
 pub mod AnswerLaws

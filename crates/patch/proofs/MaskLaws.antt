@@ -10,11 +10,11 @@ use mir.Val.{toZ, ofZ}
 use mir.Facts.{toZ-ofZ}
 use Rattle.integer.proofs.Laws.{sfits-abs}
 use Rattle.limits.specs.Limits.{maxCoordinate}
-use Rattle.mask.specs.Mask.{Fraction, innerMask, edgeMask, boundaryEdgeMask, smoothCornerMask, boundaryCornerMask, vertexMask}
+use Rattle.mask.specs.Mask.{Fraction, innerMask, edgeMask, boundaryEdgeMask, smoothCornerMask, sharpCornerMask, maxSharpness}
 use Rattle.mask.specs.FractionOf.{fractionOf}
 use Rattle.mask.specs.declared.model.Fraction as code
 use Rattle.mask.specs.declared.model.FaceValues.{FaceValues}
-use Rattle.mask.proofs.LinearLaws.{Related, bounds, inner-mask, edge-mask, boundary-edge-mask, smooth-corner-mask, boundary-corner-mask, vertex-mask}
+use Rattle.mask.proofs.LinearLaws.{Related, bounds, inner-mask, edge-mask, boundary-edge-mask, smooth-corner-mask, sharp-corner-mask}
 use Rattle.patch.specs.Values.{Small, Within, Made}
 
 abbrev pub Sized : Fraction → Type 0
@@ -32,11 +32,8 @@ edge-sized w a b s t = edge-mask (bounds maxCoordinate) w (s .here) (s .next) (s
 pub smooth-sized : (n : ℕ) (p s : ℤ) → 0 < n → natAbs p ≤ maxCoordinate → natAbs s ≤ 5 * maxCoordinate * n → Sized (smoothCornerMask n p s)
 smooth-sized n p s l hp hs = smooth-corner-mask (bounds maxCoordinate) n l hp (omega (arith, hs))
 
-pub boundary-sized : (p s : ℤ) → natAbs p ≤ maxCoordinate → natAbs s ≤ 2 * maxCoordinate → Sized (boundaryCornerMask p s)
-boundary-sized p s hp hs = boundary-corner-mask (bounds maxCoordinate) hp hs
-
-pub vertex-sized : (p : ℤ) → natAbs p ≤ maxCoordinate → Sized (vertexMask p)
-vertex-sized p hp = vertex-mask (bounds maxCoordinate) hp
+pub sharp-sized : (g : ℕ) (p s : ℤ) → g ≤ maxSharpness → natAbs p ≤ maxCoordinate → natAbs s ≤ 2 * maxCoordinate → Sized (sharpCornerMask g p s)
+sharp-sized g p s l hp hs = sharp-corner-mask (bounds maxCoordinate) g l hp hs
 
 -- a coordinate z that is known as y, stored and read back
 pub stored-is : (z y : ℤ) → natAbs z ≤ maxCoordinate → z ≡ y → toZ w32 (ofZ w32 z) ≡ y

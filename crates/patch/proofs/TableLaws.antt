@@ -1,22 +1,19 @@
--- The tables of an accepted mesh: what their entries are made of, the sizes of these, and the corner point from them.
-use mathlib.Core.Path.{_≡_, refl, sym, ap, _∙_}
-use mathlib.Core.Bool.{Bool, true, false, cond, _&&_}
-use mathlib.Core.List.{List}
-use Prim.Native.Nat.{ℕ, _+_, _*_, _≤_, _<_}
+-- The tables of an accepted mesh: what their entries are made of, and the sizes of these.
+use mathlib.Core.Path.{_≡_}
+use mathlib.Core.Bool.{Bool, true, false, cond}
+use Prim.Native.Nat.{ℕ, _+_, _-_, _*_, _≤_, _<_}
 use native.Mathlib.Omega.{arith}
 use lib.Dec.{eqb}
-use lib.IntN.{ℤ, pos, natAbs}
-use lib.ListN.{length, getD, set, replicate, getD-replicate}
-use lib.Seq.{getD-set-same, getD-set-other}
-use borrow.Author.Tests.{eqb-true, eqb-false, not-false}
+use lib.IntN.{pos, natAbs}
+use lib.ListN.{length, replicate, getD-replicate}
+use borrow.Author.Tests.{not-false}
 use Rattle.integer.proofs.Laws.{abs-+}
-use Rattle.finite.specs.Fold.{allBelow, indicator}
-use Rattle.finite.proofs.FoldLaws.{bool-cases, fold-step}
+use Rattle.finite.proofs.FoldLaws.{bool-cases}
 use Rattle.limits.specs.Limits.{maxVertices, maxCoordinate, maxValence}
 use Rattle.corner.specs.Corner.{turn, next, prev, across}
 use Rattle.mesh.specs.HalfEdge.{boundary}
 use Rattle.mesh.specs.Fan.{onBoundary}
-use Rattle.mesh.specs.IndexedMesh.{IndexedMesh, corners, at, tag}
+use Rattle.mesh.specs.IndexedMesh.{IndexedMesh, corners, at}
 use Rattle.mesh.specs.WellFormed.{WellFormed}
 use Rattle.mesh.proofs.CornerLaws.{turn-below}
 use Rattle.mesh.proofs.BoundaryLaws.{boundary-vertex}
@@ -25,10 +22,9 @@ use Rattle.mesh.proofs.AcceptedLaws.{accepted-corners}
 use Rattle.mesh.specs.Tables.{Corners, Holds, Indices}
 use Rattle.mask.specs.Mask.{cornerWeight}
 use Rattle.mask.proofs.LinearLaws.{bounds, ring}
-use Rattle.patch.specs.Point.{Shape, View, x, ringTerm, sharpTerm, faces, inside, weight, sharp, sharpSum, ringSum, fixed, cornerPoint}
+use Rattle.patch.specs.Point.{Shape, View, x, ringTerm, sharpTerm, faces, inside, weight, sharp, sharpSum, ringSum}
 use Rattle.patch.specs.Patch.{shape, view}
 use Rattle.patch.specs.Lists.{shapeOf, seen, Coordinates}
-use Rattle.patch.specs.PatchTables.{cornerFrom}
 use Rattle.patch.proofs.NeighbourLaws.{sharp-neighbours}
 use Rattle.patch.proofs.SumLaws.{cond-size, gather-size}
 
@@ -68,9 +64,6 @@ module _ (M : IndexedMesh) (whole : length (M .indices) ≡ corners M) where
   pub faces-seen : (p : ℕ) → faces (shapeOf (M .indices)) p ≡ faces (shape M) p
   faces-seen p = rw whole
 
-  pub inside-seen : (p : ℕ) → inside (shapeOf (M .indices)) p ≡ inside (shape M) p
-  inside-seen p = rw whole
-
   pub ring-seen : (k p : ℕ) → ringSum (seen (M .positions) (M .indices) k) p ≡ ringSum (view M k) p
   unfolding ringSum
   ring-seen k p = rw whole
@@ -87,7 +80,7 @@ module _ {M : IndexedMesh} (a : WellFormed M) where
   accepted-indices = rw accepted-whole (sized-indices M (a .sized) (a .named))
 
   -- how many faces a vertex has
-  faces-range : (p : ℕ) → p < M .vertices → (0 < faces (shape M) p) × (faces (shape M) p ≤ maxValence)
+  pub faces-range : (p : ℕ) → p < M .vertices → (0 < faces (shape M) p) × (faces (shape M) p ≤ maxValence)
   faces-range p l =
       bool-cases (onBoundary (at M) (corners M) p)
       (λ e. (a .used p l, omega (arith, a .boundary-high p l e)))
@@ -104,16 +97,9 @@ module _ {M : IndexedMesh} (a : WellFormed M) where
       small = λ c l. corner-small c (rw accepted-whole at l);
     }
 
-    ring-size : (p : ℕ) → natAbs (ringSum (view M k) p) ≤ 5 * maxCoordinate * faces (shape M) p
+    pub ring-size : (p : ℕ) → natAbs (ringSum (view M k) p) ≤ 5 * maxCoordinate * faces (shape M) p
     unfolding ringSum
     ring-size p = gather-size (at M) p (5 * maxCoordinate) _ (corners M) (ring-term-size (view M k) (accepted-corners a) corner-small)
-
-    -- what a function asks that makes the corner point of vertex p from the entries of the tables
-    pub corner-asked : (p : ℕ) → p < M .vertices → (n : ℕ) (z r : ℤ) → n ≡ faces (shape M) p → z ≡ view M k .value p → r ≡ ringSum (view M k) p
-        → (0 < n) × (n ≤ maxValence) × (natAbs z ≤ maxCoordinate) × (natAbs r ≤ 5 * maxCoordinate * n)
-    corner-asked p l n z r hn hz hr =
-        let range = faces-range p l in
-        rw (hn, hz, hr) (range .0, range .1, a .coordinates (3 * p + k) (omega arith), ring-size p)
 
     -- two half-edges at a boundary vertex are boundary
     pub sharp-size : (p : ℕ) → p < M .vertices → inside (shape M) p ≡ false → natAbs (sharpSum (view M k) p) ≤ 2 * maxCoordinate
@@ -125,7 +111,7 @@ module _ {M : IndexedMesh} (a : WellFormed M) where
         rw (sharp-neighbours (view M k) p w)
         (omega (arith, abs-+ (x (view M k) (next n)) (x (view M k) (prev m)), corner-size 1 n (w .leaving .below), corner-size 3 m (w .entering .below)))
 
--- ---- the weight of a corner and the corner point, from the entries of the tables
+-- ---- the weight of a corner, from the entries of the tables
 -- 4, or at most twice the faces
 pub weight-most : (i : Bool) (m n : ℕ) → m ≤ n → cornerWeight i m ≤ 2 * n + 4
 unfolding cornerWeight
@@ -135,55 +121,3 @@ weight-most false m n l = bool-cases (eqb m 1) (λ e. rw e (omega arith)) (λ e.
 pub weight-entries : (G : Shape) (c p : ℕ) (i : Bool) (m : ℕ) → p ≡ G .at c → i ≡ inside G p → m ≡ faces G p → cornerWeight i m ≡ weight G c
 unfolding weight
 weight-entries G c p i m hp hi hm = rw (hi, hm, hp)
-
-pub corner-entries : (M : IndexedMesh) (p k : ℕ) (i : Bool) (n : ℕ) (z r s : ℤ)
-    → i ≡ inside (shape M) p → n ≡ faces (shape M) p → z ≡ view M k .value p → r ≡ ringSum (view M k) p → s ≡ sharpSum (view M k) p
-    → cornerFrom i (tag M p) n z r s ≡ cornerPoint (view M k) p
-unfolding cornerPoint fixed
-corner-entries M p k i n z r s hi hn hz hr hs = rw (hi, hn, hz, hr, hs)
-
--- ---- one coordinate of the points, with 3 numbers a point: one store
-module _ (k i : ℕ) (v : ℤ) (points : List ℤ) (axis : k < 3) where
-  pub strided-more : (f : ℕ → ℤ) → 3 * i + k < length points → v ≡ f i → ((q : ℕ) → q < i → getD points (3 * q + k) (pos 0) ≡ f q)
-      → (q : ℕ) → q < i + 1 → getD (set points (3 * i + k) v) (3 * q + k) (pos 0) ≡ f q
-  strided-more f l e h q b =
-      bool-cases (eqb q i)
-      (λ t. let s : q ≡ i = eqb-true q i t in rw (s, getD-set-same) e)
-      (λ t. getD-set-other points (3 * i + k) (3 * q + k) v (pos 0) (λ s. eqb-false q i t (omega arith)) ∙ h q (omega (arith, eqb-false q i t)))
-
-  pub strided-other : (q j : ℕ) → j < 3 → (j ≡ k → ⊥) → getD (set points (3 * i + k) v) (3 * q + j) (pos 0) ≡ getD points (3 * q + j) (pos 0)
-  strided-other q j l n = getD-set-other points (3 * i + k) (3 * q + j) v (pos 0) (λ s. n (omega arith))
-
--- coordinate k of all v points, where the coordinates before it were there
-pub strided-all : (v k : ℕ) (points points' : List ℤ) (g : ℕ → ℕ → ℤ) → k < 3
-    → ((p : ℕ) → p < v → getD points' (3 * p + k) (pos 0) ≡ g k p)
-    → ((p j : ℕ) → j < 3 → (j ≡ k → ⊥) → getD points' (3 * p + j) (pos 0) ≡ getD points (3 * p + j) (pos 0))
-    → ((p j : ℕ) → p < v → j < k → getD points (3 * p + j) (pos 0) ≡ g j p)
-    → (p j : ℕ) → p < v → j < k + 1 → getD points' (3 * p + j) (pos 0) ≡ g j p
-strided-all v k points points' g axis new old h p j l b =
-    bool-cases (eqb j k)
-    (λ t. let s : j ≡ k = eqb-true j k t in rw s (new p l))
-    (λ t. let n = eqb-false j k t in old p j (omega arith) n ∙ h p j l (omega (arith, n)))
-
--- ---- the marks, which stay where nothing is left: one store
-module _ (p m : ℕ) (marks marks₀ : List ℕ) (e : ℕ → Bool) (after : (q : ℕ) → p ≤ q → getD marks q 0 ≡ getD marks₀ q 0) where
-  pub kept-more : p < length marks → m ≡ cond (e p) (getD marks p 0) 0
-      → ((q : ℕ) → q < p → getD marks q 0 ≡ cond (e q) (getD marks₀ q 0) 0)
-      → (q : ℕ) → q < p + 1 → getD (set marks p m) q 0 ≡ cond (e q) (getD marks₀ q 0) 0
-  kept-more l h kept q b =
-      bool-cases (eqb q p)
-      (λ t. let s : q ≡ p = eqb-true q p t in rw (s, getD-set-same) (h ∙ ap (λ (k : ℕ). cond (e p) k 0) (after p (omega arith))))
-      (λ t. getD-set-other marks p q m 0 (λ s. eqb-false q p t (omega arith)) ∙ kept q (omega (arith, eqb-false q p t)))
-
-  pub kept-after : (q : ℕ) → p + 1 ≤ q → getD (set marks p m) q 0 ≡ getD marks₀ q 0
-  kept-after q b = getD-set-other marks p q m 0 (λ s. omega arith) ∙ after q (omega arith)
-
--- the coordinates below n, and one more
-pub kept-indicator : (f : ℕ → Bool) (n : ℕ) → cond (f n) (indicator (allBelow f n)) 0 ≡ indicator (allBelow f (n + 1))
-kept-indicator f n = both (allBelow f n) (f n) ∙ ap indicator (sym (fold-step true _&&_ f n))
-  where
-    both : (a b : Bool) → cond b (indicator a) 0 ≡ indicator (a && b)
-    both true true = refl
-    both true false = refl
-    both false true = refl
-    both false false = refl

@@ -1,28 +1,39 @@
 -- The tables by vertex and by corner that the patches are written from.
 --
+--   rule G p           how the corner point of vertex p is made, as one number
+--   tagged tags faces  the shape of a mesh with its tags, by its lists
 --   Counts G valences leaving   the faces of each vertex, and whether it is inside: no boundary half-edge leaves it
+--   Rendered G v rules weights   the rule of each of v vertices, and the weight of each corner: all that is kept of the tags and of the counts
 --   Sums S ring sharp  the two sums at each vertex
---   cornerFrom ..      the corner point of a vertex, inside or not, of its tag, its number of faces, its coordinate and its two sums
---   CornersAre M k points   coordinate k of the corner point of each vertex p of the mesh M, in units, stands at place 3p + k
---   cornerExact M p n  nothing is left in the coordinates below n of the corner point of vertex p
---   MarksKept M k marks marks'   the marks of the vertices stay where nothing is left in coordinate k of the corner point, and become 0 elsewhere
+--   Allowed r p ring sharp   by the rule r, the coordinate p and the two sums make a corner point within the range of the coordinates
+--   ruledPoint S rules p   the corner point of vertex p by its rule
+--   CornerSource v positions faces twins rules   all that the corner points of v vertices are made from
+--   Coordinate q v k ..   coordinate k of the corner points q below v is written: each in units at place 3p + k, with the other places of `points` as they
+--                      were; their marks are kept where nothing is left, and become 0 elsewhere, with the marks from v on as they were
+--   CornerPoints q v n points marks   of v vertices, the coordinates below n of the corner points, and whether nothing is left in any of these
 --   Weights faces weights   the weights of all the corners are listed
 --   Tables M weights points marks   the weight of each corner of the mesh M, the corner point of each vertex, and its mark
 use mathlib.Core.Path.{_≡_}
-use mathlib.Core.Bool.{Bool, cond, _||_}
+use mathlib.Core.Bool.{cond}
 use mathlib.Core.List.{List}
-use Prim.Native.Nat.{ℕ, _+_, _*_, _≤_, _<_}
+use Prim.Native.Nat.{ℕ, _+_, _-_, _*_, _≤_, _<_}
 use lib.Dec.{eqb}
-use lib.IntN.{ℤ, pos}
+use lib.IntN.{ℤ, pos, natAbs}
 use lib.ListN.{length, getD}
 use Rattle.finite.specs.Fold.{allBelow, indicator}
-use Rattle.limits.specs.Limits.{maxVertices, cornerTag}
+use Rattle.limits.specs.Limits.{maxVertices, maxValence, maxCoordinate}
 use Rattle.mesh.specs.IndexedMesh.{IndexedMesh, corners}
-use Rattle.mesh.specs.Tables.{Holds}
-use Rattle.mask.specs.Mask.{Fraction, smoothCornerMask, boundaryCornerMask, vertexMask}
+use Rattle.mesh.specs.Tables.{Holds, Indices, vertexOf}
+use Rattle.mask.specs.Mask.{Fraction, maxSharpness, cornerRule, cornerMask}
 use Rattle.patch.specs.Point.{Shape, View, faces, inside, weight, sharpSum, ringSum, cornerPoint}
 use Rattle.patch.specs.Patch.{shape, view, units, exactly}
-use Rattle.patch.specs.Lists.{shapeOf}
+use Rattle.patch.specs.Lists.{shapeOf, seen, Coordinates, Twins}
+
+unfoldable pub rule : Shape → ℕ → ℕ
+rule G p = cornerRule (inside G p) (G .tag p) (faces G p)
+
+abbrev pub tagged : List ℕ → List ℕ → Shape
+tagged tags faces = record { n = length faces; at = vertexOf faces; tag = λ p. getD tags p 0 }
 
 pub record Counts (G : Shape) (valences leaving : List ℕ) : Type 0 where
   pub valences-listed : maxVertices ≤ length valences
@@ -30,22 +41,42 @@ pub record Counts (G : Shape) (valences leaving : List ℕ) : Type 0 where
   pub leaving-listed : maxVertices ≤ length leaving
   pub inside-are : (p : ℕ) → p < maxVertices → eqb (getD leaving p 0) 0 ≡ inside G p
 
+pub record Rendered (G : Shape) (v : ℕ) (rules weights : List ℕ) : Type 0 where
+  pub rules-are : Holds 0 rules v (rule G)
+  pub weights-are : Holds 0 weights (G .n) (weight G)
+
 pub record Sums (S : View) (ring sharp : List ℤ) : Type 0 where
   pub ring-are : Holds (pos 0) ring maxVertices (ringSum S)
   pub sharp-are : Holds (pos 0) sharp maxVertices (sharpSum S)
 
-abbrev pub cornerFrom : Bool → ℕ → ℕ → ℤ → ℤ → ℤ → Fraction
-cornerFrom inside tag n p ring sharp =
-    cond inside (smoothCornerMask n p ring) (cond (eqb tag cornerTag || eqb n 1) (vertexMask p) (boundaryCornerMask p sharp))
+pub record Allowed (r : ℕ) (p ring sharp : ℤ) : Type 0 where
+  pub value-small : natAbs p ≤ maxCoordinate
+  pub faces-few : r ≤ maxSharpness + maxValence
+  pub ring-small : maxSharpness < r → natAbs ring ≤ 5 * maxCoordinate * (r - maxSharpness)
+  pub sharp-small : r ≤ maxSharpness → natAbs sharp ≤ 2 * maxCoordinate
 
-abbrev pub CornersAre : IndexedMesh → ℕ → List ℤ → Type 0
-CornersAre M k points = (p : ℕ) → p < M .vertices → getD points (3 * p + k) (pos 0) ≡ units (cornerPoint (view M k) p)
+unfoldable pub ruledPoint : View → List ℕ → ℕ → Fraction
+ruledPoint S rules p = cornerMask (getD rules p 0) (S .value p) (ringSum S p) (sharpSum S p)
 
-abbrev pub cornerExact : IndexedMesh → ℕ → ℕ → Bool
-cornerExact M p n = allBelow (λ k. exactly (cornerPoint (view M k) p)) n
+pub record CornerSource (v : ℕ) (positions : List ℤ) (faces twins rules : List ℕ) : Type 0 where
+  pub few : v ≤ maxVertices
+  pub positions-listed : 3 * v ≤ length positions
+  pub rules-listed : v ≤ length rules
+  pub indices : Indices faces (length faces)
+  pub twinned : Twins faces twins
+  pub placed : (k : ℕ) → k < 3 → Coordinates positions faces k
+  pub allowed : (k p : ℕ) → k < 3 → p < v
+      → Allowed (getD rules p 0) (seen positions faces k .value p) (ringSum (seen positions faces k) p) (sharpSum (seen positions faces k) p)
 
-abbrev pub MarksKept : IndexedMesh → ℕ → List ℕ → List ℕ → Type 0
-MarksKept M k marks marks' = (p : ℕ) → p < M .vertices → getD marks' p 0 ≡ cond (exactly (cornerPoint (view M k) p)) (getD marks p 0) 0
+pub record Coordinate (q : ℕ → Fraction) (v k : ℕ) (points points' : List ℤ) (marks marks' : List ℕ) : Type 0 where
+  pub written : (p : ℕ) → p < v → getD points' (3 * p + k) (pos 0) ≡ units (q p)
+  pub others : (p j : ℕ) → j < 3 → (j ≡ k → ⊥) → getD points' (3 * p + j) (pos 0) ≡ getD points (3 * p + j) (pos 0)
+  pub kept : (p : ℕ) → p < v → getD marks' p 0 ≡ cond (exactly (q p)) (getD marks p 0) 0
+  pub after : (p : ℕ) → v ≤ p → getD marks' p 0 ≡ getD marks p 0
+
+pub record CornerPoints (q : ℕ → ℕ → Fraction) (v n : ℕ) (points : List ℤ) (marks : List ℕ) : Type 0 where
+  pub points-are : (k p : ℕ) → k < n → p < v → getD points (3 * p + k) (pos 0) ≡ units (q k p)
+  pub marks-are : (p : ℕ) → p < v → getD marks p 0 ≡ indicator (allBelow (λ k. exactly (q k p)) n)
 
 pub record Weights (faces weights : List ℕ) : Type 0 where
   pub listed : length faces ≤ length weights
@@ -53,5 +84,4 @@ pub record Weights (faces weights : List ℕ) : Type 0 where
 
 pub record Tables (M : IndexedMesh) (weights : List ℕ) (points : List ℤ) (marks : List ℕ) : Type 0 where
   pub weights-are : Holds 0 weights (corners M) (weight (shape M))
-  pub points-are : (k : ℕ) → k < 3 → CornersAre M k points
-  pub marks-are : (p : ℕ) → p < M .vertices → getD marks p 0 ≡ indicator (cornerExact M p 3)
+  pub corners-are : CornerPoints (λ k. cornerPoint (view M k)) (M .vertices) 3 points marks

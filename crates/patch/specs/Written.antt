@@ -6,6 +6,7 @@
 --   exactFrom .. c q   whether nothing is left in any coordinate of that point: for a corner point, whether the table `marks` has a 1
 --   numberFrom .. g i  number i of the 48 of face g, likewise
 --   markFrom .. g m    mark m of the 16 of face g, likewise
+--   writtenNumber .. i, writtenMark .. i   what is written at place i of the patch list, and of the list of marks
 use mathlib.Core.Bool.{Bool}
 use mathlib.Core.List.{List}
 use Prim.Native.Nat.{ℕ, _+_, _*_, _/_, _%_, _<_}
@@ -52,3 +53,9 @@ numberFrom positions faces points g i = pointFrom positions faces points (i % 3)
 
 unfoldable pub markFrom : List ℤ → List ℕ → List ℕ → ℕ → ℕ → ℕ
 markFrom positions faces marks g m = indicator (exactFrom positions faces marks (turn (owner m) (4 * g)) (kind m))
+
+unfoldable pub writtenNumber : List ℤ → List ℕ → List ℤ → ℕ → ℤ
+writtenNumber positions faces points i = numberFrom positions faces points (i / 48) (i % 48)
+
+unfoldable pub writtenMark : List ℤ → List ℕ → List ℕ → ℕ → ℕ
+writtenMark positions faces marks i = markFrom positions faces marks (i / 16) (i % 16)

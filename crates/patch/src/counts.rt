@@ -1,16 +1,20 @@
-// The faces of each vertex, whether it is inside, and the weight of each corner.
+// What is read from the tags, the faces and the twins of an accepted mesh, once: the rule of each vertex and the weight of each corner.
 use crate::values::is_boundary;
 use corner::wide;
+use limits::model::Mesh;
 ghost use mathlib.Core.Path.{_≡_};
-ghost use Prim.Native.Nat.{_+_, _≤_, _<_};
+ghost use Prim.Native.Nat.{ℕ, _+_, _≤_, _<_};
+ghost use lib.Dec.{eqb};
 ghost use lib.ListN.{length, getD, set};
 ghost use Rattle.finite.specs.Fold.{indicator};
 ghost use Rattle.finite.specs.Filled.{filled};
-ghost use Rattle.limits.specs.Limits.{maxVertices};
-ghost use Rattle.mesh.specs.Tables.{Holds, Indices};
+ghost use Rattle.limits.specs.Limits.{maxVertices, maxValence};
+ghost use Rattle.mask.specs.Mask.{cornerRule};
+ghost use Rattle.mesh.specs.Fan.{valence};
+ghost use Rattle.mesh.specs.Tables.{Holds, Indices, vertexOf};
 ghost use Rattle.patch.specs.Point.{weight};
 ghost use Rattle.patch.specs.Lists.{shapeOf, Twins};
-ghost use Rattle.patch.specs.PatchTables.{Counts};
+ghost use Rattle.patch.specs.PatchTables.{Counts, Rendered, tagged};
 
 // 1 for true, 0 for false.
 fn one_if(b: bool) -> u16
@@ -31,7 +35,7 @@ fn count_at(counts: &mut [u16], p: usize, n: u16)
 }
 
 // Counts the faces of each vertex, and the boundary half-edges that leave it, over tables of zeros.
-pub(crate) fn count_faces(faces: &[u16], twins: &[u16], valences: &mut [u16], leaving: &mut [u16])
+fn count_faces(faces: &[u16], twins: &[u16], valences: &mut [u16], leaving: &mut [u16])
     requires { ⌜ Indices (now faces) (length (now faces)) × Twins (now faces) (now twins) ⌝ }
     requires { ⌜ (maxVertices ≤ length (now valences)) × (maxVertices ≤ length (now leaving)) ⌝ }
     requires { ⌜ Holds 0 (now valences) maxVertices (λ p. 0) × Holds 0 (now leaving) maxVertices (λ p. 0) ⌝ }
@@ -45,7 +49,7 @@ pub(crate) fn count_faces(faces: &[u16], twins: &[u16], valences: &mut [u16], le
 }
 
 // Writes the weight of each corner.
-pub(crate) fn fill_weights(faces: &[u16], valences: &[u16], leaving: &[u16], weights: &mut [u16])
+fn fill_weights(faces: &[u16], valences: &[u16], leaving: &[u16], weights: &mut [u16])
     requires { ⌜ Indices (now faces) (length (now faces)) × Counts (shapeOf (now faces)) (now valences) (now leaving) ⌝ }
     requires { ⌜ length (now faces) ≤ length (now weights) ⌝ }
     ensures { λ _. ⌜ now (weights .exit) ≡ filled (weight (shapeOf (now (faces .entry)))) (length (now (faces .entry))) (now (weights .entry)) ⌝ }
@@ -54,4 +58,37 @@ pub(crate) fn fill_weights(faces: &[u16], valences: &[u16], leaving: &[u16], wei
         let p = wide(faces[c]);
         weights[c] = mask::corner_weight(leaving[p] == 0, valences[p]) as u16;
     }
+}
+
+// Writes the rule of each vertex.
+fn fill_rules(tags: &[u8], valences: &[u16], leaving: &[u16], rules: &mut [u8])
+    requires { ⌜ (length (now tags) ≤ length (now valences)) × (length (now tags) ≤ length (now leaving)) × (length (now tags) ≤ length (now rules)) ⌝ }
+    requires { ⌜ ((p : ℕ) → p < length (now tags) → getD (now valences) p 0 ≤ maxValence) ⌝ }
+    ensures { λ _. ⌜ now (rules .exit)
+        ≡ filled (λ p. cornerRule (eqb (getD (now (leaving .entry)) p 0) 0) (getD (now (tags .entry)) p 0) (getD (now (valences .entry)) p 0))
+        (length (now (tags .entry))) (now (rules .entry)) ⌝ }
+{
+    for p in 0..tags.len() {
+        rules[p] = mask::corner_rule(leaving[p] == 0, tags[p], valences[p]);
+    }
+}
+
+// Writes the rule of each vertex and the weight of each corner: all that is kept of the tags.
+pub(crate) fn render(
+    tags: &[u8],
+    faces: &[u16],
+    twins: &[u16],
+    rules: &mut [u8],
+    weights: &mut [u16],
+)
+    requires { ⌜ Indices (now faces) (length (now faces)) × Twins (now faces) (now twins) × (length (now tags) ≤ maxVertices) ⌝ }
+    requires { ⌜ ((p : ℕ) → p < length (now tags) → valence (vertexOf (now faces)) (length (now faces)) p ≤ maxValence) ⌝ }
+    requires { ⌜ (length (now tags) ≤ length (now rules)) × (length (now faces) ≤ length (now weights)) ⌝ }
+    ensures { λ _. ⌜ Rendered (tagged (now (tags .entry)) (now (faces .entry))) (length (now (tags .entry))) (now (rules .exit)) (now (weights .exit)) ⌝ }
+{
+    let mut valences = [0u16; Mesh::MAX_VERTICES];
+    let mut leaving = [0u16; Mesh::MAX_VERTICES];
+    count_faces(faces, twins, &mut valences, &mut leaving);
+    fill_weights(faces, &valences, &leaving, weights);
+    fill_rules(tags, &valences, &leaving, rules);
 }

@@ -1,0 +1,117 @@
+-- The rules and the weights of an accepted mesh: the counts make them, the corner points are made from them, and these are the ones of the definitions,
+-- in value and in mark.
+use mathlib.Core.Path.{_≡_, ap, ap₂, _∙_}
+use mathlib.Core.Bool.{Bool, true, false, _&&_}
+use mathlib.Core.List.{List}
+use Prim.Native.Nat.{ℕ, _+_, _-_, _*_, _≤_, _<_}
+use native.Mathlib.Nat.{lt-of-lt-of-le}
+use native.Mathlib.Omega.{arith}
+use lib.Dec.{eqb}
+use lib.IntN.{ℤ, pos, _*ℤ_}
+use lib.ListN.{length, getD}
+use Rattle.integer.specs.Nearest.{nearest, whole}
+use Rattle.integer.proofs.Difference.{int, nat, _⊛_, prove-eq}
+use Rattle.integer.proofs.NearestLaws.{nearest-scaled}
+use Rattle.integer.proofs.WholeLaws.{whole-scaled}
+use Rattle.finite.specs.Fold.{indicator}
+use Rattle.finite.specs.Filled.{filled}
+use Rattle.finite.proofs.FoldLaws.{bool-cases, fold-ext}
+use Rattle.finite.proofs.FilledLaws.{filled-at}
+use Rattle.limits.specs.Limits.{maxVertices}
+use Rattle.mesh.specs.IndexedMesh.{IndexedMesh, tag}
+use Rattle.mesh.specs.WellFormed.{WellFormed}
+use Rattle.mask.specs.Mask.{Fraction, maxSharpness, cornerRule}
+use Rattle.mask.proofs.RuleLaws.{Scaled, rule-inside, rule-boundary, rule-scaled}
+use Rattle.patch.specs.Point.{faces, inside, weight, sharpSum, ringSum, fixed, cornerPoint}
+use Rattle.patch.specs.Patch.{shape, view, units, exactly}
+use Rattle.patch.specs.Lists.{shapeOf, seen, Twins}
+use Rattle.patch.specs.PatchTables.{Counts, rule, tagged, Rendered, Allowed, ruledPoint, CornerSource, CornerPoints, Tables}
+use Rattle.patch.proofs.TableLaws.{ring-seen, sharp-seen, accepted-whole, accepted-indices, faces-range, accepted-coordinates, ring-size, sharp-size}
+
+-- ---- a fraction with both parts multiplied has the same value and the same mark
+module _ {q q' : Fraction} (s : Scaled q q') where
+  scaled-num : pos 256 *ℤ q' .num ≡ pos 256 *ℤ q .num *ℤ pos (s .by)
+  scaled-num =
+      ap (λ (z : ℤ). pos 256 *ℤ z) (s .num-is)
+      ∙ prove-eq (nat 256 ⊛ (int (q .num) ⊛ nat (s .by))) (nat 256 ⊛ int (q .num) ⊛ nat (s .by)) (omega arith)
+
+  units-scaled : units q' ≡ units q
+  units-scaled = ap₂ nearest scaled-num (s .den-is) ∙ nearest-scaled (pos 256 *ℤ q .num) (q .den) (s .by) (s .divided) (s .above)
+
+  exactly-scaled : exactly q' ≡ exactly q
+  exactly-scaled = ap₂ whole scaled-num (s .den-is) ∙ whole-scaled (pos 256 *ℤ q .num) (q .den) (s .by) (s .divided) (s .above)
+
+-- ---- the rules and the weights, from the tables of counts
+pub rendered-counts : (tags faces valences leaving rules weights rules₀ weights₀ : List ℕ) → length tags ≤ maxVertices
+    → Counts (shapeOf faces) valences leaving
+    → rules ≡ filled (λ p. cornerRule (eqb (getD leaving p 0) 0) (getD tags p 0) (getD valences p 0)) (length tags) rules₀
+    → weights ≡ filled (weight (shapeOf faces)) (length faces) weights₀
+    → Rendered (tagged tags faces) (length tags) rules weights
+unfolding rule weight
+rendered-counts tags faces valences leaving rules weights rules₀ weights₀ l t r w = record {
+  rules-are = λ p h.
+      ap (λ (d : List ℕ). getD d p 0) r ∙ filled-at _ (length tags) p rules₀ 0 h
+      ∙ rw (t .inside-are p (lt-of-lt-of-le h l), t .valences-are p (lt-of-lt-of-le h l));
+  weights-are = λ c h. ap (λ (d : List ℕ). getD d c 0) w ∙ filled-at _ (length faces) c weights₀ 0 h;
+}
+
+-- ---- what they give
+module _ {M : IndexedMesh} (a : WellFormed M) where
+  -- the rule of a vertex tells which of its sums makes its corner point
+  rule-allowed : (k p r : ℕ) → k < 3 → p < M .vertices → r ≡ rule (shape M) p → Allowed r (view M k .value p) (ringSum (view M k) p) (sharpSum (view M k) p)
+  unfolding rule
+  rule-allowed k p r axis l e =
+      let range = faces-range a p l in
+      let value = a .coordinates (3 * p + k) (omega arith) in
+      let n : ℕ = faces (shape M) p in
+      let rule-at : (i : Bool) → inside (shape M) p ≡ i → r ≡ cornerRule i (tag M p) n = λ i t. e ∙ ap (λ (j : Bool). cornerRule j (tag M p) n) t in
+      bool-cases (inside (shape M) p)
+      (λ t. let is : r ≡ maxSharpness + n = rule-at true t ∙ rule-inside (tag M p) n in
+      let less : r - maxSharpness ≡ n = omega arith in
+      record {
+        value-small = value;
+        faces-few = omega (arith, range .1);
+        ring-small = λ _. rw less (ring-size a k axis p);
+        sharp-small = λ h. absurd (omega (arith, range .0));
+      })
+      (λ t. let low : r ≤ maxSharpness = rw (rule-at false t) (rule-boundary (tag M p) n) in
+      record {
+        value-small = value;
+        faces-few = omega arith;
+        ring-small = λ h. absurd (omega arith);
+        sharp-small = λ _. sharp-size a k axis p l t;
+      })
+
+module _ {M : IndexedMesh} (a : WellFormed M) {rules weights : List ℕ} where
+  pub rendered-mesh : Rendered (tagged (M .tags) (M .indices)) (length (M .tags)) rules weights → Rendered (shape M) (M .vertices) rules weights
+  rendered-mesh r = rw (accepted-whole a, a .sized .tags-are) at r
+
+  module _ (r : Rendered (shape M) (M .vertices) rules weights) where
+    pub corner-source : {twins : List ℕ} → Twins (M .indices) twins → M .vertices ≤ length rules
+        → CornerSource (M .vertices) (M .positions) (M .indices) twins rules
+    corner-source twinned listed = record {
+      few = a .sized .vertices-high;
+      positions-listed = omega (arith, a .sized .positions-are);
+      rules-listed = listed;
+      indices = accepted-indices a;
+      twinned = twinned;
+      placed = accepted-coordinates a;
+      allowed = λ k p axis l.
+          rw (ring-seen M (accepted-whole a) k p, sharp-seen M (accepted-whole a) k p) (rule-allowed a k p (getD rules p 0) axis l (r .rules-are p l));
+    }
+
+    ruled-scaled : (k p : ℕ) → p < M .vertices → Scaled (cornerPoint (view M k) p) (ruledPoint (seen (M .positions) (M .indices) k) rules p)
+    unfolding cornerPoint fixed ruledPoint rule
+    ruled-scaled k p l =
+        rw (r .rules-are p l, ring-seen M (accepted-whole a) k p, sharp-seen M (accepted-whole a) k p)
+        (rule-scaled (inside (shape M) p) (tag M p) (faces (shape M) p) (view M k .value p) (ringSum (view M k) p) (sharpSum (view M k) p) (a .used p l))
+
+    pub ruled-tables : {points : List ℤ} {marks : List ℕ}
+        → CornerPoints (λ k. ruledPoint (seen (M .positions) (M .indices) k) rules) (M .vertices) 3 points marks → Tables M weights points marks
+    ruled-tables c = record {
+      weights-are = r .weights-are;
+      corners-are = record {
+        points-are = λ k p b l. c .points-are k p b l ∙ units-scaled (ruled-scaled k p l);
+        marks-are = λ p l. c .marks-are p l ∙ ap indicator (fold-ext true _&&_ 3 (λ k b. exactly-scaled (ruled-scaled k p l)));
+      };
+    }
