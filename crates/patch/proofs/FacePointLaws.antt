@@ -24,7 +24,7 @@ use Rattle.mask.specs.declared.model.Fraction as code
 use Rattle.mask.specs.declared.model.FaceValues.{FaceValues}
 use Rattle.patch.specs.Point.{View, weight, sharp, ringTerm, innerPoint, edgePoint}
 use Rattle.patch.specs.Patch.{owner, kind, units, exactly}
-use Rattle.patch.specs.Lists.{shapeOf, boundaryIn, sharpIn, Twins}
+use Rattle.patch.specs.Lists.{shapeOf, boundaryIn, sharpIn, Twins, innerBy, edgeBy}
 use Rattle.patch.specs.Values.{SeenFrom, Made, inUnits}
 use Rattle.patch.specs.Written.{Source, pointFrom, numberFrom}
 use Rattle.patch.specs.declared.fraction.Value.{Value}
@@ -48,6 +48,16 @@ module _ {faces twins : List ℕ} (t : Twins faces twins) (c : ℕ) (l : c < len
 pub made-is : {q q' : Fraction} {r : code.Fraction} → q ≡ q' → Made q r → Made q' r
 made-is {r = r} e m = subst (λ (q : Fraction). Made q r) e m
 
+pub inner-told : (S : View) (weights : List ℕ) (c : ℕ) (a : FaceValues) → SeenFrom S c a
+    → innerMask (getD weights c 0) (a .here) (a .next) (a .prev) (a .across) ≡ innerBy S weights c
+unfolding innerBy
+inner-told S weights c a h = rw (h .here-is, h .next-is, h .prev-is, h .across-is)
+
+pub edge-told : (S : View) (weights : List ℕ) (c d : ℕ) (a b : FaceValues) → SeenFrom S c a → SeenFrom S d b
+    → edgeMask (getD weights c 0) (a .here) (a .next) (a .prev) (b .across) (a .across) (b .prev) ≡ edgeBy S weights c d
+unfolding edgeBy
+edge-told S weights c d a b h g = rw (h .here-is, h .next-is, h .prev-is, g .across-is, h .across-is, g .prev-is)
+
 pub inner-seen : (S : View) (c w : ℕ) (a : FaceValues) → w ≡ weight (S .shape) c → SeenFrom S c a
     → innerMask w (a .here) (a .next) (a .prev) (a .across) ≡ innerPoint S c
 unfolding innerPoint
@@ -69,10 +79,11 @@ pub owner-listed : {positions points : List ℤ} {faces twins weights marks : Li
 owner-listed t g m c l e = rw e (turn-below (t .placed 0 (omega arith) .corners) m (4 * g) (omega arith))
 
 -- number 3m + k of a patch is coordinate k of its point m
-pub number-point : (positions : List ℤ) (faces : List ℕ) (points : List ℤ) (g m k : ℕ) → k < 3
-    → numberFrom positions faces points g (3 * m + k) ≡ pointFrom positions faces points k (turn (owner m) (4 * g)) (kind m)
+pub number-point : (positions : List ℤ) (faces twins weights : List ℕ) (points : List ℤ) (g m k : ℕ) → k < 3
+    → numberFrom positions faces twins weights points g (3 * m + k)
+    ≡ pointFrom positions faces twins weights points k (turn (owner m) (4 * g)) (kind m)
 unfolding numberFrom
-number-point positions faces points g m k l =
+number-point positions faces twins weights points g m k l =
     let axis : (3 * m + k) % 3 ≡ k = omega arith in
     let which : (3 * m + k) / 3 ≡ m = omega arith in
     rw (axis, which)

@@ -20,11 +20,12 @@ use Rattle.finite.proofs.FilledLaws.{filled-at}
 use Rattle.limits.specs.Limits.{maxVertices}
 use Rattle.mesh.specs.IndexedMesh.{IndexedMesh, tag}
 use Rattle.mesh.specs.WellFormed.{WellFormed}
+use Rattle.mesh.proofs.AcceptedLaws.{accepted-corners}
 use Rattle.mask.specs.Mask.{Fraction, maxSharpness, cornerRule}
 use Rattle.mask.proofs.RuleLaws.{Scaled, rule-inside, rule-boundary, rule-scaled}
 use Rattle.patch.specs.Point.{faces, inside, weight, sharpSum, ringSum, fixed, cornerPoint}
 use Rattle.patch.specs.Patch.{shape, view, units, exactly}
-use Rattle.patch.specs.Lists.{shapeOf, seen, Twins}
+use Rattle.patch.specs.Lists.{shapeOf, seen, Twins, sharpSumBy}
 use Rattle.patch.specs.PatchTables.{Counts, rule, tagged, Rendered, Allowed, ruledPoint, CornerSource, CornerPoints, Tables}
 use Rattle.patch.proofs.TableLaws.{ring-seen, sharp-seen, accepted-whole, accepted-indices, faces-range, accepted-coordinates, ring-size, sharp-size}
 
@@ -86,28 +87,30 @@ module _ {M : IndexedMesh} (a : WellFormed M) {rules weights : List ℕ} where
   pub rendered-mesh : Rendered (tagged (M .tags) (M .indices)) (length (M .tags)) rules weights → Rendered (shape M) (M .vertices) rules weights
   rendered-mesh r = rw (accepted-whole a, a .sized .tags-are) at r
 
-  module _ (r : Rendered (shape M) (M .vertices) rules weights) where
-    pub corner-source : {twins : List ℕ} → Twins (M .indices) twins → M .vertices ≤ length rules
-        → CornerSource (M .vertices) (M .positions) (M .indices) twins rules
-    corner-source twinned listed = record {
+  module _ {twins : List ℕ} (twinned : Twins (M .indices) twins) (r : Rendered (shape M) (M .vertices) rules weights) where
+    sharp-told : (k p : ℕ) → sharpSumBy (seen (M .positions) (M .indices) k) twins p ≡ sharpSum (view M k) p
+    sharp-told k p = sharp-seen M (accepted-whole a) twinned (rw (accepted-whole a) (accepted-corners a)) k p
+
+    pub corner-source : M .vertices ≤ length rules → CornerSource (M .vertices) (M .positions) (M .indices) twins rules
+    corner-source listed = record {
       few = a .sized .vertices-high;
       positions-listed = omega (arith, a .sized .positions-are);
       rules-listed = listed;
       indices = accepted-indices a;
-      twinned = twinned;
+      twins-listed = twinned .listed;
       placed = accepted-coordinates a;
       allowed = λ k p axis l.
-          rw (ring-seen M (accepted-whole a) k p, sharp-seen M (accepted-whole a) k p) (rule-allowed a k p (getD rules p 0) axis l (r .rules-are p l));
+          rw (ring-seen M (accepted-whole a) k p, sharp-told k p) (rule-allowed a k p (getD rules p 0) axis l (r .rules-are p l));
     }
 
-    ruled-scaled : (k p : ℕ) → p < M .vertices → Scaled (cornerPoint (view M k) p) (ruledPoint (seen (M .positions) (M .indices) k) rules p)
+    ruled-scaled : (k p : ℕ) → p < M .vertices → Scaled (cornerPoint (view M k) p) (ruledPoint (seen (M .positions) (M .indices) k) twins rules p)
     unfolding cornerPoint fixed ruledPoint rule
     ruled-scaled k p l =
-        rw (r .rules-are p l, ring-seen M (accepted-whole a) k p, sharp-seen M (accepted-whole a) k p)
+        rw (r .rules-are p l, ring-seen M (accepted-whole a) k p, sharp-told k p)
         (rule-scaled (inside (shape M) p) (tag M p) (faces (shape M) p) (view M k .value p) (ringSum (view M k) p) (sharpSum (view M k) p) (a .used p l))
 
     pub ruled-tables : {points : List ℤ} {marks : List ℕ}
-        → CornerPoints (λ k. ruledPoint (seen (M .positions) (M .indices) k) rules) (M .vertices) 3 points marks → Tables M weights points marks
+        → CornerPoints (λ k. ruledPoint (seen (M .positions) (M .indices) k) twins rules) (M .vertices) 3 points marks → Tables M weights points marks
     ruled-tables c = record {
       weights-are = r .weights-are;
       corners-are = record {

@@ -1,10 +1,11 @@
 -- The tables of an accepted mesh: what their entries are made of, and the sizes of these.
-use mathlib.Core.Path.{_≡_}
+use mathlib.Core.Path.{_≡_, _∙_}
 use mathlib.Core.Bool.{Bool, true, false, cond}
+use mathlib.Core.List.{List}
 use Prim.Native.Nat.{ℕ, _+_, _-_, _*_, _≤_, _<_}
 use native.Mathlib.Omega.{arith}
 use lib.Dec.{eqb}
-use lib.IntN.{pos, natAbs}
+use lib.IntN.{pos, natAbs, _+ℤ_}
 use lib.ListN.{length, replicate, getD-replicate}
 use borrow.Author.Tests.{not-false}
 use Rattle.integer.proofs.Laws.{abs-+}
@@ -15,18 +16,19 @@ use Rattle.mesh.specs.HalfEdge.{boundary}
 use Rattle.mesh.specs.Fan.{onBoundary}
 use Rattle.mesh.specs.IndexedMesh.{IndexedMesh, corners, at}
 use Rattle.mesh.specs.WellFormed.{WellFormed}
-use Rattle.mesh.proofs.CornerLaws.{turn-below}
+use Rattle.mesh.proofs.CornerLaws.{turn-below, prev-below}
 use Rattle.mesh.proofs.BoundaryLaws.{boundary-vertex}
 use Rattle.mesh.proofs.SizeLaws.{sized-indices}
 use Rattle.mesh.proofs.AcceptedLaws.{accepted-corners}
-use Rattle.mesh.specs.Tables.{Corners, Holds, Indices}
+use Rattle.mesh.specs.Tables.{Corners, Holds, Indices, vertexOf}
 use Rattle.mask.specs.Mask.{cornerWeight}
 use Rattle.mask.proofs.LinearLaws.{bounds, ring}
 use Rattle.patch.specs.Point.{Shape, View, x, ringTerm, sharpTerm, faces, inside, weight, sharp, sharpSum, ringSum}
 use Rattle.patch.specs.Patch.{shape, view}
-use Rattle.patch.specs.Lists.{shapeOf, seen, Coordinates}
+use Rattle.patch.specs.Lists.{shapeOf, seen, Coordinates, boundaryIn, sharpIn, Twins, sharpTermBy, sharpSumBy}
 use Rattle.patch.proofs.NeighbourLaws.{sharp-neighbours}
-use Rattle.patch.proofs.SumLaws.{cond-size, gather-size}
+use Rattle.patch.proofs.SumLaws.{cond-size, gather-size, gather-ext}
+use Rattle.patch.proofs.FacePointLaws.{boundary-in, sharp-in}
 
 -- a table as it is made: the same number at each vertex
 pub same-all : {A : Type 0} (d z : A) → Holds d (replicate maxVertices z) maxVertices (λ p. z)
@@ -44,10 +46,10 @@ module _ (S : View) (k : Corners (S .shape .n)) (small : (c : ℕ) → c < S .sh
       let g = x S (across c) in
       ring (bounds maxCoordinate) {e = e} {f = f} {g = g} {e' = e} {f' = f} {g' = g} (turn-size 1 c l) (turn-size 3 c l) (turn-size 2 c l)
 
-  pub sharp-term-size : (c : ℕ) → c < S .shape .n → natAbs (sharpTerm S c) ≤ 5 * maxCoordinate
-  sharp-term-size c l =
-      let leaves = sharp (S .shape) c in
-      let enters = boundary (S .shape .at) (S .shape .n) (prev c) in
+  pub sharp-term-size : (twins : List ℕ) (c : ℕ) → c < S .shape .n → natAbs (sharpTermBy S twins c) ≤ 5 * maxCoordinate
+  sharp-term-size twins c l =
+      let leaves = sharpIn twins c in
+      let enters = boundaryIn twins (prev c) in
       omega (
         arith,
         abs-+ (cond leaves (x S (next c)) (pos 0)) (cond enters (x S (prev c)) (pos 0)),
@@ -68,9 +70,13 @@ module _ (M : IndexedMesh) (whole : length (M .indices) ≡ corners M) where
   unfolding ringSum
   ring-seen k p = rw whole
 
-  pub sharp-seen : (k p : ℕ) → sharpSum (seen (M .positions) (M .indices) k) p ≡ sharpSum (view M k) p
-  unfolding sharpSum sharp
-  sharp-seen k p = rw whole
+  pub sharp-seen : {twins : List ℕ} → Twins (M .indices) twins → Corners (length (M .indices))
+      → (k p : ℕ) → sharpSumBy (seen (M .positions) (M .indices) k) twins p ≡ sharpSum (view M k) p
+  unfolding sharpSumBy sharpSum sharp
+  sharp-seen t corners k p =
+      gather-ext (vertexOf (M .indices)) p (pos 0) _+ℤ_ {g = sharpTerm (seen (M .positions) (M .indices) k)} (length (M .indices))
+      (λ c l. rw (sharp-in t c l, boundary-in t (prev c) (prev-below corners c l)))
+      ∙ rw whole
 
 module _ {M : IndexedMesh} (a : WellFormed M) where
   pub accepted-whole : length (M .indices) ≡ corners M

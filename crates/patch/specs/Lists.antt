@@ -4,16 +4,22 @@
 --   Coordinates positions faces k   every corner has a coordinate k, within its range
 --   boundaryIn twins c, sharpIn twins c   half-edge c has no twin, and takes the boundary rule, by the list of twins
 --   Twins faces twins  the twins of all the half-edges are listed
-use mathlib.Core.Bool.{Bool}
+--   Linked faces twins   every half-edge has an entry, which is a half-edge or none
+--   innerBy S weights c, edgeBy S weights c d, alongBy S twins weights c, beforeBy S twins weights c   the points that corner c owns, as those tables tell
+--   sharpTermBy S twins c, sharpSumBy S twins p   what corner c adds to the sharp sum, and the sharp sum, as the table of twins tells
+use mathlib.Core.Path.{_≡_}
+use mathlib.Core.Bool.{Bool, false, cond}
 use mathlib.Core.List.{List}
 use Prim.Native.Nat.{ℕ, _+_, _*_, _≤_, _<_}
 use lib.Dec.{eqb}
-use lib.IntN.{ℤ, pos, natAbs}
+use lib.IntN.{ℤ, pos, natAbs, _+ℤ_}
 use lib.ListN.{length, getD}
 use Rattle.limits.specs.Limits.{maxCoordinate, noTwin}
+use Rattle.corner.specs.Corner.{next, across, prev}
 use Rattle.mesh.specs.HalfEdge.{twin}
 use Rattle.mesh.specs.Tables.{Corners, Holds, vertexOf, twinOf}
-use Rattle.patch.specs.Point.{Shape, View}
+use Rattle.mask.specs.Mask.{Fraction, innerMask, edgeMask, boundaryEdgeMask}
+use Rattle.patch.specs.Point.{Shape, View, x, sumAt}
 
 abbrev pub shapeOf : List ℕ → Shape
 shapeOf faces = record { n = length faces; at = vertexOf faces; tag = λ p. 0 }
@@ -35,3 +41,26 @@ sharpIn twins c = boundaryIn twins c
 pub record Twins (faces twins : List ℕ) : Type 0 where
   pub listed : length faces ≤ length twins
   pub are : Holds 0 twins (length faces) (twin (vertexOf faces) (length faces))
+
+pub record Linked (faces twins : List ℕ) : Type 0 where
+  pub listed : length faces ≤ length twins
+  pub below : (c : ℕ) → c < length faces → sharpIn twins c ≡ false → twinOf twins c < length faces
+
+unfoldable pub innerBy : View → List ℕ → ℕ → Fraction
+innerBy S weights c = innerMask (getD weights c 0) (x S c) (x S (next c)) (x S (prev c)) (x S (across c))
+
+unfoldable pub edgeBy : View → List ℕ → ℕ → ℕ → Fraction
+edgeBy S weights c d = edgeMask (getD weights c 0) (x S c) (x S (next c)) (x S (prev c)) (x S (across d)) (x S (across c)) (x S (prev d))
+
+unfoldable pub alongBy : View → List ℕ → List ℕ → ℕ → Fraction
+alongBy S twins weights c = cond (sharpIn twins c) (boundaryEdgeMask (x S c) (x S (next c))) (edgeBy S weights c (twinOf twins c))
+
+unfoldable pub beforeBy : View → List ℕ → List ℕ → ℕ → Fraction
+beforeBy S twins weights c =
+    cond (sharpIn twins (prev c)) (boundaryEdgeMask (x S c) (x S (prev c))) (edgeBy S weights (twinOf twins (prev c)) (prev c))
+
+abbrev pub sharpTermBy : View → List ℕ → ℕ → ℤ
+sharpTermBy S twins c = cond (sharpIn twins c) (x S (next c)) (pos 0) +ℤ cond (boundaryIn twins (prev c)) (x S (prev c)) (pos 0)
+
+unfoldable pub sharpSumBy : View → List ℕ → ℕ → ℤ
+sharpSumBy S twins p = sumAt (S .shape) p (sharpTermBy S twins)

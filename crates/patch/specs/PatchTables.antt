@@ -4,9 +4,9 @@
 --   tagged tags faces  the shape of a mesh with its tags, by its lists
 --   Counts G valences leaving   the faces of each vertex, and whether it is inside: no boundary half-edge leaves it
 --   Rendered G v rules weights   the rule of each of v vertices, and the weight of each corner: all that is kept of the tags and of the counts
---   Sums S ring sharp  the two sums at each vertex
+--   Sums S twins ring sharp   the two sums at each vertex
 --   Allowed r p ring sharp   by the rule r, the coordinate p and the two sums make a corner point within the range of the coordinates
---   ruledPoint S rules p   the corner point of vertex p by its rule
+--   ruledPoint S twins rules p   the corner point of vertex p by its rule
 --   CornerSource v positions faces twins rules   all that the corner points of v vertices are made from
 --   Coordinate q v k ..   coordinate k of the corner points q below v is written: each in units at place 3p + k, with the other places of `points` as they
 --                      were; their marks are kept where nothing is left, and become 0 elsewhere, with the marks from v on as they were
@@ -25,9 +25,9 @@ use Rattle.limits.specs.Limits.{maxVertices, maxValence, maxCoordinate}
 use Rattle.mesh.specs.IndexedMesh.{IndexedMesh, corners}
 use Rattle.mesh.specs.Tables.{Holds, Indices, vertexOf}
 use Rattle.mask.specs.Mask.{Fraction, maxSharpness, cornerRule, cornerMask}
-use Rattle.patch.specs.Point.{Shape, View, faces, inside, weight, sharpSum, ringSum, cornerPoint}
+use Rattle.patch.specs.Point.{Shape, View, faces, inside, weight, ringSum, cornerPoint}
 use Rattle.patch.specs.Patch.{shape, view, units, exactly}
-use Rattle.patch.specs.Lists.{shapeOf, seen, Coordinates, Twins}
+use Rattle.patch.specs.Lists.{shapeOf, seen, Coordinates, sharpSumBy}
 
 unfoldable pub rule : Shape → ℕ → ℕ
 rule G p = cornerRule (inside G p) (G .tag p) (faces G p)
@@ -45,9 +45,9 @@ pub record Rendered (G : Shape) (v : ℕ) (rules weights : List ℕ) : Type 0 wh
   pub rules-are : Holds 0 rules v (rule G)
   pub weights-are : Holds 0 weights (G .n) (weight G)
 
-pub record Sums (S : View) (ring sharp : List ℤ) : Type 0 where
+pub record Sums (S : View) (twins : List ℕ) (ring sharp : List ℤ) : Type 0 where
   pub ring-are : Holds (pos 0) ring maxVertices (ringSum S)
-  pub sharp-are : Holds (pos 0) sharp maxVertices (sharpSum S)
+  pub sharp-are : Holds (pos 0) sharp maxVertices (sharpSumBy S twins)
 
 pub record Allowed (r : ℕ) (p ring sharp : ℤ) : Type 0 where
   pub value-small : natAbs p ≤ maxCoordinate
@@ -55,18 +55,18 @@ pub record Allowed (r : ℕ) (p ring sharp : ℤ) : Type 0 where
   pub ring-small : maxSharpness < r → natAbs ring ≤ 5 * maxCoordinate * (r - maxSharpness)
   pub sharp-small : r ≤ maxSharpness → natAbs sharp ≤ 2 * maxCoordinate
 
-unfoldable pub ruledPoint : View → List ℕ → ℕ → Fraction
-ruledPoint S rules p = cornerMask (getD rules p 0) (S .value p) (ringSum S p) (sharpSum S p)
+unfoldable pub ruledPoint : View → List ℕ → List ℕ → ℕ → Fraction
+ruledPoint S twins rules p = cornerMask (getD rules p 0) (S .value p) (ringSum S p) (sharpSumBy S twins p)
 
 pub record CornerSource (v : ℕ) (positions : List ℤ) (faces twins rules : List ℕ) : Type 0 where
   pub few : v ≤ maxVertices
   pub positions-listed : 3 * v ≤ length positions
   pub rules-listed : v ≤ length rules
   pub indices : Indices faces (length faces)
-  pub twinned : Twins faces twins
+  pub twins-listed : length faces ≤ length twins
   pub placed : (k : ℕ) → k < 3 → Coordinates positions faces k
   pub allowed : (k p : ℕ) → k < 3 → p < v
-      → Allowed (getD rules p 0) (seen positions faces k .value p) (ringSum (seen positions faces k) p) (sharpSum (seen positions faces k) p)
+      → Allowed (getD rules p 0) (seen positions faces k .value p) (ringSum (seen positions faces k) p) (sharpSumBy (seen positions faces k) twins p)
 
 pub record Coordinate (q : ℕ → Fraction) (v k : ℕ) (points points' : List ℤ) (marks marks' : List ℕ) : Type 0 where
   pub written : (p : ℕ) → p < v → getD points' (3 * p + k) (pos 0) ≡ units (q p)

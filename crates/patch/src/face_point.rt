@@ -7,17 +7,15 @@ use crate::values::turned;
 use corner::wide;
 use mask::model::Fraction;
 ghost use mathlib.Core.Path.{_≡_};
-ghost use Prim.Native.Nat.{ℕ, _<_};
+ghost use Prim.Native.Nat.{ℕ, _≤_, _<_};
 ghost use lib.ListN.{length};
-ghost use Rattle.patch.specs.Point.{innerPoint, edgePoint, alongPoint, beforePoint};
-ghost use Rattle.patch.specs.Lists.{seen, Coordinates, Twins};
+ghost use Rattle.patch.specs.Lists.{seen, Coordinates, Linked, innerBy, edgeBy, alongBy, beforeBy};
 ghost use Rattle.patch.specs.Values.{Made, inUnits};
-ghost use Rattle.patch.specs.PatchTables.{Weights};
 
 // The inner point at corner c, coordinate k.
 fn inner_point(positions: &[i32], faces: &[u16], weights: &[u16], k: usize, c: usize) -> Fraction
-    requires { ⌜ Coordinates (now positions) (now faces) k × Weights (now faces) (now weights) × (c < length (now faces)) ⌝ }
-    ensures { λ r. ⌜ Made (innerPoint (seen (now (positions .entry)) (now (faces .entry)) k) c) r ⌝ }
+    requires { ⌜ Coordinates (now positions) (now faces) k × (length (now faces) ≤ length (now weights)) × (c < length (now faces)) ⌝ }
+    ensures { λ r. ⌜ Made (innerBy (seen (now (positions .entry)) (now (faces .entry)) k) (now (weights .entry)) c) r ⌝ }
 {
     mask::inner_mask(weights[c], face_values(positions, faces, k, c))
 }
@@ -31,8 +29,8 @@ fn edge_point(
     c: usize,
     d: usize,
 ) -> Fraction
-    requires { ⌜ Coordinates (now positions) (now faces) k × Weights (now faces) (now weights) × (c < length (now faces)) × (d < length (now faces)) ⌝ }
-    ensures { λ r. ⌜ Made (edgePoint (seen (now (positions .entry)) (now (faces .entry)) k) c d) r ⌝ }
+    requires { ⌜ Coordinates (now positions) (now faces) k × (length (now faces) ≤ length (now weights)) × (c < length (now faces)) × (d < length (now faces)) ⌝ }
+    ensures { λ r. ⌜ Made (edgeBy (seen (now (positions .entry)) (now (faces .entry)) k) (now (weights .entry)) c d) r ⌝ }
 {
     mask::edge_mask(
         weights[c],
@@ -50,8 +48,8 @@ fn along_point(
     k: usize,
     c: usize,
 ) -> Fraction
-    requires { ⌜ Coordinates (now positions) (now faces) k × Weights (now faces) (now weights) × Twins (now faces) (now twins) × (c < length (now faces)) ⌝ }
-    ensures { λ r. ⌜ Made (alongPoint (seen (now (positions .entry)) (now (faces .entry)) k) c) r ⌝ }
+    requires { ⌜ Coordinates (now positions) (now faces) k × (length (now faces) ≤ length (now weights)) × Linked (now faces) (now twins) × (c < length (now faces)) ⌝ }
+    ensures { λ r. ⌜ Made (alongBy (seen (now (positions .entry)) (now (faces .entry)) k) (now (twins .entry)) (now (weights .entry)) c) r ⌝ }
 {
     if is_sharp(twins, c) {
         let a = face_values(positions, faces, k, c);
@@ -69,8 +67,8 @@ fn before_point(
     k: usize,
     c: usize,
 ) -> Fraction
-    requires { ⌜ Coordinates (now positions) (now faces) k × Weights (now faces) (now weights) × Twins (now faces) (now twins) × (c < length (now faces)) ⌝ }
-    ensures { λ r. ⌜ Made (beforePoint (seen (now (positions .entry)) (now (faces .entry)) k) c) r ⌝ }
+    requires { ⌜ Coordinates (now positions) (now faces) k × (length (now faces) ≤ length (now weights)) × Linked (now faces) (now twins) × (c < length (now faces)) ⌝ }
+    ensures { λ r. ⌜ Made (beforeBy (seen (now (positions .entry)) (now (faces .entry)) k) (now (twins .entry)) (now (weights .entry)) c) r ⌝ }
 {
     let h = turned(3, c);
     if is_sharp(twins, h) {
@@ -88,8 +86,8 @@ pub(crate) fn inner_points(
     c: usize,
 ) -> ControlPoint
     requires { ⌜ ((k : ℕ) → k < 3 → Coordinates (now positions) (now faces) k) × (c < length (now faces)) ⌝ }
-    requires { ⌜ Weights (now faces) (now weights) ⌝ }
-    ensures { λ r. ⌜ r ≡ inUnits (λ k. innerPoint (seen (now (positions .entry)) (now (faces .entry)) k) c) ⌝ }
+    requires { ⌜ (length (now faces) ≤ length (now weights)) ⌝ }
+    ensures { λ r. ⌜ r ≡ inUnits (λ k. innerBy (seen (now (positions .entry)) (now (faces .entry)) k) (now (weights .entry)) c) ⌝ }
 {
     point_in_units(
         inner_point(positions, faces, weights, 0, c),
@@ -107,8 +105,8 @@ pub(crate) fn along_points(
     c: usize,
 ) -> ControlPoint
     requires { ⌜ ((k : ℕ) → k < 3 → Coordinates (now positions) (now faces) k) × (c < length (now faces)) ⌝ }
-    requires { ⌜ Weights (now faces) (now weights) × Twins (now faces) (now twins) ⌝ }
-    ensures { λ r. ⌜ r ≡ inUnits (λ k. alongPoint (seen (now (positions .entry)) (now (faces .entry)) k) c) ⌝ }
+    requires { ⌜ (length (now faces) ≤ length (now weights)) × Linked (now faces) (now twins) ⌝ }
+    ensures { λ r. ⌜ r ≡ inUnits (λ k. alongBy (seen (now (positions .entry)) (now (faces .entry)) k) (now (twins .entry)) (now (weights .entry)) c) ⌝ }
 {
     point_in_units(
         along_point(positions, faces, twins, weights, 0, c),
@@ -126,8 +124,8 @@ pub(crate) fn before_points(
     c: usize,
 ) -> ControlPoint
     requires { ⌜ ((k : ℕ) → k < 3 → Coordinates (now positions) (now faces) k) × (c < length (now faces)) ⌝ }
-    requires { ⌜ Weights (now faces) (now weights) × Twins (now faces) (now twins) ⌝ }
-    ensures { λ r. ⌜ r ≡ inUnits (λ k. beforePoint (seen (now (positions .entry)) (now (faces .entry)) k) c) ⌝ }
+    requires { ⌜ (length (now faces) ≤ length (now weights)) × Linked (now faces) (now twins) ⌝ }
+    ensures { λ r. ⌜ r ≡ inUnits (λ k. beforeBy (seen (now (positions .entry)) (now (faces .entry)) k) (now (twins .entry)) (now (weights .entry)) c) ⌝ }
 {
     point_in_units(
         before_point(positions, faces, twins, weights, 0, c),

@@ -28,9 +28,9 @@ fn write_patches(
     requires { ⌜ Source (now positions) (now faces) (now twins) (now weights) (now points) (now marks) × (4 * f ≤ length (now faces)) ⌝ }
     requires { ⌜ (48 * f ≤ length (now patches)) × (16 * f ≤ length (now exact)) ⌝ }
     ensures { λ _. ⌜ now (patches .exit)
-        ≡ filled (writtenNumber (now (positions .entry)) (now (faces .entry)) (now (points .entry))) (48 * f) (now (patches .entry)) ⌝ }
+        ≡ filled (writtenNumber (now (positions .entry)) (now (faces .entry)) (now (twins .entry)) (now (weights .entry)) (now (points .entry))) (48 * f) (now (patches .entry)) ⌝ }
     ensures { λ _. ⌜ now (exact .exit)
-        ≡ filled (writtenMark (now (positions .entry)) (now (faces .entry)) (now (marks .entry))) (16 * f) (now (exact .entry)) ⌝ }
+        ≡ filled (writtenMark (now (positions .entry)) (now (faces .entry)) (now (twins .entry)) (now (weights .entry)) (now (marks .entry))) (16 * f) (now (exact .entry)) ⌝ }
 {
     for g in 0..f {
         let at = 48 * g;

@@ -11,8 +11,8 @@ ghost use lib.IntN.{pos, natAbs, _+ℤ_};
 ghost use lib.ListN.{length, getD, set};
 ghost use Rattle.limits.specs.Limits.{maxVertices, maxCoordinate};
 ghost use Rattle.mesh.specs.Tables.{Holds, Indices};
-ghost use Rattle.patch.specs.Point.{sharpTerm, ringTerm};
-ghost use Rattle.patch.specs.Lists.{seen, Coordinates, Twins};
+ghost use Rattle.patch.specs.Point.{ringTerm};
+ghost use Rattle.patch.specs.Lists.{seen, Coordinates, sharpTermBy};
 ghost use Rattle.patch.specs.PatchTables.{Sums};
 
 // The sum of two numbers.
@@ -51,8 +51,8 @@ fn value_if(b: bool, x: i32) -> i64
 
 // The term of corner c in the sharp sum, of coordinate k.
 fn sharp_term(positions: &[i32], faces: &[u16], twins: &[u16], k: usize, c: usize) -> i64
-    requires { ⌜ Coordinates (now positions) (now faces) k × Twins (now faces) (now twins) × (c < length (now faces)) ⌝ }
-    ensures { λ r. ⌜ r ≡ sharpTerm (seen (now (positions .entry)) (now (faces .entry)) k) c ⌝ }
+    requires { ⌜ Coordinates (now positions) (now faces) k × (length (now faces) ≤ length (now twins)) × (c < length (now faces)) ⌝ }
+    ensures { λ r. ⌜ r ≡ sharpTermBy (seen (now (positions .entry)) (now (faces .entry)) k) (now (twins .entry)) c ⌝ }
 {
     let a = face_values(positions, faces, k, c);
     let leaving = value_if(is_sharp(twins, c), a.next);
@@ -69,10 +69,10 @@ pub(crate) fn add_sums(
     ring: &mut [i64],
     sharp: &mut [i64],
 )
-    requires { ⌜ Indices (now faces) (length (now faces)) × Twins (now faces) (now twins) × Coordinates (now positions) (now faces) k ⌝ }
+    requires { ⌜ Indices (now faces) (length (now faces)) × (length (now faces) ≤ length (now twins)) × Coordinates (now positions) (now faces) k ⌝ }
     requires { ⌜ (maxVertices ≤ length (now ring)) × (maxVertices ≤ length (now sharp)) ⌝ }
     requires { ⌜ Holds (pos 0) (now ring) maxVertices (λ p. pos 0) × Holds (pos 0) (now sharp) maxVertices (λ p. pos 0) ⌝ }
-    ensures { λ _. ⌜ Sums (seen (now (positions .entry)) (now (faces .entry)) k) (now (ring .exit)) (now (sharp .exit)) ⌝ }
+    ensures { λ _. ⌜ Sums (seen (now (positions .entry)) (now (faces .entry)) k) (now (twins .entry)) (now (ring .exit)) (now (sharp .exit)) ⌝ }
 {
     for c in 0..faces.len() {
         let p = wide(faces[c]);

@@ -35,7 +35,7 @@ fn fill_coordinate(
 )
     requires { ⌜ CornerSource v (now positions) (now faces) (now twins) (now rules) × (k < 3) ⌝ }
     requires { ⌜ (3 * v ≤ length (now points)) × (v ≤ length (now marks)) ⌝ }
-    ensures { λ _. ⌜ Coordinate (ruledPoint (seen (now (positions .entry)) (now (faces .entry)) k) (now (rules .entry))) v k
+    ensures { λ _. ⌜ Coordinate (ruledPoint (seen (now (positions .entry)) (now (faces .entry)) k) (now (twins .entry)) (now (rules .entry))) v k
         (now (points .entry)) (now (points .exit)) (now (marks .entry)) (now (marks .exit)) ⌝ }
 {
     let mut ring = [0i64; Mesh::MAX_VERTICES];
@@ -63,7 +63,7 @@ pub(crate) fn fill_corners(
 )
     requires { ⌜ CornerSource v (now positions) (now faces) (now twins) (now rules) ⌝ }
     requires { ⌜ (3 * v ≤ length (now points)) × (v ≤ length (now marks)) × Holds 0 (now marks) v (λ p. 1) ⌝ }
-    ensures { λ _. ⌜ CornerPoints (λ k. ruledPoint (seen (now (positions .entry)) (now (faces .entry)) k) (now (rules .entry))) v 3
+    ensures { λ _. ⌜ CornerPoints (λ k. ruledPoint (seen (now (positions .entry)) (now (faces .entry)) k) (now (twins .entry)) (now (rules .entry))) v 3
         (now (points .exit)) (now (marks .exit)) ⌝ }
 {
     for k in 0..3 {

@@ -82,8 +82,8 @@ fn point_values(
     kind: Kind,
 ) -> ControlPoint
     requires { ⌜ Source (now positions) (now faces) (now twins) (now weights) (now points) (now marks) × (c < length (now faces)) ⌝ }
-    ensures { λ r. ⌜ r ≡ pointOf (λ k. pointFrom (now (positions .entry)) (now (faces .entry)) (now (points .entry)) k c (kindOf kind))
-        (exactFrom (now (positions .entry)) (now (faces .entry)) (now (marks .entry)) c (kindOf kind)) ⌝ }
+    ensures { λ r. ⌜ r ≡ pointOf (λ k. pointFrom (now (positions .entry)) (now (faces .entry)) (now (twins .entry)) (now (weights .entry)) (now (points .entry)) k c (kindOf kind))
+        (exactFrom (now (positions .entry)) (now (faces .entry)) (now (twins .entry)) (now (weights .entry)) (now (marks .entry)) c (kindOf kind)) ⌝ }
 {
     match kind {
         Kind::Corner => vertex_points(faces, points, marks, c),
@@ -118,8 +118,8 @@ fn write_point(
     requires { ⌜ Source (now positions) (now faces) (now twins) (now weights) (now points) (now marks)
         × (c < length (now faces)) × (3 ≤ length (now point)) ⌝ }
     ensures { λ _. ⌜ now (point .exit)
-        ≡ filled (λ k. pointFrom (now (positions .entry)) (now (faces .entry)) (now (points .entry)) k c (kindOf kind)) 3 (now (point .entry)) ⌝ }
-    ensures { λ r. ⌜ r ≡ indicator (exactFrom (now (positions .entry)) (now (faces .entry)) (now (marks .entry)) c (kindOf kind)) ⌝ }
+        ≡ filled (λ k. pointFrom (now (positions .entry)) (now (faces .entry)) (now (twins .entry)) (now (weights .entry)) (now (points .entry)) k c (kindOf kind)) 3 (now (point .entry)) ⌝ }
+    ensures { λ r. ⌜ r ≡ indicator (exactFrom (now (positions .entry)) (now (faces .entry)) (now (twins .entry)) (now (weights .entry)) (now (marks .entry)) c (kindOf kind)) ⌝ }
 {
     let p = point_values(positions, faces, twins, weights, points, marks, c, kind);
     let x = p.x;
@@ -146,8 +146,8 @@ fn write_numbered(
     requires { ⌜ Source (now positions) (now faces) (now twins) (now weights) (now points) (now marks)
         × (4 * g + 4 ≤ length (now faces)) × (m < 16) × (3 ≤ length (now point)) ⌝ }
     ensures { λ _. ⌜ now (point .exit)
-        ≡ filled (λ k. numberFrom (now (positions .entry)) (now (faces .entry)) (now (points .entry)) g (3 * m + k)) 3 (now (point .entry)) ⌝ }
-    ensures { λ r. ⌜ r ≡ markFrom (now (positions .entry)) (now (faces .entry)) (now (marks .entry)) g m ⌝ }
+        ≡ filled (λ k. numberFrom (now (positions .entry)) (now (faces .entry)) (now (twins .entry)) (now (weights .entry)) (now (points .entry)) g (3 * m + k)) 3 (now (point .entry)) ⌝ }
+    ensures { λ r. ⌜ r ≡ markFrom (now (positions .entry)) (now (faces .entry)) (now (twins .entry)) (now (weights .entry)) (now (marks .entry)) g m ⌝ }
 {
     let kind = KINDS[m];
     let c = turned(OWNERS[m] as usize, 4 * g);
@@ -178,8 +178,8 @@ pub(crate) fn write_patch(
 )
     requires { ⌜ Source (now positions) (now faces) (now twins) (now weights) (now points) (now marks) × (4 * g + 4 ≤ length (now faces))
         × (48 ≤ length (now patch)) × (16 ≤ length (now exact)) ⌝ }
-    ensures { λ _. ⌜ now (patch .exit) ≡ filled (numberFrom (now (positions .entry)) (now (faces .entry)) (now (points .entry)) g) 48 (now (patch .entry)) ⌝ }
-    ensures { λ _. ⌜ now (exact .exit) ≡ filled (markFrom (now (positions .entry)) (now (faces .entry)) (now (marks .entry)) g) 16 (now (exact .entry)) ⌝ }
+    ensures { λ _. ⌜ now (patch .exit) ≡ filled (numberFrom (now (positions .entry)) (now (faces .entry)) (now (twins .entry)) (now (weights .entry)) (now (points .entry)) g) 48 (now (patch .entry)) ⌝ }
+    ensures { λ _. ⌜ now (exact .exit) ≡ filled (markFrom (now (positions .entry)) (now (faces .entry)) (now (twins .entry)) (now (weights .entry)) (now (marks .entry)) g) 16 (now (exact .entry)) ⌝ }
 {
     for m in 0..16 {
         let at = 3 * m;

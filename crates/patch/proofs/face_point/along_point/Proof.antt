@@ -1,10 +1,8 @@
 -- `along_point` meets its contract: the listed twin tells whether the half-edge takes the boundary rule, and is the twin that the edge point names.
 use mathlib.Core.Path.{_≡_, sym, _∙_}
 use borrow.Author.Needs.{needs}
-use Rattle.patch.specs.Point.{sharp, alongPoint}
-use Rattle.patch.specs.Lists.{shapeOf}
+use Rattle.patch.specs.Lists.{sharpIn, alongBy}
 use Rattle.patch.proofs.MaskLaws.{boundary-edge-made}
-use Rattle.patch.proofs.FacePointLaws.{sharp-in, twin-listed}
 use Rattle.patch.proofs.face_point.along_point.Statement.{statement}
 use Rattle.patch.proofs.face_point.along_point.Tie as tie
 
@@ -13,8 +11,8 @@ module _ (t : tie.After-is-sharp) where
   abbrev start : tie.Start
   start = t .before .before .before .before
 
-  tested : sharp (shapeOf (start .args .faces .now)) (start .args .c) ≡ t .is-sharp .result
-  tested = sym (t .is-sharp .ensures ∙ sharp-in (start .pre .2) (start .args .c) (start .pre .3))
+  tested : sharpIn (start .args .twins .now) (start .args .c) ≡ t .is-sharp .result
+  tested = sym (t .is-sharp .ensures)
 
 is-sharp-requires : tie.Need-is-sharp-requires
 is-sharp-requires c κs = search needs
@@ -26,7 +24,7 @@ boundary-edge-mask-requires : tie.Need-boundary-edge-mask-requires
 boundary-edge-mask-requires c κs = search needs
 
 returns : tie.Need-returns
-unfolding alongPoint
+unfolding alongBy
 returns c =
     let v = c .before .before .before in
     let a = v .face-values .ensures in
@@ -46,15 +44,15 @@ edge-point-requires : tie.Need-edge-point-requires
 edge-point-requires c κs =
     let f = c .before .before in
     let s = start (f .before) in
-    (s .pre .0, s .pre .1, s .pre .3, rw (c .wide .ensures) (twin-listed (s .pre .2) (s .args .c) (s .pre .3) (tested (f .before) ∙ f .if1 .left)))
+    (s .pre .0, s .pre .1, s .pre .3, rw (c .wide .ensures) (s .pre .2 .below (s .args .c) (s .pre .3) (tested (f .before) ∙ f .if1 .left)))
 
 returns-2 : tie.Need-returns-2
-unfolding alongPoint
+unfolding alongBy
 returns-2 c =
     let f = c .before .before .before in
     let s = start (f .before) in
     rw (tested (f .before) ∙ f .if1 .left)
-    (rw (c .before .wide .ensures ∙ s .pre .2 .are (s .args .c) (s .pre .3)) at (c .edge-point .ensures))
+    (rw (c .before .wide .ensures) at (c .edge-point .ensures))
 
 pub along-point-spec : {M : Type 1} → statement M
 along-point-spec =

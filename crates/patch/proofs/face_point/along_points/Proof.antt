@@ -2,8 +2,7 @@
 use mathlib.Core.Path.{_∙_}
 use native.Mathlib.Omega.{arith}
 use borrow.Author.Needs.{needs}
-use Rattle.patch.specs.Point.{alongPoint}
-use Rattle.patch.specs.Lists.{seen}
+use Rattle.patch.specs.Lists.{seen, alongBy}
 use Rattle.patch.proofs.FacePointLaws.{point-of-three}
 use Rattle.patch.proofs.face_point.along_points.Statement.{statement}
 use Rattle.patch.proofs.face_point.along_points.Tie as tie
@@ -34,7 +33,7 @@ returns c =
     let x = y .before in
     let s = start₁ x in
     c .point-in-units .ensures
-    ∙ point-of-three (λ k. alongPoint (seen (s .args .positions .now) (s .args .faces .now) k) (s .args .c))
+    ∙ point-of-three (λ k. alongBy (seen (s .args .positions .now) (s .args .faces .now) k) (s .args .twins .now) (s .args .weights .now) (s .args .c))
     (x .along-point .ensures .is) (y .along-point2 .ensures .is) (z .along-point3 .ensures .is)
 
 pub along-points-spec : {M : Type 1} → statement M

@@ -6,10 +6,10 @@ use borrow.Author.Needs.{needs}
 use Rattle.corner.specs.Corner.{prev}
 use Rattle.mesh.proofs.CornerLaws.{prev-below}
 use Rattle.mesh.specs.Tables.{twinOf}
-use Rattle.patch.specs.Point.{View, sharp, edgePoint, beforePoint}
-use Rattle.patch.specs.Lists.{seen, shapeOf, sharpIn}
+use Rattle.patch.specs.Point.{View}
+use Rattle.patch.specs.Lists.{seen, sharpIn, edgeBy, beforeBy}
 use Rattle.patch.proofs.MaskLaws.{boundary-edge-made}
-use Rattle.patch.proofs.FacePointLaws.{made-is, sharp-in, twin-listed}
+use Rattle.patch.proofs.FacePointLaws.{made-is}
 use Rattle.patch.proofs.face_point.before_point.Statement.{statement}
 use Rattle.patch.proofs.face_point.before_point.Tie as tie
 
@@ -30,8 +30,8 @@ module _ (t : tie.After-is-sharp) where
   below : h < length (start .args .faces .now)
   below = prev-below (start .pre .0 .corners) (start .args .c) (start .pre .3)
 
-  tested : sharp (shapeOf (start .args .faces .now)) h ≡ t .is-sharp .result
-  tested = sym (t .is-sharp .ensures ∙ ap (sharpIn (start .args .twins .now)) (t .before .turned .ensures) ∙ sharp-in (start .pre .2) h below)
+  tested : sharpIn (start .args .twins .now) h ≡ t .is-sharp .result
+  tested = sym (t .is-sharp .ensures ∙ ap (sharpIn (start .args .twins .now)) (t .before .turned .ensures))
 
 turned-requires : tie.Need-turned-requires
 turned-requires c κs = search needs
@@ -46,7 +46,7 @@ boundary-edge-mask-requires : tie.Need-boundary-edge-mask-requires
 boundary-edge-mask-requires c κs = search needs
 
 returns : tie.Need-returns
-unfolding beforePoint
+unfolding beforeBy
 returns c =
     let v = c .before .before .before in
     let a = v .face-values .ensures in
@@ -76,18 +76,18 @@ edge-point-requires c κs =
     let s = start t in (
       s .pre .0,
       s .pre .1,
-      rw (twin-read c) (twin-listed (s .pre .2) (h t) (below t) (tested t ∙ c .before .before .if1 .left)),
+      rw (twin-read c) (s .pre .2 .below (h t) (below t) (tested t ∙ c .before .before .if1 .left)),
       rw (t .before .turned .ensures) (below t),
     )
 
 returns-2 : tie.Need-returns-2
-unfolding beforePoint
+unfolding beforeBy
 returns-2 c =
     let w = c .before in
     let t = test w in
     let s = start t in
     rw (tested t ∙ w .before .before .if1 .left)
-    (made-is (ap₂ (λ (d e : ℕ). edgePoint (S t) d e) (twin-read w ∙ s .pre .2 .are (h t) (below t)) (t .before .turned .ensures)) (c .edge-point .ensures))
+    (made-is (ap₂ (λ (d e : ℕ). edgeBy (S t) (s .args .weights .now) d e) (twin-read w) (t .before .turned .ensures)) (c .edge-point .ensures))
 
 pub before-point-spec : {M : Type 1} → statement M
 before-point-spec =

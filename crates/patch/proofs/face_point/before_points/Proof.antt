@@ -2,8 +2,7 @@
 use mathlib.Core.Path.{_∙_}
 use native.Mathlib.Omega.{arith}
 use borrow.Author.Needs.{needs}
-use Rattle.patch.specs.Point.{beforePoint}
-use Rattle.patch.specs.Lists.{seen}
+use Rattle.patch.specs.Lists.{seen, beforeBy}
 use Rattle.patch.proofs.FacePointLaws.{point-of-three}
 use Rattle.patch.proofs.face_point.before_points.Statement.{statement}
 use Rattle.patch.proofs.face_point.before_points.Tie as tie
@@ -34,7 +33,7 @@ returns c =
     let x = y .before in
     let s = start₁ x in
     c .point-in-units .ensures
-    ∙ point-of-three (λ k. beforePoint (seen (s .args .positions .now) (s .args .faces .now) k) (s .args .c))
+    ∙ point-of-three (λ k. beforeBy (seen (s .args .positions .now) (s .args .faces .now) k) (s .args .twins .now) (s .args .weights .now) (s .args .c))
     (x .before-point .ensures .is) (y .before-point2 .ensures .is) (z .before-point3 .ensures .is)
 
 pub before-points-spec : {M : Type 1} → statement M

@@ -1,7 +1,7 @@
 -- `edge_point` meets its contract: it passes the mask the weight and the values that the edge point names.
 use borrow.Author.Needs.{needs}
 use Rattle.patch.proofs.MaskLaws.{made, edge-sized}
-use Rattle.patch.proofs.FacePointLaws.{made-is, edge-seen}
+use Rattle.patch.proofs.FacePointLaws.{made-is, edge-told}
 use Rattle.patch.proofs.face_point.edge_point.Statement.{statement}
 use Rattle.patch.proofs.face_point.edge_point.Tie as tie
 
@@ -30,7 +30,7 @@ returns c =
     let s = start v in
     let a = v .face-values in
     let b = w .face-values2 in
-    made-is (edge-seen _ (s .args .c) (s .args .d) _ (a .result) (b .result) (s .pre .1 .are (s .args .c) (s .pre .2)) (a .ensures) (b .ensures))
+    made-is (edge-told _ (s .args .weights .now) (s .args .c) (s .args .d) (a .result) (b .result) (a .ensures) (b .ensures))
     (made (c .edge-mask .result) (edge-sized _ (a .result) (b .result) (a .ensures .small) (b .ensures .small)) (c .edge-mask .ensures))
 
 pub edge-point-spec : {M : Type 1} → statement M

@@ -1,7 +1,7 @@
 -- `inner_point` meets its contract: it passes the mask the weight and the values that the inner point names.
 use borrow.Author.Needs.{needs}
 use Rattle.patch.proofs.MaskLaws.{made, inner-sized}
-use Rattle.patch.proofs.FacePointLaws.{made-is, inner-seen}
+use Rattle.patch.proofs.FacePointLaws.{made-is, inner-told}
 use Rattle.patch.proofs.face_point.inner_point.Statement.{statement}
 use Rattle.patch.proofs.face_point.inner_point.Tie as tie
 
@@ -25,7 +25,7 @@ returns c =
     let v = c .before in
     let s = start v in
     let a = v .face-values in
-    made-is (inner-seen _ (s .args .c) _ (a .result) (s .pre .1 .are (s .args .c) (s .pre .2)) (a .ensures))
+    made-is (inner-told _ (s .args .weights .now) (s .args .c) (a .result) (a .ensures))
     (made (c .inner-mask .result) (inner-sized _ (a .result) (a .ensures .small)) (c .inner-mask .ensures))
 
 pub inner-point-spec : {M : Type 1} → statement M

@@ -2,8 +2,7 @@
 use mathlib.Core.Path.{_∙_}
 use native.Mathlib.Omega.{arith}
 use borrow.Author.Needs.{needs}
-use Rattle.patch.specs.Point.{innerPoint}
-use Rattle.patch.specs.Lists.{seen}
+use Rattle.patch.specs.Lists.{seen, innerBy}
 use Rattle.patch.proofs.FacePointLaws.{point-of-three}
 use Rattle.patch.proofs.face_point.inner_points.Statement.{statement}
 use Rattle.patch.proofs.face_point.inner_points.Tie as tie
@@ -34,7 +33,7 @@ returns c =
     let x = y .before in
     let s = start₁ x in
     c .point-in-units .ensures
-    ∙ point-of-three (λ k. innerPoint (seen (s .args .positions .now) (s .args .faces .now) k) (s .args .c))
+    ∙ point-of-three (λ k. innerBy (seen (s .args .positions .now) (s .args .faces .now) k) (s .args .weights .now) (s .args .c))
     (x .inner-point .ensures .is) (y .inner-point2 .ensures .is) (z .inner-point3 .ensures .is)
 
 pub inner-points-spec : {M : Type 1} → statement M

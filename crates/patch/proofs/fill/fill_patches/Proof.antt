@@ -1,7 +1,9 @@
 -- `fill_patches` meets its contract: the rules and weights of the mesh make its corner points, and all these tables its patches.
 use mathlib.Core.Path.{_≡_, refl, _∙_}
+use Prim.Native.Nat.{_≤_}
 use native.Mathlib.Nat.{lt-of-lt-of-le}
 use native.Mathlib.Omega.{arith}
+use lib.ListN.{length}
 use borrow.Author.Needs.{needs}
 use Rattle.finite.proofs.FilledLaws.{filled-ext}
 use Rattle.mesh.specs.IndexedMesh.{IndexedMesh, indexed}
@@ -46,7 +48,12 @@ module _ (c : tie.After-write-patches-arg2) where
 
   tables : Tables (mesh (start begun)) (read begun .render .last .1 .1 .1 .1 .0)
       (cornered .fill-corners .last .1 .1 .1 .1 .1 .0) (cornered .fill-corners .last .1 .1 .1 .1 .1 .1 .0)
-  tables = ruled-tables (accepted begun) (rendered begun) (cornered .fill-corners .ensures)
+  tables = ruled-tables (accepted begun) (start begun .pre .1) (rendered begun) (cornered .fill-corners .ensures)
+
+  weights-listed : length (start begun .args .faces .now) ≤ length (read begun .render .last .1 .1 .1 .1 .0)
+  weights-listed =
+      let size = accepted begun .sized in
+      omega (arith, size .indices-are, size .faces-high, read begun .render .kept .1 .1 .1 .1 .0)
 
 slice-aggregate-render : tie.Need-slice-aggregate-render
 slice-aggregate-render c = refl
@@ -79,7 +86,7 @@ fill-corners-requires : tie.Need-fill-corners-requires
 fill-corners-requires c κs =
     let s = start c in
     let few = accepted c .sized .vertices-high in (
-      corner-source (accepted c) (rendered c) (s .pre .1) (omega (arith, few, read c .render .kept .1 .1 .1 .0)),
+      corner-source (accepted c) (s .pre .1) (rendered c) (omega (arith, few, read c .render .kept .1 .1 .1 .0)),
       (omega (arith, few), few, λ p l. same-all 0 1 p (lt-of-lt-of-le l few)),
     )
 
@@ -98,8 +105,7 @@ write-patches-requires c κs =
     let size = accepted (begun c) .sized in
     let kept = cornered c .fill-corners .kept in (
       (
-        source (accepted (begun c)) (tables c) (s .pre .1)
-            (omega (arith, size .indices-are, size .faces-high, read (begun c) .render .kept .1 .1 .1 .1 .0))
+        source (accepted (begun c)) (s .pre .1) (weights-listed c) (tables c)
             (omega (arith, size .vertices-high, kept .1 .1 .1 .1 .1 .0))
             (omega (arith, size .vertices-high, kept .1 .1 .1 .1 .1 .1 .0)),
         omega (arith, size .indices-are),
@@ -122,8 +128,8 @@ returns c =
     let w = written c in
     let b = w .before in
     let a = accepted (begun b) in (
-      w .write-patches .ensures .0 ∙ filled-ext _ _ (number-written a (tables b)),
-      w .write-patches .ensures .1 ∙ filled-ext _ _ (mark-written a (tables b)),
+      w .write-patches .ensures .0 ∙ filled-ext _ _ (number-written a (start (begun b) .pre .1) (weights-listed b) (tables b)),
+      w .write-patches .ensures .1 ∙ filled-ext _ _ (mark-written a (start (begun b) .pre .1) (weights-listed b) (tables b)),
     )
 
 pub fill-patches-spec : {M : Type 1} → statement M

@@ -13,8 +13,8 @@ use Rattle.patch.proofs.fill.write_patches.Tie as tie
 
 abbrev Inv-loop : tie.InvT-loop
 Inv-loop f positions faces twins weights points marks patches₀ exact₀ g₀ patches exact g =
-    (g ≤ f) × (length patches ≡ length patches₀) × (patches ≡ filled (writtenNumber positions faces points) (48 * g) patches₀)
-    × (length exact ≡ length exact₀) × (exact ≡ filled (writtenMark positions faces marks) (16 * g) exact₀)
+    (g ≤ f) × (length patches ≡ length patches₀) × (patches ≡ filled (writtenNumber positions faces twins weights points) (48 * g) patches₀)
+    × (length exact ≡ length exact₀) × (exact ≡ filled (writtenMark positions faces twins weights marks) (16 * g) exact₀)
 
 abbrev μ-loop : tie.MeasureT-loop
 μ-loop f positions faces twins weights points marks patches₀ exact₀ g₀ patches exact g = f - g
@@ -81,11 +81,13 @@ loop-again c =
     let below : l .loop .g < s .args .f = omega arith in
     let positions = s .args .positions .now in
     let faces = s .args .faces .now in
+    let twins = s .args .twins .now in
+    let weights = s .args .weights .now in
     let w = filled-stretch _ _ (48 * l .loop .g) 48 (48 * (l .loop .g + 1)) (s .args .patches .now) (l .loop .patches) _
-    (omega arith) (omega (arith, s .pre .1 .0, below)) (λ j h. number-placed positions faces (s .args .points .now) (l .loop .g) j h)
+    (omega arith) (omega (arith, s .pre .1 .0, below)) (λ j h. number-placed positions faces twins weights (s .args .points .now) (l .loop .g) j h)
     (l .loop .inv .2) (t .write-patch .ensures .0) in
     let x = filled-stretch _ _ (16 * l .loop .g) 16 (16 * (l .loop .g + 1)) (s .args .exact .now) (l .loop .exact) _
-    (omega arith) (omega (arith, s .pre .1 .1, below)) (λ j h. mark-placed positions faces (s .args .marks .now) (l .loop .g) j h)
+    (omega arith) (omega (arith, s .pre .1 .1, below)) (λ j h. mark-placed positions faces twins weights (s .args .marks .now) (l .loop .g) j h)
     (l .loop .inv .4) (t .write-patch .ensures .1) in
     (add-one-le below, w .0, w .1, x .0, x .1)
 

@@ -14,8 +14,8 @@ use Rattle.finite.proofs.Gather.{Gathered, gathered-none, gathered-more}
 use Rattle.finite.proofs.IntegerSum.{sumℤ-monoid}
 use Rattle.limits.specs.Limits.{maxVertices, maxCoordinate}
 use Rattle.mesh.specs.Tables.{vertexOf}
-use Rattle.patch.specs.Point.{View, ringTerm, sharpTerm, ringSum, sharpSum}
-use Rattle.patch.specs.Lists.{seen}
+use Rattle.patch.specs.Point.{View, ringTerm, ringSum}
+use Rattle.patch.specs.Lists.{seen, sharpTermBy, sharpSumBy}
 use Rattle.patch.proofs.SumLaws.{gather-bound}
 use Rattle.patch.proofs.TableLaws.{ring-term-size, sharp-term-size}
 use Rattle.patch.proofs.sums.add_sums.Statement.{statement}
@@ -25,7 +25,7 @@ abbrev Inv-loop : tie.InvT-loop
 Inv-loop positions faces twins k ring₀ sharp₀ c₀ c-end ring sharp c =
     (c ≤ c-end) × (length ring ≡ length ring₀) × (length sharp ≡ length sharp₀)
     × Gathered (pos 0) _+ℤ_ (vertexOf faces) (ringTerm (seen positions faces k)) c maxVertices ring
-    × Gathered (pos 0) _+ℤ_ (vertexOf faces) (sharpTerm (seen positions faces k)) c maxVertices sharp
+    × Gathered (pos 0) _+ℤ_ (vertexOf faces) (sharpTermBy (seen positions faces k) twins) c maxVertices sharp
 
 abbrev μ-loop : tie.MeasureT-loop
 μ-loop positions faces twins k ring₀ sharp₀ c₀ c-end ring sharp c = c-end - c
@@ -41,8 +41,8 @@ module _ (s : tie.Start Inv-loop μ-loop) where
   ring-term-small : (c : ℕ) → c < length (s .args .faces .now) → natAbs (ringTerm S c) ≤ 5 * maxCoordinate
   ring-term-small = let k = s .pre .0 .2 in ring-term-size S (k .corners) (k .small)
 
-  sharp-term-small : (c : ℕ) → c < length (s .args .faces .now) → natAbs (sharpTerm S c) ≤ 5 * maxCoordinate
-  sharp-term-small = let k = s .pre .0 .2 in sharp-term-size S (k .corners) (k .small)
+  sharp-term-small : (c : ℕ) → c < length (s .args .faces .now) → natAbs (sharpTermBy S (s .args .twins .now) c) ≤ 5 * maxCoordinate
+  sharp-term-small = let k = s .pre .0 .2 in sharp-term-size S (k .corners) (k .small) (s .args .twins .now)
 
 -- the vertex of corner c has a place in the tables, and the sums so far are small
 module _ (w : tie.After-wide Inv-loop μ-loop) where
@@ -78,7 +78,7 @@ module _ (w : tie.After-wide Inv-loop μ-loop) where
   sharp-small : natAbs (getD (head .loop .sharp) p (pos 0)) ≤ 5 * maxCoordinate * head .loop .c
   sharp-small =
       rw (head .loop .inv .4 p named)
-      (gather-bound (at start) p (sharpTerm (S start)) (head .loop .c) (λ d l. sharp-term-small start d (omega (arith, below))))
+      (gather-bound (at start) p (sharpTermBy (S start) (start .args .twins .now)) (head .loop .c) (λ d l. sharp-term-small start d (omega (arith, below))))
 
 -- the place of each call in a turn, and the two terms
 module _ (c : tie.After-ring-term Inv-loop μ-loop) where
@@ -95,7 +95,7 @@ module _ (c : tie.After-sharp-term Inv-loop μ-loop) where
   abbrev ring : tie.After-ring-term Inv-loop μ-loop
   ring = before (c .before)
 
-  sharp-read : toZ w64 (ofZ w64 (c .sharp-term .result)) ≡ sharpTerm (S (start (placed ring))) (head (placed ring) .loop .c)
+  sharp-read : toZ w64 (ofZ w64 (c .sharp-term .result)) ≡ sharpTermBy (S (start (placed ring))) (start (placed ring) .args .twins .now) (head (placed ring) .loop .c)
   sharp-read = read-back w64 (c .sharp-term .ok) (c .sharp-term .ensures)
 
 loop-holds : tie.Need-loop-holds Inv-loop μ-loop
@@ -157,7 +157,7 @@ loop-again c =
           (gathered-more sumℤ-monoid (at s) (ringTerm (S s)) maxVertices (l .c) (p w) _ (l .ring) (ring-placed w) (w .wide .ensures)
           (ap (λ (z : ℤ). getD (l .ring) (p w) (pos 0) +ℤ z) (ring-read (ring (sharp c)))) (l .inv .3)),
       rw (c .before .add-at2 .ensures)
-          (gathered-more sumℤ-monoid (at s) (sharpTerm (S s)) maxVertices (l .c) (p w) _ (l .sharp) (sharp-placed w) (w .wide .ensures)
+          (gathered-more sumℤ-monoid (at s) (sharpTermBy (S s) (s .args .twins .now)) maxVertices (l .c) (p w) _ (l .sharp) (sharp-placed w) (w .wide .ensures)
           (ap (λ (z : ℤ). getD (l .sharp) (p w) (pos 0) +ℤ z) (sharp-read (sharp c))) (l .inv .4)),
     )
 
@@ -168,14 +168,14 @@ same-length-2 : tie.Need-same-length-2 Inv-loop μ-loop
 same-length-2 c = c .before .loop .inv .2
 
 returns : tie.Need-returns Inv-loop μ-loop
-unfolding ringSum sharpSum
+unfolding ringSum sharpSumBy
 returns c =
     let l = c .before .loop in
     let s = c .before .before .before .before in
     let all : l .c ≡ length (s .args .faces .now) = le-antisymm (l .inv .0) (c .loop-test .left) in
     record {
       ring-are = λ q h. l .inv .3 q h ∙ ap (λ (m : ℕ). gather (pos 0) _+ℤ_ (at s) (ringTerm (S s)) m q) all;
-      sharp-are = λ q h. l .inv .4 q h ∙ ap (λ (m : ℕ). gather (pos 0) _+ℤ_ (at s) (sharpTerm (S s)) m q) all;
+      sharp-are = λ q h. l .inv .4 q h ∙ ap (λ (m : ℕ). gather (pos 0) _+ℤ_ (at s) (sharpTermBy (S s) (s .args .twins .now)) m q) all;
     }
 
 pub add-sums-spec : {M : Type 1} → statement M

@@ -11,13 +11,11 @@ use borrow.Author.Needs.{needs}
 use Rattle.integer.proofs.Laws.{read-back}
 use Rattle.limits.specs.Limits.{maxCoordinate}
 use Rattle.corner.specs.Corner.{next, prev}
-use Rattle.mesh.specs.HalfEdge.{boundary}
 use Rattle.mesh.proofs.CornerLaws.{next-below, prev-below}
-use Rattle.patch.specs.Point.{View, x, sharp}
-use Rattle.patch.specs.Lists.{seen, boundaryIn}
+use Rattle.patch.specs.Point.{View, x}
+use Rattle.patch.specs.Lists.{seen, boundaryIn, sharpIn}
 use Rattle.patch.proofs.MaskLaws.{stored-is}
 use Rattle.patch.proofs.SumLaws.{cond-size}
-use Rattle.patch.proofs.FacePointLaws.{boundary-in, sharp-in}
 use Rattle.patch.proofs.sums.sharp_term.Statement.{statement}
 use Rattle.patch.proofs.sums.sharp_term.Tie as tie
 
@@ -44,23 +42,22 @@ module _ (c : tie.After-value-if2) where
   below : prev (start .args .c) < length (start .args .faces .now)
   below = prev-below (start .pre .0 .corners) (start .args .c) (start .pre .2)
 
-  leaving : toZ w64 (ofZ w64 (first .value-if .result)) ≡ cond (sharp (S .shape) (start .args .c)) (x S (next (start .args .c))) (pos 0)
+  leaving : toZ w64 (ofZ w64 (first .value-if .result)) ≡ cond (sharpIn (start .args .twins .now) (start .args .c)) (x S (next (start .args .c))) (pos 0)
   leaving =
       let a = viewed .face-values .ensures in
       read-back w64 (first .value-if .ok)
       (first .value-if .ensures
-      ∙ ap₂ (λ (b : Bool) (z : ℤ). cond b z (pos 0)) (tested .is-sharp .ensures ∙ sharp-in (start .pre .1) (start .args .c) (start .pre .2))
+      ∙ ap₂ (λ (b : Bool) (z : ℤ). cond b z (pos 0)) (tested .is-sharp .ensures)
       (stored-is _ _ (a .small .next) (a .next-is)))
 
   entering : toZ w64 (ofZ w64 (c .value-if2 .result))
-      ≡ cond (boundary (S .shape .at) (S .shape .n) (prev (start .args .c))) (x S (prev (start .args .c))) (pos 0)
+      ≡ cond (boundaryIn (start .args .twins .now) (prev (start .args .c))) (x S (prev (start .args .c))) (pos 0)
   entering =
       let a = viewed .face-values .ensures in
-      let h = prev (start .args .c) in
       read-back w64 (c .value-if2 .ok)
       (c .value-if2 .ensures
       ∙ ap₂ (λ (b : Bool) (z : ℤ). cond b z (pos 0))
-      (c .before .before .is-boundary .ensures ∙ ap (boundaryIn (start .args .twins .now)) (turned .turned .ensures) ∙ boundary-in (start .pre .1) h below)
+      (c .before .before .is-boundary .ensures ∙ ap (boundaryIn (start .args .twins .now)) (turned .turned .ensures))
       (stored-is _ _ (a .small .prev) (a .prev-is)))
 
 face-values-requires : tie.Need-face-values-requires
@@ -86,12 +83,12 @@ plus-requires c κs =
     let s = start c in
     let d = s .args .c in
     let placed = s .pre .0 in
-    let G = S c .shape in
+    let twins = s .args .twins .now in
     rw (leaving c, entering c)
     (omega (
       arith,
-      cond-size (sharp G d) (x (S c) (next d)) maxCoordinate (placed .small (next d) (next-below (placed .corners) d (s .pre .2))),
-      cond-size (boundary (G .at) (G .n) (prev d)) (x (S c) (prev d)) maxCoordinate (placed .small (prev d) (below c)),
+      cond-size (sharpIn twins d) (x (S c) (next d)) maxCoordinate (placed .small (next d) (next-below (placed .corners) d (s .pre .2))),
+      cond-size (boundaryIn twins (prev d)) (x (S c) (prev d)) maxCoordinate (placed .small (prev d) (below c)),
     ))
 
 returns : tie.Need-returns

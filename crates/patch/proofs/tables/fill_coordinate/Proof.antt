@@ -12,9 +12,9 @@ use mir.Val.{toZ, ofZ}
 use Rattle.integer.proofs.Laws.{read-back}
 use Rattle.limits.specs.Limits.{maxVertices}
 use Rattle.mask.specs.Mask.{Fraction}
-use Rattle.patch.specs.Point.{View, sharpSum, ringSum}
+use Rattle.patch.specs.Point.{View, ringSum}
 use Rattle.patch.specs.Patch.{units}
-use Rattle.patch.specs.Lists.{seen}
+use Rattle.patch.specs.Lists.{seen, sharpSumBy}
 use Rattle.patch.specs.Values.{valueOf}
 use Rattle.patch.specs.PatchTables.{CornerSource, Coordinate, ruledPoint}
 use Rattle.patch.specs.declared.fraction.Value.{Value}
@@ -26,7 +26,7 @@ use Rattle.patch.proofs.tables.fill_coordinate.Tie as tie
 abbrev Inv-loop : tie.InvT-loop
 Inv-loop v positions faces twins rules k points₀ marks₀ ring sharp p₀ points marks p =
     (p ≤ v) × (length points ≡ length points₀) × (length marks ≡ length marks₀)
-    × Coordinate (ruledPoint (seen positions faces k) rules) p k points₀ points marks₀ marks
+    × Coordinate (ruledPoint (seen positions faces k) twins rules) p k points₀ points marks₀ marks
 
 abbrev μ-loop : tie.MeasureT-loop
 μ-loop v positions faces twins rules k points₀ marks₀ ring sharp p₀ points marks p = v - p
@@ -50,7 +50,7 @@ module _ (l : tie.At-loop Inv-loop μ-loop) where
   S = seen (start .args .positions .now) (start .args .faces .now) (start .args .k)
 
   abbrev point : ℕ → Fraction
-  point = ruledPoint S (start .args .rules .now)
+  point = ruledPoint S (start .args .twins .now) (start .args .rules .now)
 
   abbrev p : ℕ
   p = l .loop .p
@@ -80,7 +80,7 @@ module _ (c : tie.After-corner-point-arg2 Inv-loop μ-loop) where
   ring-read : toZ w64 (ofZ w64 (getD (summed head .add-sums .last .1 .1 .1 .1 .0) (p head) (pos 0))) ≡ ringSum (S head) (p head)
   ring-read = read-back w64 (c .before .corner-point-arg .given) (summed head .add-sums .ensures .ring-are (p head) (few turn))
 
-  sharp-read : toZ w64 (ofZ w64 (getD (summed head .add-sums .last .1 .1 .1 .1 .1 .0) (p head) (pos 0))) ≡ sharpSum (S head) (p head)
+  sharp-read : toZ w64 (ofZ w64 (getD (summed head .add-sums .last .1 .1 .1 .1 .1 .0) (p head) (pos 0))) ≡ sharpSumBy (S head) (start head .args .twins .now) (p head)
   sharp-read = read-back w64 (c .corner-point-arg2 .given) (summed head .add-sums .ensures .sharp-are (p head) (few turn))
 
 slice-aggregate-add-sums : tie.Need-slice-aggregate-add-sums Inv-loop μ-loop
@@ -94,7 +94,7 @@ add-sums-requires c κs =
     let s = made (c .before) in
     let t = s .pre .0 .0 in
     let zeros = same-all (pos 0) (pos 0) in
-    ((t .indices, t .twinned, t .placed (s .args .k) (s .pre .0 .1)), ((omega arith, omega arith), (zeros, zeros)))
+    ((t .indices, t .twins-listed, t .placed (s .args .k) (s .pre .0 .1)), ((omega arith, omega arith), (zeros, zeros)))
 
 loop-holds : tie.Need-loop-holds Inv-loop μ-loop
 loop-holds c = (omega arith, refl, refl, coordinate-none _ _ _ _)
@@ -143,7 +143,7 @@ module _ (c : tie.After-struct-told Inv-loop μ-loop) where
   value-is =
       c .before .in-units .ensures
       ∙ ap valueOf (c .before .before .corner-point .ensures .is
-      ∙ ruled-entries (S at) (start at .args .rules .now) (p at) _ _ _ (value-read asked) (ring-read asked) (sharp-read asked))
+      ∙ ruled-entries (S at) (start at .args .twins .now) (start at .args .rules .now) (p at) _ _ _ (value-read asked) (ring-read asked) (sharp-read asked))
 
   written : toZ w32 (ofZ w32 (c .before .in-units .result .units)) ≡ units (point at (p at))
   written = read-back w32 (c .struct-told .given .0 .1) (ap (λ (v : Value). v .units) value-is)

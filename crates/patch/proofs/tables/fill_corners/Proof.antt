@@ -15,7 +15,7 @@ use Rattle.patch.proofs.tables.fill_corners.Tie as tie
 abbrev Inv-loop : tie.InvT-loop
 Inv-loop v positions faces twins rules points₀ marks₀ k₀ points marks k =
     (k ≤ 3) × (length points ≡ length points₀) × (length marks ≡ length marks₀)
-    × CornerPoints (λ j. ruledPoint (seen positions faces j) rules) v k points marks
+    × CornerPoints (λ j. ruledPoint (seen positions faces j) twins rules) v k points marks
 
 abbrev μ-loop : tie.MeasureT-loop
 μ-loop v positions faces twins rules points₀ marks₀ k₀ points marks k = 3 - k
@@ -59,7 +59,7 @@ loop-again c =
       add-one-le below,
       one .kept .1 .1 .1 .1 .1 .1 .0 ∙ l .loop .inv .1,
       one .kept .1 .1 .1 .1 .1 .1 .1 .0 ∙ l .loop .inv .2,
-      corners-more (λ j. ruledPoint (seen (s .args .positions .now) (s .args .faces .now) j) (s .args .rules .now)) (s .args .v) (l .loop .k)
+      corners-more (λ j. ruledPoint (seen (s .args .positions .now) (s .args .faces .now) j) (s .args .twins .now) (s .args .rules .now)) (s .args .v) (l .loop .k)
           below (l .loop .inv .3) (one .ensures),
     )
 

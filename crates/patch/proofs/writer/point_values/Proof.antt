@@ -1,9 +1,8 @@
 -- `point_values` meets its contract: each kind of point has its own function, or its table.
-use Prim.Native.Nat.{ℕ, _<_}
+use Prim.Native.Nat.{ℕ, _≤_, _<_}
 use lib.ListN.{length}
 use borrow.Author.Needs.{needs}
-use Rattle.patch.specs.Lists.{Coordinates, Twins}
-use Rattle.patch.specs.PatchTables.{Weights}
+use Rattle.patch.specs.Lists.{Coordinates, Linked}
 use Rattle.patch.specs.Written.{pointFrom, exactFrom}
 use Rattle.patch.proofs.writer.point_values.Statement.{statement}
 use Rattle.patch.proofs.writer.point_values.Tie as tie
@@ -13,8 +12,8 @@ module _ (s : tie.Start) where
   placed : ((k : ℕ) → k < 3 → Coordinates (s .args .positions .now) (s .args .faces .now) k) × (s .args .c < length (s .args .faces .now))
   placed = (s .pre .0 .placed, s .pre .1)
 
-  listed : Weights (s .args .faces .now) (s .args .weights .now) × Twins (s .args .faces .now) (s .args .twins .now)
-  listed = (s .pre .0 .weighed, s .pre .0 .twinned)
+  listed : (length (s .args .faces .now) ≤ length (s .args .weights .now)) × Linked (s .args .faces .now) (s .args .twins .now)
+  listed = (s .pre .0 .weighed, s .pre .0 .linked)
 
 abbrev start : tie.After-shared-slice-known4 → tie.Start
 start c = c .before .before .before .before

@@ -54,7 +54,7 @@ returns c =
     let w = c .before .write-point .ensures in (
       (rw (t .turned .ensures, table-at kindOf inner) at (w .0))
           ∙ sym (filled-ext 3 (s .args .point .now)
-          (number-point (s .args .positions .now) (s .args .faces .now) (s .args .points .now) (s .args .g) (s .args .m))),
+          (number-point (s .args .positions .now) (s .args .faces .now) (s .args .twins .now) (s .args .weights .now) (s .args .points .now) (s .args .g) (s .args .m))),
       rw (t .turned .ensures, table-at kindOf inner) at (w .1),
     )
 

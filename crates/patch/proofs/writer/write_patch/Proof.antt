@@ -12,8 +12,8 @@ use Rattle.patch.proofs.writer.write_patch.Tie as tie
 
 abbrev Inv-loop : tie.InvT-loop
 Inv-loop positions faces twins weights points marks g patch₀ exact₀ m₀ patch exact m =
-    (m ≤ 16) × (length patch ≡ length patch₀) × (patch ≡ filled (numberFrom positions faces points g) (3 * m) patch₀)
-    × (length exact ≡ length exact₀) × (exact ≡ filled (markFrom positions faces marks g) m exact₀)
+    (m ≤ 16) × (length patch ≡ length patch₀) × (patch ≡ filled (numberFrom positions faces twins weights points g) (3 * m) patch₀)
+    × (length exact ≡ length exact₀) × (exact ≡ filled (markFrom positions faces twins weights marks g) m exact₀)
 
 abbrev μ-loop : tie.MeasureT-loop
 μ-loop positions faces twins weights points marks g patch₀ exact₀ m₀ patch exact m = 16 - m
@@ -27,10 +27,14 @@ module _ (c : tie.In-loop Inv-loop μ-loop) where
   start = let k = head .before .before in k .before .before .before .before
 
   abbrev number : ℕ → ℤ
-  number = numberFrom (start .args .positions .now) (start .args .faces .now) (start .args .points .now) (start .args .g)
+  number =
+      numberFrom (start .args .positions .now) (start .args .faces .now) (start .args .twins .now) (start .args .weights .now)
+      (start .args .points .now) (start .args .g)
 
   abbrev mark : ℕ → ℕ
-  mark = markFrom (start .args .positions .now) (start .args .faces .now) (start .args .marks .now) (start .args .g)
+  mark =
+      markFrom (start .args .positions .now) (start .args .faces .now) (start .args .twins .now) (start .args .weights .now)
+      (start .args .marks .now) (start .args .g)
 
   room : 3 * head .loop .m + 3 ≤ length (start .args .patch .now)
   room = omega (arith, start .pre .2, c .loop-test .taken)

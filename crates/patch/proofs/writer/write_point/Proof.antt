@@ -44,7 +44,9 @@ returns c =
     let told = c .before .before .before in
     let v = made told in
     let s = start v in
-    let f : ℕ → ℤ = λ k. pointFrom (s .args .positions .now) (s .args .faces .now) (s .args .points .now) k (s .args .c) (kindOf (s .args .kind)) in (
+    let f : ℕ → ℤ = λ k.
+    pointFrom (s .args .positions .now) (s .args .faces .now) (s .args .twins .now) (s .args .weights .now) (s .args .points .now) k (s .args .c)
+    (kindOf (s .args .kind)) in (
       filled-three f (s .args .point .now) (s .pre .2)
           (read-back w32 (told .struct-told .given .0 .1) (ap (λ (p : ControlPoint). p .x) (v .point-values .ensures)))
           (read-back w32 (told .struct-told .given .1 .0 .1) (ap (λ (p : ControlPoint). p .y) (v .point-values .ensures)))
