@@ -2,3 +2,4 @@
 pub mod SampleRelated
 pub mod FromMirror
 pub mod MirrorLaws
+pub mod MirrorMet

@@ -30,8 +30,7 @@ use Rattle.surface.proofs.MarkLaws.{markFrom}
 use Rattle.surface.proofs.AnsweredLaws.{place-none}
 use Rattle.surface.proofs.ClaimLaws.{answerFrom, markedAnswerFrom}
 use Rattle.surface.proofs.WitnessLaws.{accepted-answer, sample-from, marked-by}
-use Rattle.effect.specs.Mirroring.{exchanged, reflectedAnswer, reflectedMarked, MirrorClaim, MirrorWitnessed}
-use Rattle.effect.specs.declared.model.Mirroring.{Mirroring}
+use Rattle.effect.specs.Mirroring.{exchanged, reflectedAnswer, reflectedMarked, MirrorClaim, MirrorKeepsSamples}
 use Rattle.effect.proofs.FromMirror.{alike, sample-mirrored, mark-mirrored}
 
 -- ---- the image of an accepted mesh
@@ -82,23 +81,23 @@ evaluated-marked : {M : IndexedMesh} → WellFormed M → {d h b y : List ℕ} {
     → Evaluated M d e h n q r b p y → listsShort M d e h ≡ false → OnMesh M n q → marked (r .marked) ≡ markedAnswerFrom M n (q .face) (place (q .a) (q .b))
 evaluated-marked a {d} {h} {e = e} {n = n} {q = q} gave long on = gave .marked-is ∙ marked-by d e h a long n q on
 
-module _ {M : IndexedMesh} (a : WellFormed M) {d d′ h h′ b b′ y y′ : List ℕ} {e e′ p p′ : List ℤ} {n : ℕ} {q q′ : SamplePlace} (w : Mirroring)
-    (first : Evaluated M d e h n q (w .first) b p y) (second : Evaluated (mirrored M) d′ e′ h′ n q′ (w .second) b′ p′ y′) where
+module _ {M : IndexedMesh} (a : WellFormed M) {d d′ h h′ b b′ y y′ : List ℕ} {e e′ p p′ : List ℤ} {n : ℕ} {q q′ : SamplePlace}
+    {s s′ : Evaluation} (first : Evaluated M d e h n q s b p y) (second : Evaluated (mirrored M) d′ e′ h′ n q′ s′ b′ p′ y′) where
   -- the image's samples at the place with a and b exchanged
   module _ (long : listsShort (mirrored M) d′ e′ h′ ≡ false) (on : OnMesh M n q) (at : q′ ≡ exchanged q) where
-    turned-up : sampled (w .second .sample) ≡ answerFrom (mirrored M) n (q .face) (place (q .b) (q .a))
+    turned-up : sampled (s′ .sample) ≡ answerFrom (mirrored M) n (q .face) (place (q .b) (q .a))
     turned-up =
         second .sample-is
         ∙ ap (sampleAt (patchList (mirrored M) d′ e′ h′) n) at
         ∙ sample-from d′ e′ h′ (image-formed a) long n (exchanged q) (image-place a n q on)
 
-    marked-turned-up : marked (w .second .marked) ≡ markedAnswerFrom (mirrored M) n (q .face) (place (q .b) (q .a))
+    marked-turned-up : marked (s′ .marked) ≡ markedAnswerFrom (mirrored M) n (q .face) (place (q .b) (q .a))
     marked-turned-up =
         second .marked-is
         ∙ ap (markedAt (patchList (mirrored M) d′ e′ h′) (exactList (mirrored M) d′ e′ h′) n) at
         ∙ marked-by d′ e′ h′ (image-formed a) long n (exchanged q) (image-place a n q on)
 
-  claim : outcome (w .mirror) ≡ result tt → MirrorClaim M d e h (mirrored M) d′ e′ h′ n q q′ w
+  claim : {r : Outcome} → outcome r ≡ result tt → MirrorClaim M d e h (mirrored M) d′ e′ h′ n q q′ r s s′
   claim done = record {
     done = done;
     accepted = well-formed-accepted (image-formed a);
@@ -110,17 +109,12 @@ module _ {M : IndexedMesh} (a : WellFormed M) {d d′ h h′ b b′ y y′ : Lis
         marked-turned-up long′ on at ∙ image-marked a n q on ∙ sym (ap reflectedMarked (evaluated-marked a first long on));
   }
 
--- what `witness_mirror` gave: the calls for the mesh, and for the lists that the mirror call left
-pub witnessed : {M : IndexedMesh} {d d′ h h′ t i b b′ y y′ t′ i′ : List ℕ} {e e′ x p p′ x′ : List ℤ} {n : ℕ} {q q′ : SamplePlace} {w : Mirroring}
-    → MeshMirrored M x t i (w .mirror) x′ t′ i′ → Evaluated M d e h n q (w .first) b p y
-    → Evaluated (indexed (M .vertices) (M .faces) x′ t′ i′) d′ e′ h′ n q′ (w .second) b′ p′ y′
-    → MirrorWitnessed M d e h x t i d′ e′ h′ n q q′ w b p y x′ t′ i′ b′ p′ y′
-witnessed {M} {d} {d′} {h} {h′} {b′ = b′} {y′ = y′} {e = e} {e′ = e′} {p′ = p′} {n = n} {q = q} {q′ = q′} {w = w} mirror first second = record {
-  mirrored-is = mirror;
-  first = first;
-  second = second;
-  claim = λ accepted on.
+-- the claim, of what the calls for the mesh and for the lists that the mirror call left handed back
+pub mirror-keeps-samples : MirrorKeepsSamples
+mirror-keeps-samples = record {
+  claim = λ {M} {r = r} {n = n} {q = q} {q' = q′} {s = s} {s' = s′} {d = d} {h = h} {e = e} {d' = d′} {h' = h′} {b' = b′} {y' = y′} {e' = e′} {p' = p′}
+      mirror first second accepted on.
       let a = accepted-well-formed accepted in
-      subst (λ (N : IndexedMesh). Evaluated N d′ e′ h′ n q′ (w .second) b′ p′ y′ → MirrorClaim M d e h N d′ e′ h′ n q q′ w) (image-left a mirror on)
-      (λ there. claim a w first there (mirror-done a mirror on)) second;
+      subst (λ (N : IndexedMesh). Evaluated N d′ e′ h′ n q′ s′ b′ p′ y′ → MirrorClaim M d e h N d′ e′ h′ n q q′ r s s′) (image-left a mirror on)
+      (λ there. claim a first there (mirror-done a mirror on)) second;
 }

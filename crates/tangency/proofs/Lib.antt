@@ -5,4 +5,5 @@ pub mod ListLaws
 pub mod VectorMoves
 pub mod GivenLaws
 pub mod RenumberedLaws
-pub mod WitnessLaws
+pub mod ClaimLaws
+pub mod ClaimMet

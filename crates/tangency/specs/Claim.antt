@@ -8,8 +8,7 @@
 --                      in each coordinate, to within 7 units of twice the cosine term, all times 3 * 2^20 (rule D10)
 --   Written r          the call wrote the tangents
 --   Edge M c g h       half-edge c is of face g and its twin of face h
---   TangentClaim ..    what the answers w for the faces g and h of M, and for the face g' of M', show of each other: d and x are the lists lent
---                      for g and g', and d', e' and x' the three lists afterwards
+--   TangentClaim       the claim, of whatever the tangent call hands back: its hypotheses are the record that the call promises (`tangent-claim`)
 use mathlib.Core.Path.{_≡_}
 use mathlib.Core.Bool.{false}
 use mathlib.Core.List.{List, [], _∷_}
@@ -22,12 +21,12 @@ use Rattle.corner.specs.Corner.{next}
 use Rattle.mesh.specs.HalfEdge.{twin, boundary}
 use Rattle.mesh.specs.Fan.{valence}
 use Rattle.mesh.specs.IndexedMesh.{IndexedMesh, corners, at}
+use Rattle.mesh.specs.Refusal.{Accepted}
 use Rattle.cosine.specs.Cosine.{cosine}
 use Rattle.tangent.specs.Vector.{correctedDivisor, firstTerm}
 use Rattle.tangent.specs.Tangent.{Kind, start, middle, end, inner, startIn, endIn, rowOf, signed}
-use Rattle.tangent.specs.Answer.{faceOpen}
+use Rattle.tangent.specs.Answer.{faceOpen, TangentsGiven}
 use Rattle.surface.specs.Renumbering.{Renumbering}
-use Rattle.tangency.specs.declared.model.Witness.{Witness}
 
 unfoldable pub number : Kind → ℕ → ℕ
 number start s = getD (0 ∷ 15 ∷ 11 ∷ 20 ∷ []) s 0
@@ -60,14 +59,15 @@ pub record Edge (M : IndexedMesh) (c g h : ℕ) : Type 0 where
   pub face : g ≡ c / 4
   pub other : h ≡ twin (at M) (corners M) c / 4
 
-pub record TangentClaim (M M' : IndexedMesh) (g h g' : ℕ) (d x : List ℤ) (w : Witness) (d' e' x' : List ℤ) : Type 0 where
+pub record TangentClaim : Type 0 where
   -- a face with no corner at a boundary vertex gets its tangents, on a list of 72 places (rule D9)
-  pub given : g < M .faces → faceOpen M g ≡ false → length d ≡ 72 → Written (w .first)
+  pub given : {M : IndexedMesh} {g : ℕ} {d d' : List ℤ} {r : Outcome} → Accepted M → TangentsGiven M g d r d'
+      → g < M .faces → faceOpen M g ≡ false → length d ≡ 72 → Written r
   -- across each edge of which both faces have tangents, near its start and near its end (rule D10)
-  pub near-start : (c : ℕ) → Edge M c g h → Written (w .first) → Written (w .other) → Across M c d' e'
-  pub near-end : (c : ℕ) → Edge M c g h → Written (w .first) → Written (w .other) → Across M (twin (at M) (corners M) c) e' d'
-  -- a renumbered face gets its tangents as well (rule D11),
-  pub taken : (r : Renumbering M M') → g < M .faces → g' ≡ r .faces .to g → Written (w .first) → length x ≡ 72 → Written (w .second)
-  -- and they are those of the face, each on the side that it was on (rule D11)
-  pub renumbered : (r : Renumbering M M') → g < M .faces → g' ≡ r .faces .to g → Written (w .first) → length x ≡ 72
-      → (q : Kind) (s k : ℕ) → s < 4 → k < 3 → along x' q s k ≡ along d' q ((r .start g + s) % 4) k
+  pub across : {M : IndexedMesh} {g h : ℕ} {d d' e e' : List ℤ} {r s : Outcome} → Accepted M → TangentsGiven M g d r d' → TangentsGiven M h e s e'
+      → (c : ℕ) → Edge M c g h → Written r → Written s
+      → Across M c d' e' × Across M (twin (at M) (corners M) c) e' d'
+  -- a renumbered face gets its tangents as well, and they are those of the face, each on the side that it was on (rule D11)
+  pub renumbered : {M M' : IndexedMesh} {g g' : ℕ} {d d' x x' : List ℤ} {r r' : Outcome} → Accepted M → TangentsGiven M g d r d' → TangentsGiven M' g' x r' x'
+      → (m : Renumbering M M') → g < M .faces → g' ≡ m .faces .to g → Written r → length x ≡ 72
+      → Written r' × ((q : Kind) (s k : ℕ) → s < 4 → k < 3 → along x' q s k ≡ along d' q ((m .start g + s) % 4) k)

@@ -1,0 +1,98 @@
+-- The hypotheses of `MirrorKeepsSamples` can be met: whatever the calls are passed, there are answers and lists as they promise them, and the
+-- square is an accepted mesh.
+use mathlib.Core.Path.{_≡_, refl}
+use mathlib.Core.Bool.{false}
+use mathlib.Core.List.{List, [], _∷_}
+use Prim.Native.Nat.{ℕ}
+use lib.IntN.{ℤ, pos}
+use lib.ListN.{replicate}
+use Rattle.finite.specs.Fold.{foldBelow}
+use Rattle.finite.specs.Table.{Answer, result, refusal, writtenBy, outcome}
+use Rattle.finite.specs.declared.model.Outcome.{Outcome}
+use Rattle.finite.specs.declared.model.Outcome.the-variants.{Done, Refused}
+use Rattle.limits.specs.Range.{sizesOff}
+use Rattle.limits.specs.declared.model.Mesh.{Mesh}
+use Rattle.limits.specs.declared.model.Checked.{Checked}
+use Rattle.limits.specs.declared.model.Checked.the-variants.{Accepted as AcceptedMesh, Refused as RefusedMesh}
+use Rattle.mesh.specs.IndexedMesh.{IndexedMesh, indexed}
+use Rattle.mesh.specs.HalfEdge.{isTwin, twin, boundary, sameWay, doubled}
+use Rattle.mesh.specs.Fan.{valence, onBoundary, around, iterate, fanBy, fan}
+use Rattle.mesh.specs.Refusal.{coordinateOff, tagOff, vertexOff, vertexTwice, halfEdgeTwice, vertexUnused, fanBroken, valenceOff, innerTagged, Accepted}
+use Rattle.mesh.specs.Answer.{checked}
+use Rattle.sample.specs.Answer.{sampled}
+use Rattle.sample.specs.Marked.{marked}
+use Rattle.sample.specs.declared.model.Point.{Point}
+use Rattle.sample.specs.declared.model.MarkedPoint.{MarkedPoint}
+use Rattle.sample.specs.declared.model.Sampled.{Sampled}
+use Rattle.sample.specs.declared.model.Sampled.the-variants.{At, Refused as RefusedSample}
+use Rattle.sample.specs.declared.model.Marked.{Marked}
+use Rattle.sample.specs.declared.model.Marked.the-variants.{At as AtMarked, Refused as RefusedMarked}
+use Rattle.patch.specs.Answer.{patchAnswer, patchTwins, patchList, exactList}
+use Rattle.edit.specs.Mirror.{mirrored, mirrorRefusal, mirrorAnswer, outputsOff, MeshMirrored}
+use Rattle.surface.specs.Witness.{sampleAt, markedAt, Evaluated}
+use Rattle.surface.specs.declared.model.SamplePlace.{SamplePlace}
+use Rattle.surface.specs.declared.model.Evaluation.{Evaluation}
+
+-- ---- the answers, as cases of the code's enums
+abbrev outcomeOf : Answer Unit → Outcome
+outcomeOf (result done) = Done
+outcomeOf (refusal k) = Refused k
+
+outcome-of : (a : Answer Unit) → outcome (outcomeOf a) ≡ a
+outcome-of (result done) = refl
+outcome-of (refusal k) = refl
+
+abbrev checkedOf : Answer Mesh → Checked
+checkedOf (result m) = AcceptedMesh m
+checkedOf (refusal k) = RefusedMesh k
+
+checked-of : (a : Answer Mesh) → checked (checkedOf a) ≡ a
+checked-of (result m) = refl
+checked-of (refusal k) = refl
+
+abbrev sampledOf : Answer Point → Sampled
+sampledOf (result p) = At p
+sampledOf (refusal k) = RefusedSample k
+
+sampled-of : (a : Answer Point) → sampled (sampledOf a) ≡ a
+sampled-of (result p) = refl
+sampled-of (refusal k) = refl
+
+abbrev markedOf : Answer MarkedPoint → Marked
+markedOf (result p) = AtMarked p
+markedOf (refusal k) = RefusedMarked k
+
+marked-of : (a : Answer MarkedPoint) → marked (markedOf a) ≡ a
+marked-of (result p) = refl
+marked-of (refusal k) = refl
+
+-- ---- whatever the calls are passed
+pub mirror-met : (M : IndexedMesh) (x : List ℤ) (t i : List ℕ) → (let met = mirrorRefusal M x t i in
+    MeshMirrored M x t i (outcomeOf (mirrorAnswer M x t i))
+    (writtenBy met x (mirrored M .positions)) (writtenBy met t (mirrored M .tags)) (writtenBy met i (mirrored M .indices)))
+mirror-met M x t i =
+    record { answer-is = outcome-of (mirrorAnswer M x t i); left = record { positions-are = refl; tags-are = refl; indices-are = refl } }
+
+abbrev evaluation : IndexedMesh → List ℕ → List ℤ → List ℕ → ℕ → SamplePlace → Evaluation
+evaluation M d e h n q = record {
+  mesh = checkedOf (patchAnswer M d e h);
+  sample = sampledOf (sampleAt (patchList M d e h) n q);
+  marked = markedOf (markedAt (patchList M d e h) (exactList M d e h) n q);
+}
+
+pub evaluated-met : (M : IndexedMesh) (d : List ℕ) (e : List ℤ) (h : List ℕ) (n : ℕ) (q : SamplePlace)
+    → Evaluated M d e h n q (evaluation M d e h n q) (patchTwins M d e h) (patchList M d e h) (exactList M d e h)
+evaluated-met M d e h n q = record {
+  patched = record { answer-is = checked-of (patchAnswer M d e h); twins-are = refl; patches-are = refl; exact-are = refl };
+  sample-is = sampled-of (sampleAt (patchList M d e h) n q);
+  marked-is = marked-of (markedAt (patchList M d e h) (exactList M d e h) n q);
+}
+
+-- ---- the square, with all its vertices at the origin, and lent lists of its lengths
+abbrev square : IndexedMesh
+square = indexed 4 1 (replicate 12 (pos 0)) (replicate 4 0) (0 ∷ 1 ∷ 2 ∷ 3 ∷ [])
+
+pub accepted-met : Accepted square × (outputsOff square (replicate 12 (pos 0)) (replicate 4 0) (replicate 4 0) ≡ false)
+unfolding Accepted foldBelow isTwin twin boundary sameWay doubled valence onBoundary around iterate fanBy fan
+    sizesOff coordinateOff tagOff vertexOff vertexTwice halfEdgeTwice vertexUnused fanBroken valenceOff innerTagged
+accepted-met = (refl, refl)
