@@ -28,7 +28,7 @@ use Rattle.patch.specs.Answer.{patchAnswer, patchTwins, patchList, exactList}
 use Rattle.sample.specs.Answer.{Over256}
 use Rattle.sample.specs.declared.model.Point.{Point}
 use Rattle.sample.specs.declared.model.MarkedPoint.{MarkedPoint}
-use Rattle.sample.specs.Line.{lineAnswer, LineLeft}
+use Rattle.line.specs.Line.{lineAnswer, LineLeft}
 use Rattle.edit.specs.Mirror.{mirrorAnswer, MirrorLeft}
 use Rattle.tangent.specs.Answer.{tangentAnswer, tangentsAfter}
 

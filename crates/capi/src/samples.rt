@@ -124,9 +124,9 @@ pub extern "C" fn rusketja_reading(
     }
 }
 
-// All samples of face f with one b, for N = n, a from 0 to n (rule S6): `sample::sample_line`.
+// All samples of face f with one b, for N = n, a from 0 to n (rule S6): `line::sample_line`.
 // Returns: 0 where it is done, or the number of the refusal.
-// Writes, leaves alone, refuses, and units: as `sample::sample_line`.
+// Writes, leaves alone, refuses, and units: as `line::sample_line`.
 #[no_mangle]
 pub extern "C" fn rusketja_sample_line(
     patches: &[i32],
@@ -137,6 +137,6 @@ pub extern "C" fn rusketja_sample_line(
 ) -> u8
     ensures { λ r. ⌜ LineStored (now (patches .entry)) f n b (now (line .entry)) r (now (line .exit)) ⌝ }
 {
-    let answer = sample::sample_line(patches, f, n, b, line);
+    let answer = line::sample_line(patches, f, n, b, line);
     outcome_code(answer)
 }

@@ -22,7 +22,7 @@ use Rattle.sample.specs.Answer.{sampleAnswer}
 use Rattle.mask.specs.Mask.{cornerWeight, innerMask, edgeMask, boundaryEdgeMask, smoothCornerMask, boundaryCornerMask, vertexMask}
 use Rattle.patch.specs.Point.{weight, sharp, sharpSum, ringSum, fixed, cornerPoint, innerPoint, edgePoint, alongPoint, beforePoint, point}
 use Rattle.patch.specs.Patch.{owner, kind, patchPoint, patchNumber, patchesAfter}
-use Rattle.sample.specs.Line.{lineShort, lineAnswer, lineAfter}
+use Rattle.line.specs.Line.{lineShort, lineAnswer, lineAfter}
 use Rattle.edit.specs.Mirror.{mirrored, mirrorAnswer}
 use Rattle.examples.specs.Meshes.{square, cube, pillow, doubledFace, bowTie, strip, reentrant, tagged, openFanOfEight, openFanOfNine}
 

@@ -3,8 +3,8 @@ use crate::model::Lines;
 use crate::model::Place;
 use crate::model::Stretch;
 use finite::model::Outcome;
+use line::model::MAX_LINE;
 use meshfile::model::Tessellation;
-use sample::model::MAX_LINE;
 use text::LINE_PLACES;
 ghost use mathlib.Core.Path.{_≡_};
 ghost use Prim.Native.Nat.{_+_, _-_, _≤_, _<_};
@@ -12,7 +12,7 @@ ghost use lib.ListN.{length};
 ghost use Rattle.finite.specs.Table.{result};
 ghost use Rattle.limits.specs.Limits.{maxFaces};
 ghost use Rattle.sample.specs.Refusal.{maxSteps};
-ghost use Rattle.sample.specs.Line.{lineLength, pointIn};
+ghost use Rattle.line.specs.Line.{lineLength, pointIn};
 ghost use Rattle.text.specs.Text.{linePlaces};
 ghost use Rattle.listing.specs.Listing.{lineOf, sampleText, Stretched};
 ghost use Rattle.listing.specs.Place.{index, Placed, Run};
@@ -59,7 +59,7 @@ fn row_lines(patches: &[i32], n: usize, p: Place, out: &mut [u8]) -> Lines
         (now (out .entry)) r (now (out .exit)) ⌝ }
 {
     let mut points = [0i32; MAX_LINE];
-    match sample::sample_line(patches, p.face, n, p.b, &mut points) {
+    match line::sample_line(patches, p.face, n, p.b, &mut points) {
         Outcome::Done => point_lines(&points, n, p, out),
         Outcome::Refused(k) => Lines {
             count: 1,

@@ -21,7 +21,7 @@ use Rattle.sample.specs.Refusal.{maxControl}
 use Rattle.sample.specs.declared.model.Coordinate.{Coordinate}
 use Rattle.sample.specs.declared.model.Point.{Point}
 use Rattle.sample.specs.declared.model.MarkedPoint.{MarkedPoint}
-use Rattle.sample.specs.Blend.{controlOf, Small, Steps, Light, Fine, Mean, blended, blendedTwice}
+use Rattle.sample.specs.Blend.{controlOf, Small, Steps, Light, Fine, Mean, blended, blendedTwice, curveOf}
 use Rattle.sample.proofs.BernsteinLaws.{bernstein-small, sixth-small}
 use Rattle.sample.proofs.SampleLaws.{numerator-rows, rounded-nearest, numerator-bound}
 
@@ -66,7 +66,7 @@ pub weights-light : {n a : ℕ} → Steps n a → Light (listBelow (bernstein n 
 weights-light {n} {a} s = record { light = λ i l. rw (listBelow-at (bernstein n a) 4 i 0 l) (bernstein-small n a (s .within) (s .most) i l) }
 
 module _ {patch : List ℤ} (small : Small patch) (k : ℕ) (below : k < 3) where
-  control-small : (m : ℕ) → m < 16 → natAbs (controlOf patch k m) ≤ maxControl
+  pub control-small : (m : ℕ) → m < 16 → natAbs (controlOf patch k m) ≤ maxControl
   control-small m l = small .small (3 * m + k) (omega arith)
 
   abbrev column : ℕ → ℕ → ℤ
@@ -108,6 +108,12 @@ module _ (n a b : ℕ) (g : ℕ → ℤ) {u v : List ℕ} {d : ℕ} (e : u ≡ l
 
   pub whole-blended : whole (blendedTwice u v g) d ≡ whole (numerator n a b g) (n ^ 6)
   whole-blended = ap₂ whole blended-numerator h
+
+-- ---- a curve, by the list of the weights
+pub curve-list : (patch : List ℤ) (n b k : ℕ) {v : List ℕ} {curve : List ℤ} → v ≡ listBelow (bernstein n b) 4
+    → curve ≡ listBelow (λ i. blended v (λ j. controlOf patch k (i + 4 * j))) 4 → curve ≡ curveOf patch n b k
+unfolding foldBelow listBelow
+curve-list patch n b k e h = h ∙ ap (λ (v : List ℕ). listBelow (λ i. blended v (λ j. controlOf patch k (i + 4 * j))) 4) e
 
 -- ---- answers by their parts
 -- a coordinate is its value and its mark

@@ -54,7 +54,7 @@ module _ (patches : List ℤ) (f : ℕ) (within : f < length patches / 48) where
         small = λ i l. rw (patch-at i l) (ltb-false maxControl (natAbs (getD patches (48 * f + i) (pos 0))) (any-false _ 48 e i l));
       }
 
-  patch-control : (k m : ℕ) → k < 3 → m < 16 → controlOf (patchOf patches f) k m ≡ controlAt patches f k m
+  pub patch-control : (k m : ℕ) → k < 3 → m < 16 → controlOf (patchOf patches f) k m ≡ controlAt patches f k m
   patch-control k m l q = patch-at (3 * m + k) (omega arith) ∙ ap (λ (i : ℕ). getD patches i (pos 0)) (omega arith)
 
   pub patch-coordinate : (n a b k : ℕ) → k < 3 → rounded n a b (controlOf (patchOf patches f) k) ≡ coordinateAt patches f n a b k

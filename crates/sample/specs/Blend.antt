@@ -6,6 +6,7 @@
 --   Light weights, Fine values   four weights and four values whose sums of products fit 64 bits
 --   Mean sum divisor      a divisor in the range of N^6, and a sum no larger than that of control values by weights that sum to it
 --   blended weights h     the values h 0 to h 3, each times its weight, added
+--   curveOf patch n b k   the curve of coordinate k at b: the control values blended along v by the weights of b
 --   blendedTwice u v g    the control values g, blended along v by the weights v, then along u by the weights u
 use mathlib.Core.Path.{_≡_}
 use mathlib.Core.List.{List}
@@ -13,6 +14,8 @@ use Prim.Native.Nat.{ℕ, _+_, _*_, _^_, _≤_, _<_}
 use lib.IntN.{ℤ, pos, natAbs, _*ℤ_}
 use lib.ListN.{length, getD}
 use Rattle.finite.specs.Fold.{sumBelowℤ}
+use Rattle.finite.specs.Filled.{listBelow}
+use Rattle.sample.specs.Bernstein.{bernstein}
 use Rattle.sample.specs.Refusal.{maxControl, minSteps, maxSteps}
 
 abbrev pub controlOf : List ℤ → ℕ → ℕ → ℤ
@@ -43,3 +46,6 @@ blended weights h = sumBelowℤ (λ i. pos (getD weights i 0) *ℤ h i) 4
 
 abbrev pub blendedTwice : List ℕ → List ℕ → (ℕ → ℤ) → ℤ
 blendedTwice u v g = blended u (λ i. blended v (λ j. g (i + 4 * j)))
+
+abbrev pub curveOf : List ℤ → ℕ → ℕ → ℕ → List ℤ
+curveOf patch n b k = listBelow (λ i. sumBelowℤ (λ j. pos (bernstein n b j) *ℤ controlOf patch k (i + 4 * j)) 4) 4

@@ -2,7 +2,6 @@
 pub mod Bernstein
 pub mod Refusal
 pub mod Answer
-pub mod Line
+pub mod Curve
 pub mod Marked
 pub mod Blend
-pub mod Differences

@@ -1,5 +1,6 @@
 // The sample of one patch at one place: blended along v, then along u, exactly, and rounded once.
 use crate::model::Coordinate;
+use crate::model::Curves;
 use crate::model::MarkedPoint;
 use crate::model::Point;
 ghost use mathlib.Core.Path.{_≡_};
@@ -13,10 +14,10 @@ ghost use Rattle.finite.specs.Fold.{allBelow};
 ghost use Rattle.finite.specs.Filled.{listBelow};
 ghost use Rattle.sample.specs.Bernstein.{bernstein, numerator, rounded};
 ghost use Rattle.sample.specs.Refusal.{maxSteps};
-ghost use Rattle.sample.specs.Blend.{controlOf, Small, Steps, Light, Fine, Mean, blended, blendedTwice};
+ghost use Rattle.sample.specs.Blend.{controlOf, Small, Steps, Light, Fine, Mean, blended, blendedTwice, curveOf};
 
 // The weights of place a.
-pub(crate) fn weights(n: usize, a: usize) -> [u32; 4]
+fn weights(n: usize, a: usize) -> [u32; 4]
     requires { ⌜ Steps n a ⌝ }
     ensures { λ r. ⌜ r ≡ listBelow (bernstein n a) 4 ⌝ }
 {
@@ -26,7 +27,7 @@ pub(crate) fn weights(n: usize, a: usize) -> [u32; 4]
 }
 
 // N^6.
-pub(crate) fn divisor(n: usize) -> u32
+fn divisor(n: usize) -> u32
     requires { ⌜ n ≤ maxSteps ⌝ }
     ensures { λ r. ⌜ r ≡ n ^ 6 ⌝ }
 {
@@ -36,7 +37,7 @@ pub(crate) fn divisor(n: usize) -> u32
 }
 
 // One term more of a sum.
-pub(crate) fn add_product(sum: i64, weight: u32, value: i64) -> i64
+fn add_product(sum: i64, weight: u32, value: i64) -> i64
     requires { ⌜ SFits w64 (pos weight *ℤ value) × SFits w64 (sum +ℤ pos weight *ℤ value) ⌝ }
     ensures { λ r. ⌜ r ≡ sum +ℤ pos weight *ℤ value ⌝ }
 {
@@ -77,7 +78,7 @@ fn column(patch: &[i32], k: usize, i: usize) -> [i64; 4]
 }
 
 // The control values of coordinate k, blended along v: a curve along u that all samples with one b share.
-pub(crate) fn curve(patch: &[i32], k: usize, v: [u32; 4]) -> [i64; 4]
+fn curve(patch: &[i32], k: usize, v: [u32; 4]) -> [i64; 4]
     requires { ⌜ Small (now patch) × (k < 3) × Light v ⌝ }
     ensures { λ r. ⌜ r ≡ listBelow (λ i. blended v (λ j. controlOf (now (patch .entry)) k (i + 4 * j))) 4 ⌝ }
 {
@@ -89,8 +90,32 @@ pub(crate) fn curve(patch: &[i32], k: usize, v: [u32; 4]) -> [i64; 4]
     ]
 }
 
+// The curves of all three coordinates at b.
+pub(crate) fn patch_curves(patch: &[i32], n: usize, b: usize) -> Curves
+    requires { ⌜ Small (now patch) × Steps n b ⌝ }
+    ensures { λ r. ⌜ r ≡ record {
+      refusal = 0;
+      divisor = n ^ 6;
+      x = curveOf (now (patch .entry)) n b 0;
+      y = curveOf (now (patch .entry)) n b 1;
+      z = curveOf (now (patch .entry)) n b 2;
+    } ⌝ }
+{
+    let v = weights(n, b);
+    let x = curve(patch, 0, v);
+    let y = curve(patch, 1, v);
+    let z = curve(patch, 2, v);
+    Curves {
+        refusal: 0,
+        divisor: divisor(n),
+        x,
+        y,
+        z,
+    }
+}
+
 // A sum of control values over the sum of their weights, rounded once: no further from 0 than a control value, so it fits.
-pub(crate) fn rounded_quotient(sum: i64, divisor: u32) -> Coordinate
+fn rounded_quotient(sum: i64, divisor: u32) -> Coordinate
     requires { ⌜ Mean sum divisor ⌝ }
     ensures { λ r. ⌜ r ≡ record { value = nearest sum divisor; exact = whole sum divisor } ⌝ }
 {

@@ -1,25 +1,23 @@
 //! Samples of bicubic patches, as whole numbers of 1/256 micrometre and as doubles in micrometres (rules S1 to S7).
 mod bernstein;
-mod differences;
-mod line;
 mod marked;
 mod micrometres;
 pub mod model;
 mod refusal;
 
-use crate::line::write_points;
+use crate::bernstein::patch_curves;
 use crate::marked::all_exact;
 use crate::marked::own_sample;
 use crate::micrometres::in_micrometres;
+use crate::model::Curves;
 use crate::model::Marked;
 use crate::model::MarkedPoint;
 use crate::model::Reading;
 use crate::model::Sampled;
 use crate::refusal::sample_refusal;
-use finite::model::Outcome;
 ghost use mathlib.Core.Path.{_≡_};
 ghost use Rattle.sample.specs.Answer.{sampled, sampleAnswer, Reads};
-ghost use Rattle.sample.specs.Line.{LineSampled};
+ghost use Rattle.sample.specs.Curve.{CurvesGiven};
 ghost use Rattle.sample.specs.Marked.{marked, markedAnswer};
 
 // The sample of face f at (a, b), for N = n (rules S1 to S4).
@@ -87,24 +85,24 @@ pub fn reading(patches: &[i32], f: usize, n: usize, a: usize, b: usize) -> Readi
     }
 }
 
-// All samples of face f with one b, for N = n, a from 0 to n (rules S1 to S4 and S6).
-// Returns: that it is done, or the number of the refusal.
-// Writes: x, y and z of the sample at (a, b), each rounded once, into places 3a, 3a + 1 and 3a + 2 of the line.
-// Leaves alone: the places of the line from 3(n + 1) on, and all of them after a refusal; the patch list, as `sample`.
-// Refuses, in this order: 12 and 13 as `sample`, 14 n off the range from 1 to 32, or b above n, 17 the line shorter than 3(n + 1).
-// Units: control values and samples in 1/256 micrometre.
-pub fn sample_line(patches: &[i32], f: usize, n: usize, b: usize, line: &mut [i32]) -> Outcome
-    ensures { λ r. ⌜ LineSampled (now (patches .entry)) f n b (now (line .entry)) r (now (line .exit)) ⌝ }
+// The curves along u that all samples of face f with one b share, for N = n (rules S1 to S3).
+// Returns: for each coordinate the four values of its curve, blended along v, and N^6; or the number of the refusal, and zeros.
+// Writes: nothing. Leaves alone: the patch list; of it, places 48f to 48f + 47 are read and no others.
+// Refuses: as `sample` at (0, b), in the same order.
+pub fn curves(patches: &[i32], f: usize, n: usize, b: usize) -> Curves
+    ensures { λ r. ⌜ CurvesGiven (now (patches .entry)) f n b r ⌝ }
 {
     let k = sample_refusal(patches, f, n, 0, b);
     if k != 0 {
-        return Outcome::Refused(k);
-    }
-    if line.len() < 3 * (n + 1) {
-        return Outcome::Refused(17);
+        return Curves {
+            refusal: k,
+            divisor: 0,
+            x: [0; 4],
+            y: [0; 4],
+            z: [0; 4],
+        };
     }
     let at = 48 * f;
     let end = at + 48;
-    write_points(&patches[at..end], n, b, line);
-    Outcome::Done
+    patch_curves(&patches[at..end], n, b)
 }

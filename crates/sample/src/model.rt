@@ -8,9 +8,6 @@ pub const MIN_STEPS: usize = 1;
 
 pub const MAX_STEPS: usize = 32;
 
-// The numbers of the longest line: a list of so many is never too short.
-pub const MAX_LINE: usize = 3 * (MAX_STEPS + 1);
-
 // A coordinate of a sample, and whether its division left nothing.
 pub(crate) struct Coordinate {
     pub value: i32,
@@ -53,4 +50,14 @@ pub struct Micrometres {
 pub enum Reading {
     At(Micrometres),
     Refused(u8),
+}
+
+// The curves along u that all samples of a face with one b share: the values of x, of y and of z, and the divisor of their sums, where `refusal`
+// is 0; else the number of the refusal, and zeros.
+pub struct Curves {
+    pub refusal: u8,
+    pub divisor: u32,
+    pub x: [i64; 4],
+    pub y: [i64; 4],
+    pub z: [i64; 4],
 }

@@ -58,7 +58,7 @@ fn print_samples(patches: &[i32], f: usize, n: usize, b: usize, line: &[i32]) {
 
 // The line call on a lent list, with what it gave printed.
 fn show(patches: &[i32], f: usize, n: usize, b: usize, line: &mut [i32]) {
-    let outcome = sample::sample_line(patches, f, n, b, line);
+    let outcome = line::sample_line(patches, f, n, b, line);
     print_outcome(outcome);
     print_text(b"\n line");
     print_list(line);

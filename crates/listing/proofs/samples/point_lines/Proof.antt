@@ -12,7 +12,7 @@ use mir.Facts.{toZ-ofZ}
 use borrow.Author.Needs.{needs}
 use borrow.Author.Tests.{leb-true, leb-false}
 use Rattle.finite.specs.Table.{result}
-use Rattle.sample.specs.Line.{pointIn}
+use Rattle.line.specs.Line.{pointIn}
 use Rattle.sample.specs.Refusal.{maxSteps}
 use Rattle.text.specs.Text.{linePlaces, Printed}
 use Rattle.text.proofs.TextLaws.{printed-within}

@@ -9,7 +9,7 @@ use Rattle.finite.specs.Table.{Answer, outcome}
 use Rattle.finite.proofs.TableLaws.{result-none, refusal-met}
 use Rattle.sample.specs.Answer.{sampleAnswer}
 use Rattle.sample.specs.declared.model.Point.{Point}
-use Rattle.sample.proofs.LineAnswerLaws.{line-refused}
+use Rattle.line.proofs.LineAnswerLaws.{line-refused}
 use Rattle.text.specs.Text.{Printed}
 use Rattle.listing.specs.Listing.{lineOf}
 use Rattle.listing.proofs.RowLaws.{run-ext, run-one}

@@ -1,12 +1,20 @@
 // Sums along a curve, from one place to the next by their differences: a cubic has a third difference that never changes.
-use crate::bernstein::add_product;
 ghost use mathlib.Core.Path.{_≡_};
 ghost use Prim.Native.Nat.{_≤_};
-ghost use lib.IntN.{pos};
+ghost use lib.IntN.{pos, _+ℤ_, _*ℤ_};
 ghost use lib.ListN.{getD};
+ghost use mir.Syntax.{w64};
+ghost use mir.Val.{SFits};
 ghost use Rattle.sample.specs.Refusal.{maxSteps};
-ghost use Rattle.sample.specs.Blend.{Fine};
-ghost use Rattle.sample.specs.Differences.{Tame, differencesAt, nextOf, cubic};
+ghost use Rattle.line.specs.Differences.{Fine, Tame, differencesAt, nextOf, cubic};
+
+// One term more of a sum.
+fn add_product(sum: i64, weight: u32, value: i64) -> i64
+    requires { ⌜ SFits w64 (pos weight *ℤ value) × SFits w64 (sum +ℤ pos weight *ℤ value) ⌝ }
+    ensures { λ r. ⌜ r ≡ sum +ℤ pos weight *ℤ value ⌝ }
+{
+    sum + weight as i64 * value
+}
 
 // The first of four values, and its three differences.
 fn differences(values: [i64; 4]) -> [i64; 4]

@@ -7,9 +7,9 @@ use lib.IntN.{ℤ, pos, _+ℤ_}
 use lib.ListN.{getD}
 use mir.Syntax.{w64}
 use mir.Val.{SFits}
-use Rattle.sample.proofs.SizedLaws.{read, Sized, sized, plus-fits, plus-sized}
-use Rattle.sample.proofs.differences.stepped.Statement.{statement}
-use Rattle.sample.proofs.differences.stepped.Tie as tie
+use Rattle.line.proofs.SizedLaws.{read, Sized, sized, plus-fits, plus-sized}
+use Rattle.line.proofs.differences.stepped.Statement.{statement}
+use Rattle.line.proofs.differences.stepped.Tie as tie
 
 -- ---- at the entry: number i and its sum with the next, as the machine reads them
 module _ (s : tie.Start) where

@@ -6,11 +6,11 @@ use native.Mathlib.Nat.{mul-le-mul}
 use native.Mathlib.Omega.{arith}
 use lib.IntN.{ℤ, pos, natAbs, _+ℤ_, _*ℤ_}
 use lib.ListN.{getD}
-use Rattle.sample.specs.Differences.{differencesAt}
-use Rattle.sample.proofs.SizedLaws.{read, Sized, sized, plus-fits, plus-sized, sum-fits, sum-sized}
-use Rattle.sample.proofs.DifferenceLaws.{first-size, second-size, third-size, cubic-start}
-use Rattle.sample.proofs.differences.first_sums.Statement.{statement}
-use Rattle.sample.proofs.differences.first_sums.Tie as tie
+use Rattle.line.specs.Differences.{differencesAt}
+use Rattle.line.proofs.SizedLaws.{read, Sized, sized, plus-fits, plus-sized, sum-fits, sum-sized}
+use Rattle.line.proofs.DifferenceLaws.{first-size, second-size, third-size, cubic-start}
+use Rattle.line.proofs.differences.first_sums.Statement.{statement}
+use Rattle.line.proofs.differences.first_sums.Tie as tie
 
 zero : Sized (pos 0) (pos 0) 0
 zero = record { is = refl; size = omega arith }

@@ -9,9 +9,9 @@ use lib.ListN.{getD}
 use Rattle.integer.proofs.Difference.{Expr, int, nat, _⊕_, _⊝_, _⊛_, prove-eq}
 use Rattle.integer.proofs.Laws.{abs-+, abs--, abs-*-≤}
 use Rattle.finite.specs.Fold.{foldBelow, sumBelowℤ}
 use Rattle.sample.specs.Bernstein.{bernstein}
 use Rattle.sample.specs.Refusal.{maxSteps}
-use Rattle.sample.specs.Differences.{difference, difference₂, difference₃, differencesAt, nextOf, Tame, cubic}
+use Rattle.line.specs.Differences.{difference, difference₂, difference₃, differencesAt, nextOf, Tame, cubic}
 
 -- ---- one place further, where the third difference stays
 grown : (x y : ℤ) → x +ℤ (y -ℤ x) ≡ y

@@ -5,11 +5,11 @@ use Prim.Native.Nat.{ℕ, _+_, _*_, _^_, _<_}
 use native.Mathlib.Omega.{arith}
 use lib.IntN.{ℤ, pos, _-ℤ_, _*ℤ_}
 use lib.ListN.{getD}
-use Rattle.sample.specs.Differences.{difference}
-use Rattle.sample.proofs.SizedLaws.{read, Sized, sized, times-fits, times-sized, minus-fits, minus-sized}
-use Rattle.sample.proofs.DifferenceLaws.{third-is}
-use Rattle.sample.proofs.differences.differences.Statement.{statement}
-use Rattle.sample.proofs.differences.differences.Tie as tie
+use Rattle.line.specs.Differences.{difference}
+use Rattle.line.proofs.SizedLaws.{read, Sized, sized, times-fits, times-sized, minus-fits, minus-sized}
+use Rattle.line.proofs.DifferenceLaws.{third-is}
+use Rattle.line.proofs.differences.differences.Statement.{statement}
+use Rattle.line.proofs.differences.differences.Tie as tie
 
 -- ---- at the entry: the values and their differences, as the machine reads them
 module _ (s : tie.Start) where

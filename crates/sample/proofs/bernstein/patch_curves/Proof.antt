@@ -1,0 +1,53 @@
+-- `patch_curves` meets its contract: the weights of b are light, so that each curve can be blended.
+use mathlib.Core.Path.{_≡_, sym, subst}
+use mathlib.Core.List.{List}
+use native.Mathlib.Omega.{arith}
+use Rattle.sample.specs.Blend.{Light}
+use Rattle.sample.proofs.BlendLaws.{weights-light, curve-list}
+use Rattle.sample.proofs.CurveLaws.{same-curves}
+use Rattle.sample.proofs.bernstein.patch_curves.Statement.{statement}
+use Rattle.sample.proofs.bernstein.patch_curves.Tie as tie
+
+-- ---- the weights are there
+module _ (c : tie.After-weights) where
+  abbrev start : tie.Start
+  start = c .before
+
+  v-light : Light (c .weights .result)
+  v-light = subst Light (sym (c .weights .ensures)) (weights-light (start .pre .1))
+
+weights-requires : tie.Need-weights-requires
+weights-requires c κs = c .pre .1
+
+curve-requires : tie.Need-curve-requires
+curve-requires c κs = (start c .pre .0, omega arith, v-light c)
+
+curve-requires-2 : tie.Need-curve-requires-2
+curve-requires-2 c κs = let w = c .before in (start w .pre .0, omega arith, v-light w)
+
+curve-requires-3 : tie.Need-curve-requires-3
+curve-requires-3 c κs = let w = c .before .before in (start w .pre .0, omega arith, v-light w)
+
+divisor-requires : tie.Need-divisor-requires
+divisor-requires c κs = start (c .before .before .before) .pre .1 .most
+
+returns : tie.Need-returns
+returns c =
+    let y : tie.After-curve2 = c .before .before in
+    let w : tie.After-weights = y .before .before in
+    let s = start w .args in
+    same-curves (c .divisor .ensures)
+    (curve-list (s .patch .now) _ _ 0 (w .weights .ensures) (y .before .curve .ensures))
+    (curve-list (s .patch .now) _ _ 1 (w .weights .ensures) (y .curve2 .ensures))
+    (curve-list (s .patch .now) _ _ 2 (w .weights .ensures) (c .before .curve3 .ensures))
+
+pub patch-curves-spec : {M : Type 1} → statement M
+patch-curves-spec =
+    tie.close
+    (tie.spec
+    weights-requires
+    curve-requires
+    curve-requires-2
+    curve-requires-3
+    divisor-requires
+    returns)
