@@ -2,7 +2,7 @@
 use mathlib.Core.Path.{_≡_, sym, ap, ap₂, _∙_}
 use mathlib.Core.List.{List, [], _∷_}
 use mathlib.Core.Option.{Option, none, some}
-use Prim.Native.Nat.{ℕ, _+_, _*_, _/_, _%_, _^_, _≤_, _<_}
+use Prim.Native.Nat.{ℕ, zero, suc, _+_, _*_, _/_, _%_, _^_, _≤_, _<_}
 use native.Mathlib.Omega.{arith}
 use lib.IntN.{ℤ, pos}
 use lib.ListN.{length, getD}
@@ -11,7 +11,7 @@ use Rattle.integer.specs.Nearest.{nearest}
 use Rattle.finite.specs.Filled.{filled}
 use Rattle.finite.specs.Table.{row, firstMet, result, refusal, answerBy}
 use Rattle.finite.specs.declared.model.Outcome.the-variants.{Done, Refused}
-use Rattle.finite.proofs.FilledLaws.{filled-at}
+use Rattle.finite.proofs.FilledLaws.{filled-at, filled-ext}
 use Rattle.finite.proofs.TableLaws.{orElse, orElse-none, first-append, append-none}
 use Rattle.sample.specs.Bernstein.{rounded, coordinateAt}
 use Rattle.sample.specs.Refusal.{placeOff, sampleRows}
@@ -22,8 +22,7 @@ use Rattle.sample.specs.declared.model.Curves.{Curves}
 use Rattle.sample.proofs.BlendLaws.{same-point}
 use Rattle.sample.proofs.RefusalLaws.{allowed}
 use Rattle.sample.proofs.CurveLaws.{curve-bound, curve-numerator}
-use Rattle.line.specs.Coordinate.{Curved, along, woven}
-use Rattle.line.proofs.LineLaws.{woven-filled}
+use Rattle.line.specs.Points.{Curved, along, curveIn}
 
 -- ---- the causes of a line: those of its sample at a = 0, then 17
 module _ (patches : List ℤ) (f n b : ℕ) (line : List ℤ) where
@@ -70,42 +69,32 @@ module _ (patches : List ℤ) (f n b : ℕ) (line : List ℤ) (a : ℕ) (l : a �
 
 -- ---- the curves that a line is made from
 module _ {patches : List ℤ} {f n b : ℕ} {r : Curves} (gave : CurvesGiven patches f n b r) (met : curveRefusal patches f n b ≡ none) where
-  pub given-x : r .x ≡ curveAt patches f n b 0
-  given-x = gave .x-is ∙ rw met
+  pub given-at : (k : ℕ) → k < 3 → curveIn r k ≡ curveAt patches f n b k
+  given-at zero l = gave .x-is ∙ rw met
+  given-at (suc zero) l = gave .y-is ∙ rw met
+  given-at (suc (suc zero)) l = gave .z-is ∙ rw met
+  given-at (suc (suc (suc k))) l = absurd (omega arith)
 
-  pub given-y : r .y ≡ curveAt patches f n b 1
-  given-y = gave .y-is ∙ rw met
-
-  pub given-z : r .z ≡ curveAt patches f n b 2
-  given-z = gave .z-is ∙ rw met
-
-  pub curved : (k : ℕ) → k < 3 → {curve : List ℤ} → curve ≡ curveAt patches f n b k → Curved n (r .divisor) curve
-  curved k below e =
+  pub curved : (k : ℕ) → k < 3 → Curved n (r .divisor) (curveIn r k)
+  curved k below =
       let steps = allowed patches f n 0 b met .across in
-      record { least = steps .least; most = steps .most; over = gave .divisor-is ∙ rw met; size = rw e (curve-bound patches f n b met k below) }
+      record {
+        least = steps .least;
+        most = steps .most;
+        over = gave .divisor-is ∙ rw met;
+        size = rw (given-at k below) (curve-bound patches f n b met k below);
+      }
 
 -- coordinate k of a line is that of its samples
-along-is : (patches : List ℤ) (f n b k a : ℕ) {curve : List ℤ} → k < 3 → curve ≡ curveAt patches f n b k
-    → along n curve a ≡ lineCoordinate patches f n b (3 * a + k)
+along-is : (patches : List ℤ) (f n b k a : ℕ) {curve : List ℤ} → curve ≡ curveAt patches f n b k → along n curve a ≡ coordinateAt patches f n a b k
 unfolding rounded
-along-is patches f n b k a below e =
-    let q : a ≡ (3 * a + k) / 3 = omega arith in
-    let r : k ≡ (3 * a + k) % 3 = omega arith in
-    ap (λ (c : List ℤ). along n c a) e
-    ∙ ap (λ (z : ℤ). nearest z (n ^ 6)) (curve-numerator patches f n b a k)
-    ∙ ap₂ (λ (i j : ℕ). coordinateAt patches f n i b j) q r
+along-is patches f n b k a e =
+    ap (λ (c : List ℤ). along n c a) e ∙ ap (λ (z : ℤ). nearest z (n ^ 6)) (curve-numerator patches f n b a k)
 
-pub line-woven : (patches : List ℤ) (f n b : ℕ) (line : List ℤ) {x y z l l′ l″ : List ℤ}
-    → x ≡ curveAt patches f n b 0 → y ≡ curveAt patches f n b 1 → z ≡ curveAt patches f n b 2 → lineLength n ≤ length line
-    → l ≡ woven 0 (along n x) (n + 1) line → l′ ≡ woven 1 (along n y) (n + 1) l → l″ ≡ woven 2 (along n z) (n + 1) l′
-    → l″ ≡ filled (lineCoordinate patches f n b) (lineLength n) line
-line-woven patches f n b line {y = y} {z = z} e g h long p q r =
-    r
-    ∙ ap (woven 2 (along n z) (n + 1)) (q ∙ ap (woven 1 (along n y) (n + 1)) p)
-    ∙ woven-filled _ _ _ (lineCoordinate patches f n b) (n + 1) line long
-    (λ a _. along-is patches f n b 0 a (omega arith) e)
-    (λ a _. along-is patches f n b 1 a (omega arith) g)
-    (λ a _. along-is patches f n b 2 a (omega arith) h)
+pub line-along : {patches : List ℤ} {f n b : ℕ} (line : List ℤ) {r : Curves} → CurvesGiven patches f n b r → curveRefusal patches f n b ≡ none
+    → filled (λ i. along n (curveIn r (i % 3)) (i / 3)) (lineLength n) line ≡ filled (lineCoordinate patches f n b) (lineLength n) line
+line-along {patches} {f} {n} {b} line gave met =
+    filled-ext (lineLength n) line (λ i _. along-is patches f n b (i % 3) (i / 3) (given-at gave met (i % 3) (omega arith)))
 
 -- ---- a line that is written
 line-holds : (patches : List ℤ) (f n b a k : ℕ) (line : List ℤ) → a ≤ n → k < 3

@@ -1,9 +1,9 @@
 //! A line of samples: all samples of a face with one b, at one go (rule S6).
-mod coordinate;
 mod differences;
 pub mod model;
+mod points;
 
-use crate::coordinate::write_coordinate;
+use crate::points::write_points;
 use finite::model::Outcome;
 ghost use Rattle.line.specs.Line.{LineSampled};
 
@@ -23,11 +23,6 @@ pub fn sample_line(patches: &[i32], f: usize, n: usize, b: usize, line: &mut [i3
     if line.len() < 3 * (n + 1) {
         return Outcome::Refused(17);
     }
-    let x = curves.x;
-    let y = curves.y;
-    let z = curves.z;
-    write_coordinate(n, curves.divisor, x, 0, line);
-    write_coordinate(n, curves.divisor, y, 1, line);
-    write_coordinate(n, curves.divisor, z, 2, line);
+    write_points(curves, n, line);
     Outcome::Done
 }

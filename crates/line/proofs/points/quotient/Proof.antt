@@ -9,8 +9,8 @@ use Rattle.integer.specs.Nearest.{nearest}
 use Rattle.integer.proofs.Laws.{sfits-abs, read-back}
 use Rattle.integer.proofs.NearestLaws.{nearest-bounded}
 use Rattle.sample.specs.Refusal.{maxControl}
-use Rattle.line.proofs.coordinate.quotient.Statement.{statement}
-use Rattle.line.proofs.coordinate.quotient.Tie as tie
+use Rattle.line.proofs.points.quotient.Statement.{statement}
+use Rattle.line.proofs.points.quotient.Tie as tie
 
 round-requires : tie.Need-round-requires
 round-requires c κs = tt
