@@ -16,7 +16,7 @@ use Rattle.sample.specs.Answer.{sampled}
 use Rattle.sample.specs.Marked.{marked}
 use Rattle.sample.proofs.RefusalLaws.{place-on}
 use Rattle.patch.specs.Patch.{view}
-use Rattle.patch.specs.Answer.{listsShort, patchList, exactList}
+use Rattle.patch.specs.Answer.{Lent, listsShort, patchList, exactList}
 use Rattle.symmetry.proofs.WellFormedMoves.{alike-well-formed, alike-counts}
 use Rattle.edit.specs.Mirror.{reflected, mirrored, outputsOff, mirrorRefusal, MeshMirrored}
 use Rattle.edit.proofs.AnswerLaws.{nothing-met}
@@ -73,36 +73,36 @@ module _ {M : IndexedMesh} (a : WellFormed M) where
     image-left = let left = mirror .left in rw (left .positions-are, left .tags-are, left .indices-are, unmet)
 
 -- ---- what the patch call and the sample calls gave
-evaluated-sample : {M : IndexedMesh} → WellFormed M → {d h b y : List ℕ} {e p : List ℤ} {n : ℕ} {q : SamplePlace} {r : Evaluation}
-    → Evaluated M d e h n q r b p y → listsShort M d e h ≡ false → OnMesh M n q → sampled (r .sample) ≡ answerFrom M n (q .face) (place (q .a) (q .b))
-evaluated-sample a {d} {h} {e = e} {n = n} {q = q} gave long on = gave .sample-is ∙ sample-from d e h a long n q on
+evaluated-sample : {M : IndexedMesh} → WellFormed M → {d b : Lent} {n : ℕ} {q : SamplePlace} {r : Evaluation}
+    → Evaluated M d n q r b → listsShort M d ≡ false → OnMesh M n q → sampled (r .sample) ≡ answerFrom M n (q .face) (place (q .a) (q .b))
+evaluated-sample a {d} {n = n} {q = q} gave long on = gave .sample-is ∙ sample-from d a long n q on
 
-evaluated-marked : {M : IndexedMesh} → WellFormed M → {d h b y : List ℕ} {e p : List ℤ} {n : ℕ} {q : SamplePlace} {r : Evaluation}
-    → Evaluated M d e h n q r b p y → listsShort M d e h ≡ false → OnMesh M n q → marked (r .marked) ≡ markedAnswerFrom M n (q .face) (place (q .a) (q .b))
-evaluated-marked a {d} {h} {e = e} {n = n} {q = q} gave long on = gave .marked-is ∙ marked-by d e h a long n q on
+evaluated-marked : {M : IndexedMesh} → WellFormed M → {d b : Lent} {n : ℕ} {q : SamplePlace} {r : Evaluation}
+    → Evaluated M d n q r b → listsShort M d ≡ false → OnMesh M n q → marked (r .marked) ≡ markedAnswerFrom M n (q .face) (place (q .a) (q .b))
+evaluated-marked a {d} {n = n} {q = q} gave long on = gave .marked-is ∙ marked-by d a long n q on
 
-module _ {M : IndexedMesh} (a : WellFormed M) {d d′ h h′ b b′ y y′ : List ℕ} {e e′ p p′ : List ℤ} {n : ℕ} {q q′ : SamplePlace}
-    {s s′ : Evaluation} (first : Evaluated M d e h n q s b p y) (second : Evaluated (mirrored M) d′ e′ h′ n q′ s′ b′ p′ y′) where
+module _ {M : IndexedMesh} (a : WellFormed M) {d d′ b b′ : Lent} {n : ℕ} {q q′ : SamplePlace}
+    {s s′ : Evaluation} (first : Evaluated M d n q s b) (second : Evaluated (mirrored M) d′ n q′ s′ b′) where
   -- the image's samples at the place with a and b exchanged
-  module _ (long : listsShort (mirrored M) d′ e′ h′ ≡ false) (on : OnMesh M n q) (at : q′ ≡ exchanged q) where
+  module _ (long : listsShort (mirrored M) d′ ≡ false) (on : OnMesh M n q) (at : q′ ≡ exchanged q) where
     turned-up : sampled (s′ .sample) ≡ answerFrom (mirrored M) n (q .face) (place (q .b) (q .a))
     turned-up =
         second .sample-is
-        ∙ ap (sampleAt (patchList (mirrored M) d′ e′ h′) n) at
-        ∙ sample-from d′ e′ h′ (image-formed a) long n (exchanged q) (image-place a n q on)
+        ∙ ap (sampleAt (patchList (mirrored M) d′) n) at
+        ∙ sample-from d′ (image-formed a) long n (exchanged q) (image-place a n q on)
 
     marked-turned-up : marked (s′ .marked) ≡ markedAnswerFrom (mirrored M) n (q .face) (place (q .b) (q .a))
     marked-turned-up =
         second .marked-is
-        ∙ ap (markedAt (patchList (mirrored M) d′ e′ h′) (exactList (mirrored M) d′ e′ h′) n) at
-        ∙ marked-by d′ e′ h′ (image-formed a) long n (exchanged q) (image-place a n q on)
+        ∙ ap (markedAt (patchList (mirrored M) d′) (exactList (mirrored M) d′) n) at
+        ∙ marked-by d′ (image-formed a) long n (exchanged q) (image-place a n q on)
 
-  claim : {r : Outcome} → outcome r ≡ result tt → MirrorClaim M d e h (mirrored M) d′ e′ h′ n q q′ r s s′
+  claim : {r : Outcome} → outcome r ≡ result tt → MirrorClaim M d (mirrored M) d′ n q q′ r s s′
   claim done = record {
     done = done;
     accepted = well-formed-accepted (image-formed a);
-    counted = λ long. first .patched .answer-is ∙ accepted-answer d e h a long;
-    image-counted = λ long. second .patched .answer-is ∙ accepted-answer d′ e′ h′ (image-formed a) long ∙ ap result (image-counts a);
+    counted = λ long. first .patched .answer-is ∙ accepted-answer d a long;
+    image-counted = λ long. second .patched .answer-is ∙ accepted-answer d′ (image-formed a) long ∙ ap result (image-counts a);
     answered = λ long on. rw (evaluated-sample a first long on);
     reflected = λ long long′ on at. turned-up long′ on at ∙ image-sample a n q on ∙ sym (ap reflectedAnswer (evaluated-sample a first long on));
     marks-reflected = λ long long′ on at.
@@ -112,9 +112,9 @@ module _ {M : IndexedMesh} (a : WellFormed M) {d d′ h h′ b b′ y y′ : Lis
 -- the claim, of what the calls for the mesh and for the lists that the mirror call left handed back
 pub mirror-keeps-samples : MirrorKeepsSamples
 mirror-keeps-samples = record {
-  claim = λ {M} {r = r} {n = n} {q = q} {q' = q′} {s = s} {s' = s′} {d = d} {h = h} {e = e} {d' = d′} {h' = h′} {b' = b′} {y' = y′} {e' = e′} {p' = p′}
+  claim = λ {M} {r = r} {n = n} {q = q} {q' = q′} {s = s} {s' = s′} {d = d} {d' = d′} {b' = b′}
       mirror first second accepted on.
       let a = accepted-well-formed accepted in
-      subst (λ (N : IndexedMesh). Evaluated N d′ e′ h′ n q′ s′ b′ p′ y′ → MirrorClaim M d e h N d′ e′ h′ n q q′ r s s′) (image-left a mirror on)
+      subst (λ (N : IndexedMesh). Evaluated N d′ n q′ s′ b′ → MirrorClaim M d N d′ n q q′ r s s′) (image-left a mirror on)
       (λ there. claim a first there (mirror-done a mirror on)) second;
 }

@@ -20,7 +20,7 @@ use Rattle.sample.specs.Answer.{sampled}
 use Rattle.sample.specs.Marked.{marked}
 use Rattle.sample.specs.declared.model.Point.{Point}
 use Rattle.sample.specs.declared.model.MarkedPoint.{MarkedPoint}
-use Rattle.patch.specs.Answer.{listsShort}
+use Rattle.patch.specs.Answer.{Lent, listsShort}
 use Rattle.edit.specs.Mirror.{outputsOff, MeshMirrored}
 use Rattle.surface.specs.Claim.{OnMesh, number, pointOf}
 use Rattle.surface.specs.Witness.{Evaluated}
@@ -41,32 +41,31 @@ abbrev pub reflectedMarked : Answer MarkedPoint → Answer MarkedPoint
 reflectedMarked (result p) = result (record { point = reflectedPoint (p .point); exact = p .exact })
 reflectedMarked (refusal k) = refusal k
 
-pub record MirrorClaim (M : IndexedMesh) (d : List ℕ) (e : List ℤ) (h : List ℕ) (M' : IndexedMesh) (d' : List ℕ) (e' : List ℤ) (h' : List ℕ)
-    (n : ℕ) (q q' : SamplePlace) (r : Outcome) (s s' : Evaluation) : Type 0 where
+pub record MirrorClaim (M : IndexedMesh) (d : Lent) (M' : IndexedMesh) (d' : Lent) (n : ℕ) (q q' : SamplePlace) (r : Outcome) (s s' : Evaluation) : Type 0 where
   -- the mirror call is done, and what it left is an accepted mesh (rule E3)
   pub done : outcome r ≡ result tt
   pub accepted : Accepted M'
   -- the patch call, given lists with room enough, gives the counts of M for both (rule E3)
-  pub counted : listsShort M d e h ≡ false → checked (s .mesh) ≡ result (countsOf M)
-  pub image-counted : listsShort M' d' e' h' ≡ false → checked (s' .mesh) ≡ result (countsOf M)
+  pub counted : listsShort M d ≡ false → checked (s .mesh) ≡ result (countsOf M)
+  pub image-counted : listsShort M' d' ≡ false → checked (s' .mesh) ≡ result (countsOf M)
   -- the sample of M is given, and turns up at (b, a) of the same face with x negated, y and z as they are (rule E4)
-  pub answered : listsShort M d e h ≡ false → OnMesh M n q → sampled (s .sample) ≡ result (pointOf (number (s .sample)))
-  pub reflected : listsShort M d e h ≡ false → listsShort M' d' e' h' ≡ false → OnMesh M n q
+  pub answered : listsShort M d ≡ false → OnMesh M n q → sampled (s .sample) ≡ result (pointOf (number (s .sample)))
+  pub reflected : listsShort M d ≡ false → listsShort M' d' ≡ false → OnMesh M n q
       → q' ≡ exchanged q
       → sampled (s' .sample) ≡ reflectedAnswer (sampled (s .sample))
   -- with the mark that it had (rule E4)
-  pub marks-reflected : listsShort M d e h ≡ false → listsShort M' d' e' h' ≡ false → OnMesh M n q
+  pub marks-reflected : listsShort M d ≡ false → listsShort M' d' ≡ false → OnMesh M n q
       → q' ≡ exchanged q
       → marked (s' .marked) ≡ reflectedMarked (marked (s .marked))
 
 pub record MirrorKeepsSamples : Type 0 where
   pub claim : {M : IndexedMesh} {x x' : List ℤ} {t i t' i' : List ℕ} {r : Outcome} {n : ℕ} {q q' : SamplePlace} {s s' : Evaluation}
-      {d h b y : List ℕ} {e p : List ℤ} {d' h' b' y' : List ℕ} {e' p' : List ℤ}
+      {d b d' b' : Lent}
       -- the mirror call on M, with the lent lists x, t and i, answered r and left x', t' and i'
       → MeshMirrored M x t i r x' t' i'
-      -- the patch call on M, with the lent lists d, e and h, and the sample calls at q on what it left answered s
-      → Evaluated M d e h n q s b p y
+      -- the patch call on M, with the lent lists d, and the sample calls at q on what it left answered s
+      → Evaluated M d n q s b
       -- and so did they for the lists that the mirror call left
-      → Evaluated (indexed (M .vertices) (M .faces) x' t' i') d' e' h' n q' s' b' p' y'
+      → Evaluated (indexed (M .vertices) (M .faces) x' t' i') d' n q' s' b'
       → Accepted M → outputsOff M x t i ≡ false
-      → MirrorClaim M d e h (indexed (M .vertices) (M .faces) x' t' i') d' e' h' n q q' r s s'
+      → MirrorClaim M d (indexed (M .vertices) (M .faces) x' t' i') d' n q q' r s s'

@@ -17,7 +17,7 @@ use Rattle.mesh.specs.Answer.{meshRefusal}
 use Rattle.mask.specs.Mask.{cornerWeight, innerMask, edgeMask, boundaryEdgeMask, smoothCornerMask, boundaryCornerMask, vertexMask}
 use Rattle.patch.specs.Point.{weight, sharp, sharpSum, ringSum, fixed, cornerPoint, innerPoint, edgePoint, alongPoint, beforePoint, point}
 use Rattle.patch.specs.Patch.{owner, kind, patchPoint, patchNumber, patchesAfter, pointExact, patchMark, exactAfter}
-use Rattle.patch.specs.Answer.{patchAnswer, exactList}
+use Rattle.patch.specs.Answer.{lent, patchAnswer, exactList}
 use Rattle.sample.specs.Bernstein.{bernstein, numerator, rounded}
 use Rattle.sample.specs.Refusal.{faceOff, controlOff, placeOff}
 use Rattle.sample.specs.Marked.{marksOff, patchMarked, divisionWhole, markedAnswer}
@@ -27,11 +27,11 @@ use Rattle.examples.specs.Examples.{Example, example, computedAll, state
 
 -- the list of marks after the patch call, which was lent so many 7s for it, and lists of twins and patches that fit
 abbrev marksLeft : IndexedMesh → ℕ → List ℤ
-marksLeft M places = naturals (exactList M (replicate (corners M) 0) (replicate (48 * M .faces) (pos 0)) (replicate places 7))
+marksLeft M places = naturals (exactList M (lent (replicate (corners M) 0) (replicate (48 * M .faces) (pos 0)) (replicate places 7)))
 
 -- the answer of that call
 abbrev answered : IndexedMesh → ℕ → List ℤ
-answered M places = numbers (patchAnswer M (replicate (corners M) 0) (replicate (48 * M .faces) (pos 0)) (replicate places 7))
+answered M places = numbers (patchAnswer M (lent (replicate (corners M) 0) (replicate (48 * M .faces) (pos 0)) (replicate places 7)))
 
 -- the marked sample: x, y, z and 1 or 0 for exact or not, or the number of the refusal alone
 abbrev markedNumbers : Answer MarkedPoint → List ℤ

@@ -19,7 +19,7 @@ use Rattle.mesh.specs.WellFormed.{Sized}
 use Rattle.mesh.specs.Answer.{meshRefusal, twinsShort}
 use Rattle.mesh.proofs.AcceptedLaws.{sizes-none}
 use Rattle.mesh.proofs.PhaseLaws.{refusal-alike, refusal-split, refusal-own}
-use Rattle.patch.specs.Answer.{patchesShort, exactShort, patchRows}
+use Rattle.patch.specs.Answer.{patchesShort, exactShort, lent, patchRows}
 use Rattle.decoding.specs.File.{vertices, faces, steps, positionAt, tagAt, indexAt, meshOf, fileRows}
 use Rattle.decoding.specs.declared.model.Header.{Header}
 use Rattle.decoding.specs.declared.model.Decoded.{Decoded}
@@ -69,12 +69,12 @@ module _ (M : IndexedMesh) (n : ℕ) (d : List ℤ) where
   marks-enough few = le-ltb (length no-marks) (16 * M .faces) (omega (arith, few, length-replicate {A = ℕ} (16 * maxFaces) 0))
 
   -- N is in its range: of the lists only the patch list can be too short
-  pub steps-on : M .faces ≤ maxFaces → stepsOff n ≡ false → tessellateRefusal M n d ≡ meshRefusal M (patchRows M no-twins d no-marks) []
+  pub steps-on : M .faces ≤ maxFaces → stepsOff n ≡ false → tessellateRefusal M n d ≡ meshRefusal M (patchRows M (lent no-twins d no-marks)) []
   steps-on few on =
       refusal-split M (listRow M d) (stepsRow n)
       ∙ ap (orElse (meshRefusal M (listRow M d) [])) (skipped 14 none on)
       ∙ orElse-none (meshRefusal M (listRow M d) [])
-      ∙ sym (refusal-alike M (patchRows M no-twins d no-marks) (listRow M d) (λ _. rw (twins-enough few, marks-enough few, only-patches)) [])
+      ∙ sym (refusal-alike M (patchRows M (lent no-twins d no-marks)) (listRow M d) (λ _. rw (twins-enough few, marks-enough few, only-patches)) [])
     where
       only-patches : (patchesShort M d || false) ≡ patchesShort M d
       only-patches = or-comm (patchesShort M d) false

@@ -21,7 +21,7 @@ use Rattle.mesh.specs.Answer.{countsOf, meshRefusal, meshAnswer, twinsAfter, tw
 use Rattle.mesh.proofs.AcceptedLaws.{accepted-from}
 use Rattle.mesh.proofs.PhaseLaws.{early-passed, refusal-alike, twins-alike, twins-accepted}
 use Rattle.patch.specs.Patch.{patchesAfter, exactAfter}
-use Rattle.patch.specs.Answer.{patchesShort, exactShort, listsShort, patchRows, patchAnswer, patchTwins, patchList, exactList}
+use Rattle.patch.specs.Answer.{Lent, patchesShort, exactShort, listsShort, patchRows, patchAnswer, patchTwins, patchList, exactList}
 use Rattle.patch.specs.Lists.{Twins}
 
 -- ---- the call's own row, as it is handed to the check: first the patch list and the marks, then the twins
@@ -31,61 +31,61 @@ given-short true false = refl
 given-short false true = refl
 given-short false false = refl
 
-module _ (M : IndexedMesh) (d : List ℕ) (e : List ℤ) (x : List ℕ) (own : ℕ) (short : own ≡ cond (patchesShort M e || exactShort M x) 2 0) where
-  same-rows : firstMet (given own ∷ lentRows M d) ≡ firstMet (patchRows M d e x)
-  same-rows = rw short (given-short (twinsShort M d) (patchesShort M e || exactShort M x))
+module _ (M : IndexedMesh) (d : Lent) (own : ℕ) (short : own ≡ cond (patchesShort M (d .patches) || exactShort M (d .marks)) 2 0) where
+  same-rows : firstMet (given own ∷ lentRows M (d .twins)) ≡ firstMet (patchRows M d)
+  same-rows = rw short (given-short (twinsShort M (d .twins)) (patchesShort M (d .patches) || exactShort M (d .marks)))
 
-  pub same-refusal : meshRefusal M (given own ∷ lentRows M d) [] ≡ meshRefusal M (patchRows M d e x) []
-  same-refusal = refusal-alike M (given own ∷ lentRows M d) (patchRows M d e x) (λ _. same-rows) []
+  pub same-refusal : meshRefusal M (given own ∷ lentRows M (d .twins)) [] ≡ meshRefusal M (patchRows M d) []
+  same-refusal = refusal-alike M (given own ∷ lentRows M (d .twins)) (patchRows M d) (λ _. same-rows) []
 
-  pub same-answer : meshAnswer M (given own ∷ lentRows M d) [] ≡ patchAnswer M d e x
+  pub same-answer : meshAnswer M (given own ∷ lentRows M (d .twins)) [] ≡ patchAnswer M d
   same-answer = ap (λ (k : Option ℕ). answerBy k (countsOf M)) same-refusal
 
-  pub same-twins : twinsAfter M (given own ∷ lentRows M d) [] d ≡ patchTwins M d e x
-  same-twins = twins-alike M (given own ∷ lentRows M d) (patchRows M d e x) (λ _. same-rows) [] d
+  pub same-twins : twinsAfter M (given own ∷ lentRows M (d .twins)) [] (d .twins) ≡ patchTwins M d
+  same-twins = twins-alike M (given own ∷ lentRows M (d .twins)) (patchRows M d) (λ _. same-rows) [] (d .twins)
 
 -- ---- an accepted mesh
-module _ (M : IndexedMesh) (d : List ℕ) (e : List ℤ) (x : List ℕ) {m : Mesh} (answer : result m ≡ patchAnswer M d e x) where
-  unmet : meshRefusal M (patchRows M d e x) [] ≡ none
-  unmet = result-none (meshRefusal M (patchRows M d e x) []) answer .0
+module _ (M : IndexedMesh) (d : Lent) {m : Mesh} (answer : result m ≡ patchAnswer M d) where
+  unmet : meshRefusal M (patchRows M d) [] ≡ none
+  unmet = result-none (meshRefusal M (patchRows M d) []) answer .0
 
-  parts : (firstMet (earlyRows M (patchRows M d e x)) ≡ none) × (firstMet (lateRows M) ≡ none)
+  parts : (firstMet (earlyRows M (patchRows M d)) ≡ none) × (firstMet (lateRows M) ≡ none)
   unfolding meshRefusal
-  parts = append-none (earlyRows M (patchRows M d e x)) (lateRows M) unmet
+  parts = append-none (earlyRows M (patchRows M d)) (lateRows M) unmet
 
-  lists-long : listsShort M d e x ≡ false
-  lists-long = none-met (listsShort M d e x) 2 none (early-passed M (patchRows M d e x) (parts .0) .0) .0
+  lists-long : listsShort M d ≡ false
+  lists-long = none-met (listsShort M d) 2 none (early-passed M (patchRows M d) (parts .0) .0) .0
 
-  pub twins-long : corners M ≤ length d
-  twins-long = ltb-false (length d) (corners M) (or-false (twinsShort M d) (patchesShort M e || exactShort M x) lists-long .0)
+  pub twins-long : corners M ≤ length (d .twins)
+  twins-long = ltb-false (length (d .twins)) (corners M) (or-false (twinsShort M (d .twins)) (patchesShort M (d .patches) || exactShort M (d .marks)) lists-long .0)
 
-  written-long : (patchesShort M e ≡ false) × (exactShort M x ≡ false)
-  written-long = or-false (patchesShort M e) (exactShort M x) (or-false (twinsShort M d) (patchesShort M e || exactShort M x) lists-long .1)
+  written-long : (patchesShort M (d .patches) ≡ false) × (exactShort M (d .marks) ≡ false)
+  written-long = or-false (patchesShort M (d .patches)) (exactShort M (d .marks)) (or-false (twinsShort M (d .twins)) (patchesShort M (d .patches) || exactShort M (d .marks)) lists-long .1)
 
-  pub patches-long : 48 * M .faces ≤ length e
-  patches-long = ltb-false (length e) (48 * M .faces) (written-long .0)
+  pub patches-long : 48 * M .faces ≤ length (d .patches)
+  patches-long = ltb-false (length (d .patches)) (48 * M .faces) (written-long .0)
 
-  pub marks-long : 16 * M .faces ≤ length x
-  marks-long = ltb-false (length x) (16 * M .faces) (written-long .1)
+  pub marks-long : 16 * M .faces ≤ length (d .marks)
+  marks-long = ltb-false (length (d .marks)) (16 * M .faces) (written-long .1)
 
   pub result-well-formed : WellFormed M
-  result-well-formed = accepted-from M (patchRows M d e x) (parts .0) (parts .1)
+  result-well-formed = accepted-from M (patchRows M d) (parts .0) (parts .1)
 
-  pub result-list : patchList M d e x ≡ patchesAfter M e
+  pub result-list : patchList M d ≡ patchesAfter M (d .patches)
   result-list = rw unmet
 
-  pub result-marks : exactList M d e x ≡ exactAfter M x
+  pub result-marks : exactList M d ≡ exactAfter M (d .marks)
   result-marks = rw unmet
 
   -- the twins that the call left
-  module _ (t : List ℕ) (left : t ≡ patchTwins M d e x) where
-    filled-twins : t ≡ filled (twin (at M) (corners M)) (corners M) d
-    filled-twins = left ∙ sym (twins-accepted M (patchRows M d e x) (parts .0) (parts .1) d)
+  module _ (t : List ℕ) (left : t ≡ patchTwins M d) where
+    filled-twins : t ≡ filled (twin (at M) (corners M)) (corners M) (d .twins)
+    filled-twins = left ∙ sym (twins-accepted M (patchRows M d) (parts .0) (parts .1) (d .twins))
 
     pub twins-left : Twins (M .indices) t
     twins-left =
         let whole = result-well-formed .sized .indices-are in
         record {
-          listed = rw (whole, filled-twins, length-filled (twin (at M) (corners M)) (corners M) d twins-long) twins-long;
-          are = rw whole (λ c l. rw filled-twins (filled-at (twin (at M) (corners M)) (corners M) c d 0 l));
+          listed = rw (whole, filled-twins, length-filled (twin (at M) (corners M)) (corners M) (d .twins) twins-long) twins-long;
+          are = rw whole (λ c l. rw filled-twins (filled-at (twin (at M) (corners M)) (corners M) c (d .twins) 0 l));
         }

@@ -18,7 +18,7 @@ ghost use mathlib.Core.Bool.{cond, _||_};
 ghost use Prim.Native.Nat.{_*_};
 ghost use lib.Dec.{ltb};
 ghost use Rattle.mesh.specs.IndexedMesh.{indexed};
-ghost use Rattle.patch.specs.Answer.{Patched};
+ghost use Rattle.patch.specs.Answer.{lent, Patched};
 
 // 2 where there are too few places for the patches of f faces, or for their marks, else 0.
 fn own_refusal(f: usize, places: usize, marks: usize) -> u8
@@ -51,7 +51,7 @@ pub fn patches(
     exact: &mut [u8],
 ) -> Checked
     ensures { λ r. ⌜ Patched (indexed v f (now (positions .entry)) (now (tags .entry)) (now (faces .entry)))
-        (now (twins .entry)) (now (patches .entry)) (now (exact .entry)) r (now (twins .exit)) (now (patches .exit)) (now (exact .exit)) ⌝ }
+        (lent (now (twins .entry)) (now (patches .entry)) (now (exact .entry))) r (lent (now (twins .exit)) (now (patches .exit)) (now (exact .exit))) ⌝ }
 {
     let own = own_refusal(f, patches.len(), exact.len());
     let answer = mesh::check_after(own, v, f, positions, tags, faces, twins);

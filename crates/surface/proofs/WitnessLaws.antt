@@ -22,7 +22,7 @@ use Rattle.sample.specs.Answer.{sampled}
 use Rattle.sample.specs.Marked.{sampleExact, marked}
 use Rattle.sample.specs.declared.model.Point.{Point}
 use Rattle.patch.specs.Patch.{patchesAfter, exactAfter}
-use Rattle.patch.specs.Answer.{patchesShort, exactShort, listsShort, patchRows, patchAnswer, patchList, exactList, Patched}
+use Rattle.patch.specs.Answer.{Lent, patchesShort, exactShort, listsShort, patchRows, patchAnswer, patchList, exactList, Patched}
 use Rattle.symmetry.proofs.WellFormedMoves.{alike-well-formed, alike-counts}
 use Rattle.surface.specs.Claim.{OnMesh, coordinateOf, number, pointOf, isExact, Claim}
 use Rattle.surface.specs.Renumbering.{place}
@@ -36,8 +36,8 @@ use Rattle.surface.proofs.AnsweredLaws.{answered, marked-answered}
 use Rattle.surface.proofs.ClaimLaws.{answerFrom, markedAnswerFrom, sampled-from, marked-from, distance-on, seam-on, renumbered-on, marks-renumbered-on}
 
 -- what the three calls gave, the sample calls on the lists that the patch call left
-pub evaluated : {M : IndexedMesh} {d x b y : List ℕ} {e p : List ℤ} {n : ℕ} {q : SamplePlace} {r : Evaluation}
-    → Patched M d e x (r .mesh) b p y → sampled (r .sample) ≡ sampleAt p n q → marked (r .marked) ≡ markedAt p y n q → Evaluated M d e x n q r b p y
+pub evaluated : {M : IndexedMesh} {d b : Lent} {n : ℕ} {q : SamplePlace} {r : Evaluation} → Patched M d (r .mesh) b
+    → sampled (r .sample) ≡ sampleAt (b .patches) n q → marked (r .marked) ≡ markedAt (b .patches) (b .marks) n q → Evaluated M d n q r b
 evaluated {n = n} {q = q} patched sample marks = record {
   patched = patched;
   sample-is = sample ∙ ap (λ (t : List ℤ). sampleAt t n q) (patched .patches-are);
@@ -52,113 +52,113 @@ coordinate-of g (suc (suc zero)) l = refl
 coordinate-of g (suc (suc (suc k))) l = absurd (let bad : ⊥ = omega arith in bad)
 
 -- what the patch call answers for an accepted mesh, on lists that are long enough, and what stands in the patch list and the marks afterwards
-module _ {M : IndexedMesh} (twins : List ℕ) (patches : List ℤ) (exact : List ℕ) (a : WellFormed M) (long : listsShort M twins patches exact ≡ false) where
-  unmet : meshRefusal M (patchRows M twins patches exact) [] ≡ none
+module _ {M : IndexedMesh} (d : Lent) (a : WellFormed M) (long : listsShort M d ≡ false) where
+  unmet : meshRefusal M (patchRows M d) [] ≡ none
   unfolding meshRefusal
   unmet =
-      none-append (earlyRows M (patchRows M twins patches exact)) (lateRows M ++ []) (accepted-early a (patchRows M twins patches exact) (rw long))
+      none-append (earlyRows M (patchRows M d)) (lateRows M ++ []) (accepted-early a (patchRows M d) (rw long))
       ∙ none-append (lateRows M) [] (accepted-late a)
 
-  pub accepted-answer : patchAnswer M twins patches exact ≡ result (countsOf M)
+  pub accepted-answer : patchAnswer M d ≡ result (countsOf M)
   accepted-answer = rw unmet
 
-  accepted-list : patchList M twins patches exact ≡ patchesAfter M patches
+  accepted-list : patchList M d ≡ patchesAfter M (d .patches)
   accepted-list = rw unmet
 
-  accepted-marks : exactList M twins patches exact ≡ exactAfter M exact
+  accepted-marks : exactList M d ≡ exactAfter M (d .marks)
   accepted-marks = rw unmet
 
-  written-long : (patchesShort M patches ≡ false) × (exactShort M exact ≡ false)
-  written-long = or-false (patchesShort M patches) (exactShort M exact) (or-false (ltb (length twins) (corners M)) _ long .1)
+  written-long : (patchesShort M (d .patches) ≡ false) × (exactShort M (d .marks) ≡ false)
+  written-long = or-false (patchesShort M (d .patches)) (exactShort M (d .marks)) (or-false (ltb (length (d .twins)) (corners M)) _ long .1)
 
-  patches-long : 48 * M .faces ≤ length patches
-  patches-long = ltb-false (length patches) (48 * M .faces) (written-long .0)
+  patches-long : 48 * M .faces ≤ length (d .patches)
+  patches-long = ltb-false (length (d .patches)) (48 * M .faces) (written-long .0)
 
-  marks-long : 16 * M .faces ≤ length exact
-  marks-long = ltb-false (length exact) (16 * M .faces) (written-long .1)
+  marks-long : 16 * M .faces ≤ length (d .marks)
+  marks-long = ltb-false (length (d .marks)) (16 * M .faces) (written-long .1)
 
   -- samples on those lists
-  sample-on : (n : ℕ) (q : SamplePlace) → sampleAt (patchList M twins patches exact) n q ≡ sampleAt (patchesAfter M patches) n q
+  sample-on : (n : ℕ) (q : SamplePlace) → sampleAt (patchList M d) n q ≡ sampleAt (patchesAfter M (d .patches)) n q
   sample-on n q = ap (λ (t : List ℤ). sampleAt t n q) accepted-list
 
   marked-on : (n : ℕ) (q : SamplePlace)
-      → markedAt (patchList M twins patches exact) (exactList M twins patches exact) n q ≡ markedAt (patchesAfter M patches) (exactAfter M exact) n q
+      → markedAt (patchList M d) (exactList M d) n q ≡ markedAt (patchesAfter M (d .patches)) (exactAfter M (d .marks)) n q
   marked-on n q = ap₂ (λ (t : List ℤ) (u : List ℕ). markedAt t u n q) accepted-list accepted-marks
 
   -- the same, by the control points
   pub sample-from : (n : ℕ) (q : SamplePlace) → OnMesh M n q
-      → sampleAt (patchList M twins patches exact) n q ≡ answerFrom M n (q .face) (place (q .a) (q .b))
-  sample-from n q on = sample-on n q ∙ sampled-from a patches patches-long n (q .face) (place (q .a) (q .b)) (on .0) (on .1)
+      → sampleAt (patchList M d) n q ≡ answerFrom M n (q .face) (place (q .a) (q .b))
+  sample-from n q on = sample-on n q ∙ sampled-from a (d .patches) patches-long n (q .face) (place (q .a) (q .b)) (on .0) (on .1)
 
   pub marked-by : (n : ℕ) (q : SamplePlace) → OnMesh M n q
-      → markedAt (patchList M twins patches exact) (exactList M twins patches exact) n q ≡ markedAnswerFrom M n (q .face) (place (q .a) (q .b))
+      → markedAt (patchList M d) (exactList M d) n q ≡ markedAnswerFrom M n (q .face) (place (q .a) (q .b))
   marked-by n q on =
-      marked-on n q ∙ marked-from a patches exact patches-long marks-long n (q .face) (place (q .a) (q .b)) (on .0) (on .1)
+      marked-on n q ∙ marked-from a (d .patches) (d .marks) patches-long marks-long n (q .face) (place (q .a) (q .b)) (on .0) (on .1)
 
-module _ {M M′ : IndexedMesh} {d d′ x x′ b b′ y y′ : List ℕ} {e e′ p p′ : List ℤ} {n : ℕ} {q q′ : SamplePlace} (o : SamplePlace) (w : Witness)
-    (first : Evaluated M d e x n q (w .first) b p y) (second : Evaluated M′ d′ e′ x′ n q′ (w .second) b′ p′ y′)
-    (other-is : sampled (w .other) ≡ sampleAt (patchList M d e x) n o) where
-  module _ (a : WellFormed M) (long : listsShort M d e x ≡ false) where
+module _ {M M′ : IndexedMesh} {d d′ b b′ : Lent} {n : ℕ} {q q′ : SamplePlace} (o : SamplePlace) (w : Witness)
+    (first : Evaluated M d n q (w .first) b) (second : Evaluated M′ d′ n q′ (w .second) b′)
+    (other-is : sampled (w .other) ≡ sampleAt (patchList M d) n o) where
+  module _ (a : WellFormed M) (long : listsShort M d ≡ false) where
     abbrev after : List ℤ
-    after = patchesAfter M e
+    after = patchesAfter M (d .patches)
 
     abbrev marks : List ℕ
-    marks = exactAfter M x
+    marks = exactAfter M (d .marks)
 
     -- the coordinates of the first sample, by the definitions
     abbrev expected : ℕ → ℤ
     expected = coordinateAt after (q .face) n (q .a) (q .b)
 
     here : sampled (w .first .sample) ≡ sampleAt after n q
-    here = first .sample-is ∙ sample-on d e x a long n q
+    here = first .sample-is ∙ sample-on d a long n q
 
     gave : OnMesh M n q → sampled (w .first .sample) ≡ result (pointOf expected)
-    gave on = here ∙ answered a e (q .face) n (q .a) (q .b) (patches-long d e x a long) (on .0) (on .1)
+    gave on = here ∙ answered a (d .patches) (q .face) n (q .a) (q .b) (patches-long d a long) (on .0) (on .1)
 
     gave-number : OnMesh M n q → (k : ℕ) → k < 3 → number (w .first .sample) k ≡ expected k
     gave-number on k h = ap (λ (t : Answer Point). coordinateOf t k) (gave on) ∙ coordinate-of expected k h
 
     here-marked : marked (w .first .marked) ≡ markedAt after marks n q
-    here-marked = first .marked-is ∙ marked-on d e x a long n q
+    here-marked = first .marked-is ∙ marked-on d a long n q
 
     gave-marked : OnMesh M n q
         → marked (w .first .marked) ≡ result (record { point = pointOf expected; exact = sampleExact after marks (q .face) n (q .a) (q .b) })
     gave-marked on =
         here-marked
-        ∙ marked-answered a e x (q .face) n (q .a) (q .b) (patches-long d e x a long) (marks-long d e x a long) (on .0) (on .1)
+        ∙ marked-answered a (d .patches) (d .marks) (q .face) n (q .a) (q .b) (patches-long d a long) (marks-long d a long) (on .0) (on .1)
 
-    claim : Claim M M′ d′ e′ x′ n q o q′ w
+    claim : Claim M M′ d′ n q o q′ w
     claim = record {
-      taken = first .patched .answer-is ∙ accepted-answer d e x a long;
+      taken = first .patched .answer-is ∙ accepted-answer d a long;
       answered = λ on. rw (gave on);
-      distance = λ k L y on h common. rw (gave-number on k h) (distance-on a e (patches-long d e x a long) n q k L y on h common);
+      distance = λ k L y on h common. rw (gave-number on k h) (distance-on a (d .patches) (patches-long d a long) n q k L y on h common);
       marked-answered = λ on. rw (gave on, gave-marked on);
       exactness = λ k L y on h common set.
-          rw (gave-number on k h) (exact-on M e x n q (on .0) (sym (ap isExact (gave-marked on)) ∙ set) k L y h common);
+          rw (gave-number on k h) (exact-on M (d .patches) (d .marks) n q (on .0) (sym (ap isExact (gave-marked on)) ∙ set) k L y h common);
       seam = λ c t h inner on at-q at-o.
-          here ∙ ap (sampleAt after n) at-q ∙ seam-on a e (patches-long d e x a long) n c t h inner on
-          ∙ sym (other-is ∙ sample-on d e x a long n o ∙ ap (sampleAt after n) at-o);
+          here ∙ ap (sampleAt after n) at-q ∙ seam-on a (d .patches) (patches-long d a long) n c t h inner on
+          ∙ sym (other-is ∙ sample-on d a long n o ∙ ap (sampleAt after n) at-o);
       counted = λ r long′.
           let k = alike-counts a (alike r) in
-          first .patched .answer-is ∙ accepted-answer d e x a long
-          ∙ sym (second .patched .answer-is ∙ accepted-answer d′ e′ x′ (alike-well-formed a (alike r)) long′
+          first .patched .answer-is ∙ accepted-answer d a long
+          ∙ sym (second .patched .answer-is ∙ accepted-answer d′ (alike-well-formed a (alike r)) long′
           ∙ rw (k .0, k .1, r .same-vertices, r .same-faces));
       renumbered = λ r long′ on at-q′.
           let a′ = alike-well-formed a (alike r) in
-          here ∙ renumbered-on a e (patches-long d e x a long) n r e′ (patches-long d′ e′ x′ a′ long′) (q .face) (place (q .a) (q .b)) (on .0) (on .1)
-          ∙ sym (second .sample-is ∙ sample-on d′ e′ x′ a′ long′ n q′ ∙ ap (sampleAt (patchesAfter M′ e′) n) at-q′);
+          here ∙ renumbered-on a (d .patches) (patches-long d a long) n r (d′ .patches) (patches-long d′ a′ long′) (q .face) (place (q .a) (q .b)) (on .0) (on .1)
+          ∙ sym (second .sample-is ∙ sample-on d′ a′ long′ n q′ ∙ ap (sampleAt (patchesAfter M′ (d′ .patches)) n) at-q′);
       marks-renumbered = λ r long′ on at-q′.
           let a′ = alike-well-formed a (alike r) in
           here-marked
-          ∙ marks-renumbered-on a e (patches-long d e x a long) n x (marks-long d e x a long) r e′ x′
-          (patches-long d′ e′ x′ a′ long′) (marks-long d′ e′ x′ a′ long′) (q .face) (place (q .a) (q .b)) (on .0) (on .1)
-          ∙ sym (second .marked-is ∙ marked-on d′ e′ x′ a′ long′ n q′ ∙ ap (markedAt (patchesAfter M′ e′) (exactAfter M′ x′) n) at-q′);
+          ∙ marks-renumbered-on a (d .patches) (patches-long d a long) n (d .marks) (marks-long d a long) r (d′ .patches) (d′ .marks)
+          (patches-long d′ a′ long′) (marks-long d′ a′ long′) (q .face) (place (q .a) (q .b)) (on .0) (on .1)
+          ∙ sym (second .marked-is ∙ marked-on d′ a′ long′ n q′ ∙ ap (markedAt (patchesAfter M′ (d′ .patches)) (exactAfter M′ (d′ .marks)) n) at-q′);
     }
 
 -- what `witness` gave: the calls for both meshes, and one more sample of the list that the first patch call left
-pub witnessed : {M M′ : IndexedMesh} {d d′ x x′ b b′ y y′ : List ℕ} {e e′ p p′ : List ℤ} {n : ℕ} {q o q′ : SamplePlace} {w : Witness}
-    → Evaluated M d e x n q (w .first) b p y → sampled (w .other) ≡ sampleAt p n o → Evaluated M′ d′ e′ x′ n q′ (w .second) b′ p′ y′
-    → Witnessed M d e x M′ d′ e′ x′ n q o q′ w b p y b′ p′ y′
+pub witnessed : {M M′ : IndexedMesh} {d d′ b b′ : Lent} {n : ℕ} {q o q′ : SamplePlace} {w : Witness}
+    → Evaluated M d n q (w .first) b → sampled (w .other) ≡ sampleAt (b .patches) n o → Evaluated M′ d′ n q′ (w .second) b′
+    → Witnessed M d M′ d′ n q o q′ w b b′
 witnessed {M} {n = n} {o = o} {w = w} first other second =
     let other-is = other ∙ ap (λ (t : List ℤ). sampleAt t n o) (first .patched .patches-are) in
     record { first = first; other-is = other-is; second = second; claim = λ a long. claim o w first second other-is (accepted-well-formed a) long }

@@ -13,7 +13,6 @@
 --   Claim ..              what the answers w for the places q and o of M, and q' of M', show of each other
 use mathlib.Core.Path.{_≡_}
 use mathlib.Core.Bool.{Bool, true, false}
-use mathlib.Core.List.{List}
 use Prim.Native.Nat.{ℕ, zero, suc, _-_, _*_, _/_, _%_, _^_, _≤_, _<_}
 use lib.IntN.{ℤ, pos, natAbs, _-ℤ_, _*ℤ_}
 use Rattle.finite.specs.Table.{Answer, result, refusal}
@@ -30,7 +29,7 @@ use Rattle.sample.specs.declared.model.Marked.{Marked}
 use Rattle.sample.specs.declared.model.Sampled.{Sampled}
 use Rattle.mask.specs.Mask.{Fraction}
 use Rattle.patch.specs.Patch.{patchPoint, view}
-use Rattle.patch.specs.Answer.{listsShort}
+use Rattle.patch.specs.Answer.{Lent, listsShort}
 use Rattle.surface.specs.Renumbering.{Renumbering, Place, place, matching, onSide}
 use Rattle.surface.specs.declared.model.SamplePlace.{SamplePlace}
 use Rattle.surface.specs.declared.model.Witness.{Witness}
@@ -76,7 +75,7 @@ placeOn n c t = placeOf (c / 4) (onSide n (c % 4) t)
 abbrev pub placeMatching : {M M' : IndexedMesh} → Renumbering M M' → ℕ → SamplePlace → SamplePlace
 placeMatching r n q = placeOf (r .faces .to (q .face)) (matching n (r .start (q .face)) (place (q .a) (q .b)))
 
-pub record Claim (M M' : IndexedMesh) (d' : List ℕ) (e' : List ℤ) (x' : List ℕ) (n : ℕ) (q o q' : SamplePlace) (w : Witness) : Type 0 where
+pub record Claim (M M' : IndexedMesh) (d' : Lent) (n : ℕ) (q o q' : SamplePlace) (w : Witness) : Type 0 where
   -- the patch call, given lists with room enough, accepts the mesh and gives its counts (rule C3),
   pub taken : checked (w .first .mesh) ≡ result (countsOf M)
   -- and the sample call then refuses no place of it (rule C3)
@@ -97,12 +96,12 @@ pub record Claim (M M' : IndexedMesh) (d' : List ℕ) (e' : List ℤ) (x' : List
       → o ≡ placeOn n (twin (at M) (corners M) c) (n - t)
       → sampled (w .first .sample) ≡ sampled (w .other)
   -- a renumbering M' is accepted as well, with the same four counts (rule C10),
-  pub counted : Renumbering M M' → listsShort M' d' e' x' ≡ false → checked (w .first .mesh) ≡ checked (w .second .mesh)
+  pub counted : Renumbering M M' → listsShort M' d' ≡ false → checked (w .first .mesh) ≡ checked (w .second .mesh)
   -- and has the same samples at matching places (rule C10)
-  pub renumbered : (r : Renumbering M M') → listsShort M' d' e' x' ≡ false → OnMesh M n q
+  pub renumbered : (r : Renumbering M M') → listsShort M' d' ≡ false → OnMesh M n q
       → q' ≡ placeMatching r n q
       → sampled (w .first .sample) ≡ sampled (w .second .sample)
   -- with the same marks (rule C12)
-  pub marks-renumbered : (r : Renumbering M M') → listsShort M' d' e' x' ≡ false → OnMesh M n q
+  pub marks-renumbered : (r : Renumbering M M') → listsShort M' d' ≡ false → OnMesh M n q
       → q' ≡ placeMatching r n q
       → marked (w .first .marked) ≡ marked (w .second .marked)

@@ -5,6 +5,7 @@ use crate::model::Evaluation;
 use crate::model::SamplePlace;
 use crate::model::Witness;
 ghost use Rattle.mesh.specs.IndexedMesh.{indexed};
+ghost use Rattle.patch.specs.Answer.{lent};
 ghost use Rattle.surface.specs.Witness.{Evaluated, Witnessed};
 
 // The patches of a mesh with their marks, and one sample of them, also marked.
@@ -24,7 +25,8 @@ pub fn evaluate(
 ) -> Evaluation
     ensures { λ r. ⌜ Evaluated
         (indexed v f (now (positions .entry)) (now (tags .entry)) (now (faces .entry)))
-        (now (twins .entry)) (now (patches .entry)) (now (exact .entry)) n place r (now (twins .exit)) (now (patches .exit)) (now (exact .exit)) ⌝ }
+        (lent (now (twins .entry)) (now (patches .entry)) (now (exact .entry))) n place r
+        (lent (now (twins .exit)) (now (patches .exit)) (now (exact .exit))) ⌝ }
 {
     let mesh = patch::patches(v, f, positions, tags, faces, twins, patches, exact);
     let sample = sample::sample(patches, place.face, n, place.a, place.b);
@@ -64,11 +66,11 @@ pub fn witness(
 ) -> Witness
     ensures { λ r. ⌜ Witnessed
         (indexed v f (now (positions .entry)) (now (tags .entry)) (now (faces .entry)))
-        (now (twins .entry)) (now (patches .entry)) (now (exact .entry))
+        (lent (now (twins .entry)) (now (patches .entry)) (now (exact .entry)))
         (indexed v2 f2 (now (positions2 .entry)) (now (tags2 .entry)) (now (faces2 .entry)))
-        (now (twins2 .entry)) (now (patches2 .entry)) (now (exact2 .entry))
-        n place other place2 r (now (twins .exit)) (now (patches .exit)) (now (exact .exit))
-        (now (twins2 .exit)) (now (patches2 .exit)) (now (exact2 .exit)) ⌝ }
+        (lent (now (twins2 .entry)) (now (patches2 .entry)) (now (exact2 .entry)))
+        n place other place2 r (lent (now (twins .exit)) (now (patches .exit)) (now (exact .exit)))
+        (lent (now (twins2 .exit)) (now (patches2 .exit)) (now (exact2 .exit))) ⌝ }
 {
     let first = evaluate(
         v,

@@ -1,15 +1,14 @@
 -- `patches` meets its contract: the check is told of a patch list or a list of marks that is too short, so its refusals are those of the call; where
 -- it gives counts, the mesh is well-formed, its twins are listed, and the patches and their marks are written.
 use mathlib.Core.Path.{_≡_, sym, ap, _∙_}
-use mathlib.Core.List.{List, []}
+use mathlib.Core.List.{[]}
 use mathlib.Core.Option.{Option}
 use Prim.Native.Nat.{ℕ}
-use lib.IntN.{ℤ}
 use borrow.Author.Needs.{needs}
 use Rattle.finite.proofs.TableLaws.{refusal-met}
 use Rattle.mesh.specs.IndexedMesh.{IndexedMesh, indexed}
 use Rattle.mesh.specs.Answer.{countsOf, checked, meshRefusal}
-use Rattle.patch.specs.Answer.{patchRows, patchAnswer, patchTwins}
+use Rattle.patch.specs.Answer.{Lent, lent, patchRows, patchAnswer, patchTwins}
 use Rattle.patch.proofs.AnswerLaws.{same-answer, same-twins, patches-long, marks-long, result-well-formed, result-list, result-marks, twins-left}
 use Rattle.patch.proofs.patches.Statement.{statement}
 use Rattle.patch.proofs.patches.Tie as tie
@@ -19,14 +18,8 @@ module _ (s : tie.Start) where
   abbrev mesh : IndexedMesh
   mesh = indexed (s .args .v) (s .args .f) (s .args .positions .now) (s .args .tags .now) (s .args .faces .now)
 
-  abbrev twins : List ℕ
-  twins = s .args .twins .now
-
-  abbrev lent : List ℤ
-  lent = s .args .patches .now
-
-  abbrev marks : List ℕ
-  marks = s .args .exact .now
+  abbrev lists : Lent
+  lists = lent (s .args .twins .now) (s .args .patches .now) (s .args .exact .now)
 
 -- ---- the check has answered
 module _ (c : tie.After-slice-known3) where
@@ -41,13 +34,13 @@ module _ (c : tie.After-slice-known3) where
 
   -- the first cause that the call meets
   abbrev met : Option ℕ
-  met = meshRefusal (mesh start) (patchRows (mesh start) (twins start) (lent start) (marks start)) []
+  met = meshRefusal (mesh start) (patchRows (mesh start) (lists start)) []
 
-  answered : checked (asked .check-after .result) ≡ patchAnswer (mesh start) (twins start) (lent start) (marks start)
-  answered = asked .check-after .ensures .answer-is ∙ same-answer (mesh start) (twins start) (lent start) (marks start) _ (owned .own-refusal .ensures)
+  answered : checked (asked .check-after .result) ≡ patchAnswer (mesh start) (lists start)
+  answered = asked .check-after .ensures .answer-is ∙ same-answer (mesh start) (lists start) _ (owned .own-refusal .ensures)
 
-  left : asked .check-after .last .1 .1 .1 .1 .1 .1 .0 ≡ patchTwins (mesh start) (twins start) (lent start) (marks start)
-  left = asked .check-after .ensures .twins-are ∙ same-twins (mesh start) (twins start) (lent start) (marks start) _ (owned .own-refusal .ensures)
+  left : asked .check-after .last .1 .1 .1 .1 .1 .1 .0 ≡ patchTwins (mesh start) (lists start)
+  left = asked .check-after .ensures .twins-are ∙ same-twins (mesh start) (lists start) _ (owned .own-refusal .ensures)
 
 abbrev refused : tie.After-enum-told → tie.After-slice-known3
 refused c = c .before .before
@@ -92,11 +85,11 @@ fill-patches-requires c κs =
     let s = start k in
     let counted = sym (ap checked (t .before .answer .given .1)) ∙ answered k in (
       (
-        result-well-formed (mesh s) (twins s) (lent s) (marks s) counted,
-        patches-long (mesh s) (twins s) (lent s) (marks s) counted,
-        marks-long (mesh s) (twins s) (lent s) (marks s) counted,
+        result-well-formed (mesh s) (lists s) counted,
+        patches-long (mesh s) (lists s) counted,
+        marks-long (mesh s) (lists s) counted,
       ),
-      twins-left (mesh s) (twins s) (lent s) (marks s) counted _ (left k),
+      twins-left (mesh s) (lists s) counted _ (left k),
     )
 
 same-length-2 : tie.Need-same-length-2
@@ -110,15 +103,15 @@ same-length-4 c = filled c .fill-patches .kept .1 .1 .1 .1 .1 .1 .1 .0
 
 returns-2 : tie.Need-returns-2
 returns-2 c =
-    let t : tie.After-known-told = let lent = filled c .before .before in lent .before .before in
+    let t : tie.After-known-told = let known = filled c .before .before in known .before .before in
     let k = accepted t in
     let s = start k in
     let counted = sym (ap checked (t .before .answer .given .1)) ∙ answered k in
     record {
       answer-is = counted;
       twins-are = left k;
-      patches-are = filled c .fill-patches .ensures .0 ∙ sym (result-list (mesh s) (twins s) (lent s) (marks s) counted);
-      exact-are = filled c .fill-patches .ensures .1 ∙ sym (result-marks (mesh s) (twins s) (lent s) (marks s) counted);
+      patches-are = filled c .fill-patches .ensures .0 ∙ sym (result-list (mesh s) (lists s) counted);
+      exact-are = filled c .fill-patches .ensures .1 ∙ sym (result-marks (mesh s) (lists s) counted);
     }
 
 pub patches-spec : {M : Type 1} → statement M

@@ -12,6 +12,7 @@ use Rattle.finite.proofs.TableLaws.{result-none, refusal-met}
 use Rattle.mesh.specs.IndexedMesh.{IndexedMesh, indexed}
 use Rattle.mesh.specs.Answer.{countsOf, checked, meshRefusal}
 use Rattle.patch.specs.Answer.{patchesShort, patchRows}
+use Rattle.patch.specs.Answer as Lists
 use Rattle.meshfile.specs.Tessellated.{tessellateRefusal}
 use Rattle.meshfile.proofs.OpenLaws.{no-twins, no-marks, patches-short, steps-off, steps-on, refused-mesh}
 use Rattle.meshfile.proofs.tessellate.tessellate.Statement.{statement}
@@ -43,7 +44,7 @@ module _ (c : tie.After-patches) where
 
   -- the refusal that the patch call meets, with the lists that the code keeps
   abbrev met : Option ℕ
-  met = meshRefusal (mesh begin) (patchRows (mesh begin) no-twins (lent begin) no-marks) []
+  met = meshRefusal (mesh begin) (patchRows (mesh begin) (Lists.lent no-twins (lent begin) no-marks)) []
 
   same : tessellateRefusal (mesh begin) (begin .args .n) (lent begin) ≡ met
   same = steps-on (mesh begin) (begin .args .n) (lent begin) (begin .pre .faces-high) (sym (ranged .before .off-range .ensures) ∙ ranged .if2 .left)
