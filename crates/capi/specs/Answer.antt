@@ -19,7 +19,7 @@ use lib.IntN.{ℤ}
 use lib.Ieee.{Float}
 use lib.ListN.{length, take, drop}
 use Rattle.finite.specs.Fold.{indicator}
-use Rattle.finite.specs.Table.{Answer, result, refusal}
+use Rattle.answer.specs.Table.{Answer, result, refusal}
 use Rattle.limits.specs.declared.model.Mesh.{Mesh}
 use Rattle.corner.specs.Corner.{faceCorners}
 use Rattle.mesh.specs.IndexedMesh.{IndexedMesh}

@@ -1,11 +1,11 @@
 //! The calls of the library for C: each returns a number, and the results go into numbers that the caller lends.
 pub mod samples;
 
-use finite::model::Outcome;
+use answer::model::Outcome;
 use limits::model::Checked;
 ghost use mathlib.Core.Path.{_≡_};
 ghost use mathlib.Core.List.{_∷_, []};
-ghost use Rattle.finite.specs.Table.{outcome};
+ghost use Rattle.answer.specs.Table.{outcome};
 ghost use Rattle.mesh.specs.IndexedMesh.{indexed};
 ghost use Rattle.mesh.specs.Answer.{checked};
 ghost use Rattle.cosine.specs.Cosine.{Entry};

@@ -10,9 +10,9 @@ use lib.ListN.{length, take, drop}
 use lib.Seq.{take-at}
 use borrow.Author.Tests.{lt-ltb, le-ltb, eq-eqb, ne-eqb, ltb-false, eqb-true, not-false}
 use Rattle.finite.specs.Filled.{listBelow, filled}
-use Rattle.finite.specs.Table.{row, firstMet}
+use Rattle.answer.specs.Table.{row, firstMet}
 use Rattle.finite.proofs.AnyAll.{or-false}
-use Rattle.finite.proofs.TableLaws.{met-here, skipped, none-met, some-append, none-append}
+use Rattle.answer.proofs.TableLaws.{met-here, skipped, none-met, some-append, none-append}
 use Rattle.finite.proofs.FilledLaws.{length-listBelow}
 use Rattle.limits.specs.Limits.{minVertices, maxVertices, minFaces, maxFaces}
 use Rattle.limits.specs.Range.{off}

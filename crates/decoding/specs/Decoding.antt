@@ -14,7 +14,7 @@ use lib.Dec.{ltb}
 use lib.IntN.{ℤ}
 use lib.ListN.{length}
 use Rattle.finite.specs.Filled.{filled}
-use Rattle.finite.specs.Table.{row, firstMet, Answer, result, refusal, answerBy, writtenBy}
+use Rattle.answer.specs.Table.{row, firstMet, Answer, result, refusal, answerBy, writtenBy}
 use Rattle.decoding.specs.File.{vertices, faces, steps, positionAt, tagAt, indexAt, fileRows}
 use Rattle.decoding.specs.declared.model.Header.{Header}
 use Rattle.decoding.specs.declared.model.Decoded.{Decoded}

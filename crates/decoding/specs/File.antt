@@ -12,7 +12,7 @@ use lib.Dec.{eqb, ltb}
 use lib.IntN.{ℤ}
 use lib.ListN.{length, getD}
 use Rattle.finite.specs.Filled.{listBelow}
-use Rattle.finite.specs.Table.{Row, row}
+use Rattle.answer.specs.Table.{Row, row}
 use Rattle.limits.specs.Limits.{minVertices, maxVertices, minFaces, maxFaces}
 use Rattle.limits.specs.Range.{off}
 use Rattle.mesh.specs.IndexedMesh.{IndexedMesh, indexed}

@@ -8,7 +8,7 @@ ghost use mathlib.Core.Bool.{_||_};
 ghost use Prim.Native.Nat.{_*_, _≤_};
 ghost use lib.Dec.{ltb};
 ghost use lib.ListN.{length};
-ghost use Rattle.finite.specs.Table.{firstMet, refusalOf};
+ghost use Rattle.answer.specs.Table.{firstMet, refusalOf};
 ghost use Rattle.limits.specs.Limits.{maxVertices, maxFaces};
 ghost use Rattle.decoding.specs.File.{vertices, faces, steps, fileRows};
 

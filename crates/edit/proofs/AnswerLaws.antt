@@ -9,11 +9,11 @@ use lib.IntN.{ℤ}
 use lib.ListN.{length}
 use borrow.Author.Tests.{eqb-true, not-false}
 use Rattle.finite.specs.Filled.{filled, listBelow}
-use Rattle.finite.specs.Table.{result, refusal, firstMet, outcome}
-use Rattle.finite.specs.declared.model.Outcome.{Outcome}
+use Rattle.answer.specs.Table.{result, refusal, firstMet, outcome}
+use Rattle.answer.specs.declared.model.Outcome.{Outcome}
 use Rattle.finite.proofs.AnyAll.{or-false}
 use Rattle.finite.proofs.FilledLaws.{filled-whole}
-use Rattle.finite.proofs.TableLaws.{result-none, refusal-met}
+use Rattle.answer.proofs.TableLaws.{result-none, refusal-met}
 use Rattle.limits.specs.declared.model.Mesh.{Mesh}
 use Rattle.mesh.specs.IndexedMesh.{IndexedMesh, at, tag, coordinate}
 use Rattle.mesh.specs.Refusal.{Accepted}

@@ -19,8 +19,8 @@ use lib.Dec.{eqb}
 use lib.IntN.{ℤ, negℤ}
 use lib.ListN.{length}
 use Rattle.finite.specs.Filled.{listBelow}
-use Rattle.finite.specs.Table.{Row, row, Answer, answerBy, writtenBy, outcome}
-use Rattle.finite.specs.declared.model.Outcome.{Outcome}
+use Rattle.answer.specs.Table.{Row, row, Answer, answerBy, writtenBy, outcome}
+use Rattle.answer.specs.declared.model.Outcome.{Outcome}
 use Rattle.mesh.specs.IndexedMesh.{IndexedMesh, indexed, corners, at, tag, coordinate}
 use Rattle.mesh.specs.Answer.{meshRefusal}
 

@@ -5,7 +5,7 @@ use crate::image::copy_bytes;
 use crate::image::outputs_off;
 use crate::image::reflect_faces;
 use crate::image::reflect_positions;
-use finite::model::Outcome;
+use answer::model::Outcome;
 use limits::model::Checked;
 ghost use Rattle.mesh.specs.IndexedMesh.{indexed};
 ghost use Rattle.edit.specs.Mirror.{MeshMirrored};

@@ -6,8 +6,8 @@ use mathlib.Core.Option.{none}
 use Prim.Native.Nat.{ℕ, _*_, _<_}
 use native.Mathlib.Omega.{arith}
 use lib.IntN.{ℤ}
-use Rattle.finite.specs.Table.{result, outcome}
-use Rattle.finite.specs.declared.model.Outcome.{Outcome}
+use Rattle.answer.specs.Table.{result, outcome}
+use Rattle.answer.specs.declared.model.Outcome.{Outcome}
 use Rattle.mesh.specs.IndexedMesh.{IndexedMesh, indexed}
 use Rattle.mesh.specs.WellFormed.{WellFormed}
 use Rattle.mesh.specs.Answer.{countsOf}

@@ -7,9 +7,9 @@ use Prim.Native.Nat.{ℕ}
 use lib.IntN.{ℤ, pos}
 use lib.ListN.{replicate}
 use Rattle.finite.specs.Fold.{foldBelow}
-use Rattle.finite.specs.Table.{Answer, result, refusal, writtenBy, outcome}
-use Rattle.finite.specs.declared.model.Outcome.{Outcome}
-use Rattle.finite.specs.declared.model.Outcome.the-variants.{Done, Refused}
+use Rattle.answer.specs.Table.{Answer, result, refusal, writtenBy, outcome}
+use Rattle.answer.specs.declared.model.Outcome.{Outcome}
+use Rattle.answer.specs.declared.model.Outcome.the-variants.{Done, Refused}
 use Rattle.limits.specs.Range.{sizesOff}
 use Rattle.limits.specs.declared.model.Mesh.{Mesh}
 use Rattle.limits.specs.declared.model.Checked.{Checked}

@@ -11,8 +11,8 @@ use mathlib.Core.Bool.{false}
 use mathlib.Core.List.{List}
 use Prim.Native.Nat.{ℕ}
 use lib.IntN.{ℤ, negℤ}
-use Rattle.finite.specs.Table.{Answer, result, refusal, outcome}
-use Rattle.finite.specs.declared.model.Outcome.{Outcome}
+use Rattle.answer.specs.Table.{Answer, result, refusal, outcome}
+use Rattle.answer.specs.declared.model.Outcome.{Outcome}
 use Rattle.mesh.specs.IndexedMesh.{IndexedMesh, indexed}
 use Rattle.mesh.specs.Refusal.{Accepted}
 use Rattle.mesh.specs.Answer.{checked, countsOf}

@@ -11,7 +11,7 @@ use Rattle.mesh.specs.IndexedMesh.{IndexedMesh, corners}
 use Rattle.mesh.specs.HalfEdge.{isTwin, twin, boundary, sameWay, doubled, joins, edges, boundaries}
 use Rattle.mesh.specs.Fan.{valence, onBoundary, around, iterate, fanBy, fan}
 use Rattle.mesh.specs.Refusal.{coordinateOff, tagOff, vertexOff, vertexTwice, halfEdgeTwice, vertexUnused, fanBroken, valenceOff, innerTagged}
-use Rattle.finite.specs.Table.{Answer, result, refusal}
+use Rattle.answer.specs.Table.{Answer, result, refusal}
 use Rattle.limits.specs.Range.{sizesOff}
 use Rattle.limits.specs.declared.model.Mesh.{Mesh}
 use Rattle.mesh.specs.Answer.{meshRefusal, checkAnswer}

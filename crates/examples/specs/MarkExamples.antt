@@ -7,7 +7,7 @@ use lib.ListN.{replicate, drop}
 use Rattle.integer.specs.Nearest.{halfEven, nearestℕ, nearest, remainder}
 use Rattle.finite.specs.Fold.{foldBelow, indicator}
 use Rattle.finite.specs.Filled.{listBelow, filled}
-use Rattle.finite.specs.Table.{Answer, result, refusal}
+use Rattle.answer.specs.Table.{Answer, result, refusal}
 use Rattle.limits.specs.Range.{sizesOff}
 use Rattle.mesh.specs.IndexedMesh.{IndexedMesh, corners}
 use Rattle.mesh.specs.HalfEdge.{isTwin, twin, boundary, sameWay, doubled, joins, edges, boundaries}

@@ -7,7 +7,7 @@ use lib.ListN.{replicate}
 use Rattle.integer.specs.Nearest.{halfEven, nearestℕ, nearest}
 use Rattle.finite.specs.Fold.{foldBelow}
 use Rattle.finite.specs.Filled.{listBelow}
-use Rattle.finite.specs.Table.{Answer, result, refusal}
+use Rattle.answer.specs.Table.{Answer, result, refusal}
 use Rattle.mesh.specs.IndexedMesh.{IndexedMesh}
 use Rattle.mesh.specs.HalfEdge.{isTwin, twin, boundary, sameWay, doubled}
 use Rattle.mesh.specs.Fan.{valence, onBoundary, around, iterate, fanBy, fan}

@@ -7,4 +7,3 @@ pub mod Counting
 pub mod Gather
 pub mod FilledLaws
 pub mod IntegerSum
-pub mod TableLaws

@@ -9,10 +9,10 @@ use lib.ListN.{length, getD}
 use borrow.Author.Tests.{lt-ltb, le-ltb}
 use Rattle.integer.specs.Nearest.{nearest}
 use Rattle.finite.specs.Filled.{filled}
-use Rattle.finite.specs.Table.{row, firstMet, result, refusal, answerBy}
-use Rattle.finite.specs.declared.model.Outcome.the-variants.{Done, Refused}
+use Rattle.answer.specs.Table.{row, firstMet, result, refusal, answerBy}
+use Rattle.answer.specs.declared.model.Outcome.the-variants.{Done, Refused}
 use Rattle.finite.proofs.FilledLaws.{filled-at, filled-ext}
-use Rattle.finite.proofs.TableLaws.{orElse, orElse-none, first-append, append-none}
+use Rattle.answer.proofs.TableLaws.{orElse, orElse-none, first-append, append-none}
 use Rattle.sample.specs.Bernstein.{rounded, coordinateAt}
 use Rattle.sample.specs.Refusal.{placeOff, sampleRows}
 use Rattle.sample.specs.Answer.{pointAt, sampleAnswer}

@@ -18,8 +18,8 @@ use lib.Dec.{ltb}
 use lib.IntN.{ℤ, pos}
 use lib.ListN.{length, getD}
 use Rattle.finite.specs.Filled.{filled}
-use Rattle.finite.specs.Table.{Row, row, firstMet, Answer, result, answerBy, writtenBy, outcome}
-use Rattle.finite.specs.declared.model.Outcome.{Outcome}
+use Rattle.answer.specs.Table.{Row, row, firstMet, Answer, result, answerBy, writtenBy, outcome}
+use Rattle.answer.specs.declared.model.Outcome.{Outcome}
 use Rattle.sample.specs.Bernstein.{coordinateAt}
 use Rattle.sample.specs.Refusal.{sampleRows}
 use Rattle.sample.specs.Answer.{sampleAnswer}

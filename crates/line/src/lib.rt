@@ -4,7 +4,7 @@ pub mod model;
 mod points;
 
 use crate::points::write_points;
-use finite::model::Outcome;
+use answer::model::Outcome;
 ghost use Rattle.line.specs.Line.{LineSampled};
 
 // All samples of face f with one b, for N = n, a from 0 to n (rules S1 to S4 and S6).

@@ -6,7 +6,7 @@ use native.Mathlib.Nat.{mul-le-mul-right, le-trans, le-max-left, le-max-right}
 use native.Mathlib.Omega.{arith}
 use lib.IntN.{ℤ}
 use lib.ListN.{length, take, drop}
-use Rattle.finite.specs.Table.{result}
+use Rattle.answer.specs.Table.{result}
 use Rattle.meshfile.specs.declared.model.Tessellation.{Tessellation}
 use Rattle.text.specs.Text.{linePlaces, Printed}
 use Rattle.listing.specs.Listing.{joined, sampleText, sampleTextAt, lineAt, Stored, Stretched}

@@ -11,7 +11,7 @@ use lib.IntN.{ℤ}
 use lib.ListN.{length, take, drop, length-append, length-drop, drop-of-length-le}
 use lib.Seq.{take-append-seam, drop-append-seam, drop-drop, take-all}
 use borrow.Author.Tests.{le-ltb, ltb-true, ltb-false, ne-eqb}
-use Rattle.finite.specs.Table.{Answer}
+use Rattle.answer.specs.Table.{Answer}
 use Rattle.finite.proofs.FoldLaws.{bool-cases}
 use Rattle.meshfile.specs.declared.model.Tessellation.{Tessellation}
 use Rattle.text.specs.Text.{decimal, countsLine, refusalLine, linePlaces, Printed}

@@ -17,7 +17,7 @@ use mathlib.Core.List.{List, [], _++_}
 use Prim.Native.Nat.{ℕ, zero, suc, _+_, _-_, _*_, _/_, _%_, _≤_, _<_, max}
 use lib.IntN.{ℤ}
 use lib.ListN.{length, drop}
-use Rattle.finite.specs.Table.{Answer, result, refusal}
+use Rattle.answer.specs.Table.{Answer, result, refusal}
 use Rattle.limits.specs.Limits.{maxFaces}
 use Rattle.sample.specs.Refusal.{maxSteps}
 use Rattle.sample.specs.Answer.{sampleAnswer}

@@ -11,7 +11,7 @@ use sample::model::MAX_STEPS;
 ghost use mathlib.Core.Path.{_≡_};
 ghost use mathlib.Core.Bool.{cond};
 ghost use lib.Dec.{eqb};
-ghost use Rattle.finite.specs.Table.{result, refusal};
+ghost use Rattle.answer.specs.Table.{result, refusal};
 ghost use Rattle.meshfile.specs.Answer.{opened};
 ghost use Rattle.listing.specs.Listing.{Stretched};
 

@@ -2,14 +2,14 @@
 use crate::model::Lines;
 use crate::model::Place;
 use crate::model::Stretch;
-use finite::model::Outcome;
+use answer::model::Outcome;
 use line::model::MAX_LINE;
 use meshfile::model::Tessellation;
 use text::LINE_PLACES;
 ghost use mathlib.Core.Path.{_≡_};
 ghost use Prim.Native.Nat.{_+_, _-_, _≤_, _<_};
 ghost use lib.ListN.{length};
-ghost use Rattle.finite.specs.Table.{result};
+ghost use Rattle.answer.specs.Table.{result};
 ghost use Rattle.limits.specs.Limits.{maxFaces};
 ghost use Rattle.sample.specs.Refusal.{maxSteps};
 ghost use Rattle.line.specs.Line.{lineLength, pointIn};

@@ -12,8 +12,8 @@ use lib.IntN.{natAbs}
 use borrow.Author.Tests.{ltb-false, leb-false, eqb-true, eqb-false, not-false, le-ltb, lt-leb, eq-eqb, ne-eqb}
 use Rattle.finite.proofs.FoldLaws.{bool-cases}
 use Rattle.finite.proofs.AnyAll.{any-false, any-none}
-use Rattle.finite.specs.Table.{Row, firstMet}
-use Rattle.finite.proofs.TableLaws.{skipped, none-met, none-append, append-none}
+use Rattle.answer.specs.Table.{Row, firstMet}
+use Rattle.answer.proofs.TableLaws.{skipped, none-met, none-append, append-none}
 use Rattle.limits.specs.Limits.{minVertices, maxVertices, minFaces, maxFaces, maxCoordinate, cornerTag}
 use Rattle.limits.specs.Limits.{minValence, maxValence, minBoundaryFaces, maxBoundaryFaces}
 use Rattle.limits.specs.Range.{off, sizesOff}

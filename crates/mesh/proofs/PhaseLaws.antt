@@ -12,8 +12,8 @@ use borrow.Author.Tests.{eq-eqb, ne-eqb}
 use Rattle.finite.specs.Fold.{anyBelow, countBelow, indicator}
 use Rattle.finite.specs.Filled.{filled}
 use Rattle.finite.proofs.FoldLaws.{bool-cases, fold-ext}
-use Rattle.finite.specs.Table.{Row, firstMet, result, refusal, answerBy, refusalOf}
-use Rattle.finite.proofs.TableLaws.{refusal-some, met-here, skipped, orElse, orElse-assoc, first-append, some-append, none-append}
+use Rattle.answer.specs.Table.{Row, firstMet, result, refusal, answerBy, refusalOf}
+use Rattle.answer.proofs.TableLaws.{refusal-some, met-here, skipped, orElse, orElse-assoc, first-append, some-append, none-append}
 use Rattle.limits.specs.Limits.{maxVertices, noTwin}
 use Rattle.corner.specs.Corner.{next}
 use Rattle.mesh.specs.HalfEdge.{twin, edges, boundaries, Simple}

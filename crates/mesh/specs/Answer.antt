@@ -19,7 +19,7 @@ use Prim.Native.Nat.{ℕ}
 use lib.Dec.{eqb, ltb}
 use lib.ListN.{length}
 use Rattle.finite.specs.Filled.{filled}
-use Rattle.finite.specs.Table.{Row, row, firstMet, Answer, result, refusal, answerBy, writtenBy}
+use Rattle.answer.specs.Table.{Row, row, firstMet, Answer, result, refusal, answerBy, writtenBy}
 use Rattle.limits.specs.Limits.{noTwin}
 use Rattle.limits.specs.declared.model.Mesh.{Mesh}
 use Rattle.limits.specs.declared.model.Checked.{Checked}

@@ -6,7 +6,7 @@
 use mathlib.Core.Path.{_≡_}
 use mathlib.Core.List.{List}
 use Prim.Native.Nat.{ℕ}
-use Rattle.finite.specs.Table.{Row, firstMet, refusalOf}
+use Rattle.answer.specs.Table.{Row, firstMet, refusalOf}
 use Rattle.mesh.specs.IndexedMesh.{IndexedMesh, corners, at}
 use Rattle.mesh.specs.Refusal.{entryRows, earlyRows}
 use Rattle.mesh.specs.Tables.{Chained}

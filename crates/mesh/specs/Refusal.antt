@@ -9,7 +9,7 @@ use lib.Dec.{eqb, ltb, leb}
 use lib.IntN.{natAbs}
 use lib.ListN.{length}
 use Rattle.finite.specs.Fold.{anyBelow}
-use Rattle.finite.specs.Table.{Row, row, firstMet}
+use Rattle.answer.specs.Table.{Row, row, firstMet}
 use Rattle.limits.specs.Limits.{maxCoordinate, cornerTag}
 use Rattle.limits.specs.Range.{sizesOff, valenceBad}
 use Rattle.corner.specs.Corner.{turn}

@@ -19,7 +19,7 @@ ghost use Prim.Native.Nat.{_*_, _≤_};
 ghost use lib.Dec.{ltb};
 ghost use lib.IntN.{ℤ};
 ghost use lib.ListN.{length};
-ghost use Rattle.finite.specs.Table.{row, firstMet, refusalOf};
+ghost use Rattle.answer.specs.Table.{row, firstMet, refusalOf};
 ghost use Rattle.limits.specs.Limits.{maxVertices, maxFaces};
 ghost use Rattle.mesh.specs.HalfEdge.{edges, boundaries};
 ghost use Rattle.mesh.specs.IndexedMesh.{indexed};

@@ -9,9 +9,9 @@ use lib.IntN.{ℤ}
 use lib.ListN.{length, take, length-append, length-replicate, replicate}
 use borrow.Author.Tests.{le-ltb}
 use Rattle.finite.specs.Filled.{listBelow, filled}
-use Rattle.finite.specs.Table.{Row, row, firstMet, result, refusal}
+use Rattle.answer.specs.Table.{Row, row, firstMet, result, refusal}
 use Rattle.finite.proofs.FilledLaws.{length-listBelow}
-use Rattle.finite.proofs.TableLaws.{skipped, orElse, orElse-none, some-append, none-append, append-none, result-none, refusal-met}
+use Rattle.answer.proofs.TableLaws.{skipped, orElse, orElse-none, some-append, none-append, append-none, result-none, refusal-met}
 use Rattle.limits.specs.Limits.{maxVertices, maxFaces}
 use Rattle.mesh.specs.IndexedMesh.{IndexedMesh, indexed, corners}
 use Rattle.mesh.specs.Refusal.{earlyRows, lateRows}

@@ -10,7 +10,7 @@ use mathlib.Core.List.{List, [], _∷_, _++_}
 use mathlib.Core.Option.{Option}
 use Prim.Native.Nat.{ℕ}
 use lib.IntN.{ℤ}
-use Rattle.finite.specs.Table.{row, firstMet, Answer, result, refusal, answerBy, writtenBy}
+use Rattle.answer.specs.Table.{row, firstMet, Answer, result, refusal, answerBy, writtenBy}
 use Rattle.limits.specs.Range.{off}
 use Rattle.mesh.specs.Refusal.{earlyRows, lateRows}
 use Rattle.mesh.specs.Answer.{countsOf}

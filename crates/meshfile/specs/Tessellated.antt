@@ -8,7 +8,7 @@ use mathlib.Core.List.{List, [], _∷_}
 use mathlib.Core.Option.{Option}
 use Prim.Native.Nat.{ℕ}
 use lib.IntN.{ℤ}
-use Rattle.finite.specs.Table.{row, answerBy, writtenBy}
+use Rattle.answer.specs.Table.{row, answerBy, writtenBy}
 use Rattle.mesh.specs.IndexedMesh.{IndexedMesh}
 use Rattle.mesh.specs.Answer.{countsOf, meshRefusal}
 use Rattle.patch.specs.Patch.{patchesAfter}

@@ -8,8 +8,8 @@ use lib.IntN.{ℤ}
 use lib.ListN.{length}
 use borrow.Author.Tests.{ltb-false}
 use Rattle.finite.specs.Filled.{filled}
-use Rattle.finite.specs.Table.{row, firstMet, result, answerBy}
-use Rattle.finite.proofs.TableLaws.{none-met, append-none, result-none}
+use Rattle.answer.specs.Table.{row, firstMet, result, answerBy}
+use Rattle.answer.proofs.TableLaws.{none-met, append-none, result-none}
 use Rattle.finite.proofs.AnyAll.{or-false}
 use Rattle.finite.proofs.FilledLaws.{length-filled, filled-at}
 use Rattle.limits.specs.declared.model.Mesh.{Mesh}

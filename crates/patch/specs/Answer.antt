@@ -15,7 +15,7 @@ use Prim.Native.Nat.{ℕ, _*_}
 use lib.Dec.{ltb}
 use lib.IntN.{ℤ}
 use lib.ListN.{length}
-use Rattle.finite.specs.Table.{Row, row, Answer, writtenBy}
+use Rattle.answer.specs.Table.{Row, row, Answer, writtenBy}
 use Rattle.limits.specs.declared.model.Mesh.{Mesh}
 use Rattle.limits.specs.declared.model.Checked.{Checked}
 use Rattle.mesh.specs.IndexedMesh.{IndexedMesh}

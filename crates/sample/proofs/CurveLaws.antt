@@ -8,7 +8,7 @@ use lib.IntN.{ℤ, pos, natAbs, _+ℤ_, _*ℤ_}
 use lib.ListN.{length, getD, replicate}
 use Rattle.finite.specs.Fold.{foldBelow, sumBelowℤ}
 use Rattle.finite.specs.Filled.{listBelow}
-use Rattle.finite.specs.Table.{refusalOf}
+use Rattle.answer.specs.Table.{refusalOf}
 use Rattle.finite.proofs.FoldLaws.{fold-ext}
 use Rattle.finite.proofs.FilledLaws.{listBelow-ext, listBelow-at}
 use Rattle.sample.specs.Bernstein.{bernstein, numerator, controlAt}

@@ -12,9 +12,9 @@ use lib.ListN.{length, getD, take, drop, length-take, length-drop}
 use lib.Seq.{getD-drop, getD-take}
 use borrow.Author.Tests.{lt-ltb, le-ltb}
 use Rattle.finite.specs.Fold.{allBelow}
-use Rattle.finite.specs.Table.{firstMet, refusal}
+use Rattle.answer.specs.Table.{firstMet, refusal}
 use Rattle.finite.proofs.FoldLaws.{fold-ext, bool-cases}
-use Rattle.finite.proofs.TableLaws.{over, over-by}
+use Rattle.answer.proofs.TableLaws.{over, over-by}
 use Rattle.sample.specs.declared.model.MarkedPoint.{MarkedPoint}
 use Rattle.sample.specs.Refusal.{faceOff, sampleRows}
 use Rattle.sample.specs.Marked.{marksOff, markedRows, patchMarked, markedAnswer}

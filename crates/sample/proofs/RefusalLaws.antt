@@ -9,9 +9,9 @@ use lib.Dec.{ltb}
 use lib.IntN.{ℤ}
 use lib.ListN.{length}
 use borrow.Author.Tests.{lt-ltb, le-ltb, ltb-false}
-use Rattle.finite.specs.Table.{firstMet, Answer, result, refusal, answerBy}
+use Rattle.answer.specs.Table.{firstMet, Answer, result, refusal, answerBy}
 use Rattle.finite.proofs.AnyAll.{or-false}
-use Rattle.finite.proofs.TableLaws.{none-met, over, over-by}
+use Rattle.answer.proofs.TableLaws.{none-met, over, over-by}
 use Rattle.sample.specs.declared.model.MarkedPoint.{MarkedPoint}
 use Rattle.sample.specs.Refusal.{minSteps, maxSteps, faceOff, controlOff, placeOff, sampleRows}
 use Rattle.sample.specs.Answer.{pointAt, sampleAnswer}

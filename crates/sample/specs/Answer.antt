@@ -12,7 +12,7 @@ use mathlib.Core.List.{List}
 use Prim.Native.Nat.{ℕ, _*_}
 use lib.IntN.{ℤ, pos, negsuc, natAbs}
 use lib.Ieee.{Float, nan, inf, fin, up, down}
-use Rattle.finite.specs.Table.{firstMet, Answer, result, refusal, answerBy}
+use Rattle.answer.specs.Table.{firstMet, Answer, result, refusal, answerBy}
 use Rattle.sample.specs.Bernstein.{coordinateAt}
 use Rattle.sample.specs.Refusal.{sampleRows}
 use Rattle.sample.specs.declared.model.Point.{Point}

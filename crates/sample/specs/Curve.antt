@@ -11,7 +11,7 @@ use lib.IntN.{ℤ, pos, _*ℤ_}
 use lib.ListN.{replicate}
 use Rattle.finite.specs.Fold.{sumBelowℤ}
 use Rattle.finite.specs.Filled.{listBelow}
-use Rattle.finite.specs.Table.{firstMet, writtenBy, refusalOf}
+use Rattle.answer.specs.Table.{firstMet, writtenBy, refusalOf}
 use Rattle.sample.specs.Bernstein.{bernstein, controlAt}
 use Rattle.sample.specs.Refusal.{sampleRows}
 use Rattle.sample.specs.declared.model.Curves.{Curves}

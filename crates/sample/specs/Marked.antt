@@ -15,7 +15,7 @@ use lib.IntN.{ℤ}
 use lib.ListN.{length, getD}
 use Rattle.integer.specs.Nearest.{whole}
 use Rattle.finite.specs.Fold.{allBelow}
-use Rattle.finite.specs.Table.{Row, row, firstMet, Answer, result, refusal, answerBy}
+use Rattle.answer.specs.Table.{Row, row, firstMet, Answer, result, refusal, answerBy}
 use Rattle.sample.specs.Bernstein.{numerator, controlAt}
 use Rattle.sample.specs.Refusal.{faceOff, controlOff, placeOff}
 use Rattle.sample.specs.Answer.{pointAt}

@@ -6,7 +6,7 @@ use lib.Dec.{ltb}
 use lib.IntN.{ℤ, pos, natAbs}
 use lib.ListN.{length, getD}
 use Rattle.finite.specs.Fold.{anyBelow}
-use Rattle.finite.specs.Table.{Row, row}
+use Rattle.answer.specs.Table.{Row, row}
 
 -- the largest magnitude of a control value: 256 times the coordinate limit of a mesh (rule B3)
 abbrev pub maxControl : ℕ

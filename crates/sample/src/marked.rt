@@ -6,7 +6,7 @@ ghost use mathlib.Core.Path.{_≡_};
 ghost use lib.Dec.{eqb};
 ghost use lib.ListN.{length, getD};
 ghost use Rattle.finite.specs.Fold.{allBelow};
-ghost use Rattle.finite.specs.Table.{firstMet, answerBy};
+ghost use Rattle.answer.specs.Table.{firstMet, answerBy};
 ghost use Rattle.sample.specs.Refusal.{sampleRows};
 ghost use Rattle.sample.specs.Answer.{pointAt};
 ghost use Rattle.sample.specs.Marked.{divisionWhole, marked};

@@ -7,7 +7,7 @@ ghost use lib.Dec.{ltb};
 ghost use lib.IntN.{pos, natAbs};
 ghost use lib.ListN.{length, getD};
 ghost use Rattle.finite.specs.Fold.{anyBelow};
-ghost use Rattle.finite.specs.Table.{firstMet, refusalOf};
+ghost use Rattle.answer.specs.Table.{firstMet, refusalOf};
 ghost use Rattle.sample.specs.Refusal.{maxControl, placeOff, sampleRows};
 
 // Cause 13, for the numbers of one patch. No early way out, so that the compiler tests several numbers at a time.

@@ -8,7 +8,7 @@ use lib.IntN.{ℤ, pos, natAbs}
 use lib.ListN.{length, getD}
 use borrow.Author.Tests.{le-ltb}
 use Rattle.finite.proofs.AnyAll.{any-none}
-use Rattle.finite.specs.Table.{result}
+use Rattle.answer.specs.Table.{result}
 use Rattle.mesh.specs.IndexedMesh.{IndexedMesh}
 use Rattle.mesh.specs.WellFormed.{WellFormed}
 use Rattle.sample.specs.Bernstein.{rounded, coordinateAt}

@@ -10,7 +10,7 @@ use Prim.Native.Nat.{ℕ, _-_, _*_, _/_, _%_, _^_, _≤_, _<_}
 use native.Mathlib.Omega.{arith}
 use lib.IntN.{ℤ, pos, natAbs, _-ℤ_, _*ℤ_}
 use lib.ListN.{length}
-use Rattle.finite.specs.Table.{Answer, result}
+use Rattle.answer.specs.Table.{Answer, result}
 use Rattle.corner.specs.Corner.{turn}
 use Rattle.mesh.specs.HalfEdge.{twin, boundary}
 use Rattle.mesh.specs.IndexedMesh.{IndexedMesh, corners, at}

@@ -10,8 +10,8 @@ use lib.IntN.{ℤ}
 use lib.ListN.{length}
 use borrow.Author.Tests.{ltb-false}
 use Rattle.finite.proofs.AnyAll.{or-false}
-use Rattle.finite.specs.Table.{Answer, result}
-use Rattle.finite.proofs.TableLaws.{none-append}
+use Rattle.answer.specs.Table.{Answer, result}
+use Rattle.answer.proofs.TableLaws.{none-append}
 use Rattle.mesh.specs.IndexedMesh.{IndexedMesh, corners}
 use Rattle.mesh.specs.Refusal.{earlyRows, lateRows}
 use Rattle.mesh.specs.WellFormed.{WellFormed}

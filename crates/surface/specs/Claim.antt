@@ -15,7 +15,7 @@ use mathlib.Core.Path.{_≡_}
 use mathlib.Core.Bool.{Bool, true, false}
 use Prim.Native.Nat.{ℕ, zero, suc, _-_, _*_, _/_, _%_, _^_, _≤_, _<_}
 use lib.IntN.{ℤ, pos, natAbs, _-ℤ_, _*ℤ_}
-use Rattle.finite.specs.Table.{Answer, result, refusal}
+use Rattle.answer.specs.Table.{Answer, result, refusal}
 use Rattle.mesh.specs.HalfEdge.{twin, boundary}
 use Rattle.mesh.specs.IndexedMesh.{IndexedMesh, corners, at}
 use Rattle.mesh.specs.Answer.{checked, countsOf}

@@ -10,7 +10,7 @@ use mathlib.Core.Bool.{false}
 use mathlib.Core.List.{List}
 use Prim.Native.Nat.{ℕ}
 use lib.IntN.{ℤ}
-use Rattle.finite.specs.Table.{Answer}
+use Rattle.answer.specs.Table.{Answer}
 use Rattle.mesh.specs.IndexedMesh.{IndexedMesh}
 use Rattle.mesh.specs.Refusal.{Accepted}
 use Rattle.sample.specs.Answer.{sampled, sampleAnswer}

@@ -5,7 +5,7 @@ use mathlib.Core.List.{List}
 use Prim.Native.Nat.{ℕ, _+_, _/_, _%_, _<_}
 use lib.IntN.{ℤ}
 use lib.ListN.{length}
-use Rattle.finite.specs.declared.model.Outcome.{Outcome}
+use Rattle.answer.specs.declared.model.Outcome.{Outcome}
 use Rattle.mesh.specs.HalfEdge.{twin, boundary}
 use Rattle.mesh.specs.IndexedMesh.{IndexedMesh, corners, at}
 use Rattle.mesh.specs.WellFormed.{WellFormed}

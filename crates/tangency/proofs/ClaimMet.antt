@@ -9,9 +9,9 @@ use native.Mathlib.Omega.{arith}
 use lib.IntN.{ℤ, pos}
 use lib.ListN.{replicate}
 use Rattle.finite.specs.Fold.{foldBelow}
-use Rattle.finite.specs.Table.{Answer, result, refusal, outcome}
-use Rattle.finite.specs.declared.model.Outcome.{Outcome}
-use Rattle.finite.specs.declared.model.Outcome.the-variants.{Done, Refused}
+use Rattle.answer.specs.Table.{Answer, result, refusal, outcome}
+use Rattle.answer.specs.declared.model.Outcome.{Outcome}
+use Rattle.answer.specs.declared.model.Outcome.the-variants.{Done, Refused}
 use Rattle.limits.specs.Range.{sizesOff}
 use Rattle.mesh.specs.IndexedMesh.{IndexedMesh, indexed}
 use Rattle.mesh.specs.HalfEdge.{isTwin, twin, boundary, sameWay, doubled}

@@ -8,8 +8,8 @@ use lib.IntN.{ℤ}
 use lib.ListN.{length}
 use borrow.Author.Tests.{lt-leb, eq-eqb}
 use Rattle.finite.proofs.AnyAll.{or-false}
-use Rattle.finite.proofs.TableLaws.{none-met, none-append, append-none, result-none}
-use Rattle.finite.specs.declared.model.Outcome.{Outcome}
+use Rattle.answer.proofs.TableLaws.{none-met, none-append, append-none, result-none}
+use Rattle.answer.specs.declared.model.Outcome.{Outcome}
 use Rattle.mesh.specs.IndexedMesh.{IndexedMesh}
 use Rattle.mesh.specs.Refusal.{earlyRows, lateRows}
 use Rattle.mesh.specs.WellFormed.{WellFormed}

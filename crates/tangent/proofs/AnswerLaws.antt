@@ -10,9 +10,9 @@ use lib.IntN.{ℤ}
 use lib.ListN.{length, replicate, length-replicate}
 use borrow.Author.Tests.{le-ltb, leb-false, eqb-true, not-false}
 use Rattle.finite.specs.Filled.{filled}
-use Rattle.finite.specs.Table.{row, firstMet, result, refusal, answerBy, writtenBy, refusalOf, outcome}
-use Rattle.finite.specs.declared.model.Outcome.{Outcome}
-use Rattle.finite.proofs.TableLaws.{skipped, none-met, append-none, result-none, refusal-met, refusal-some}
+use Rattle.answer.specs.Table.{row, firstMet, result, refusal, answerBy, writtenBy, refusalOf, outcome}
+use Rattle.answer.specs.declared.model.Outcome.{Outcome}
+use Rattle.answer.proofs.TableLaws.{skipped, none-met, append-none, result-none, refusal-met, refusal-some}
 use Rattle.finite.proofs.AnyAll.{or-false}
 use Rattle.finite.proofs.FilledLaws.{length-filled, filled-at, filled-ext, filled-whole}
 use Rattle.limits.specs.Limits.{maxFaces}

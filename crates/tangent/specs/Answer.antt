@@ -16,8 +16,8 @@ use lib.Dec.{eqb, leb}
 use lib.IntN.{ℤ}
 use lib.ListN.{length}
 use Rattle.finite.specs.Fold.{anyBelow}
-use Rattle.finite.specs.Table.{Row, row, Answer, answerBy, writtenBy, outcome}
-use Rattle.finite.specs.declared.model.Outcome.{Outcome}
+use Rattle.answer.specs.Table.{Row, row, Answer, answerBy, writtenBy, outcome}
+use Rattle.answer.specs.declared.model.Outcome.{Outcome}
 use Rattle.mesh.specs.Fan.{onBoundary}
 use Rattle.mesh.specs.IndexedMesh.{IndexedMesh, corners, at}
 use Rattle.mesh.specs.Answer.{meshRefusal}

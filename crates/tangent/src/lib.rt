@@ -10,7 +10,7 @@ mod writer;
 
 use crate::fill::fill_tangents;
 use crate::refusal::own_refusal;
-use finite::model::Outcome;
+use answer::model::Outcome;
 use limits::model::Checked;
 use limits::model::Mesh;
 ghost use Rattle.mesh.specs.IndexedMesh.{indexed};

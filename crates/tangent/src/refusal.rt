@@ -7,7 +7,7 @@ ghost use mathlib.Core.List.{[], _∷_};
 ghost use Prim.Native.Nat.{_+_, _*_, _≤_, _<_};
 ghost use lib.Dec.{eqb, leb};
 ghost use lib.ListN.{length};
-ghost use Rattle.finite.specs.Table.{row, firstMet, refusalOf};
+ghost use Rattle.answer.specs.Table.{row, firstMet, refusalOf};
 ghost use Rattle.mesh.specs.Fan.{onBoundary};
 ghost use Rattle.mesh.specs.Tables.{vertexOf};
 ghost use Rattle.patch.specs.Lists.{boundaryIn, Twins};

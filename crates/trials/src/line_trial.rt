@@ -17,7 +17,7 @@ use crate::reading::room;
 use crate::reading::u16_at;
 use crate::reading::u64_at;
 use crate::sums::print_list;
-use finite::model::Outcome;
+use answer::model::Outcome;
 use sample::model::Sampled;
 ghost use Prim.Native.Nat.{_+_, _<_};
 ghost use lib.ListN.{length};

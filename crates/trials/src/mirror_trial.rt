@@ -17,7 +17,7 @@ use crate::reading::PLACES;
 use crate::reading::room;
 use crate::reading::u16_at;
 use crate::sums::print_list;
-use finite::model::Outcome;
+use answer::model::Outcome;
 
 // Where the head of a patch trial begins in that of a mirror trial.
 const PATCH_AT: usize = 8;

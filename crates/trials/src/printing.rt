@@ -1,5 +1,5 @@
 // The parts of a trial's line, on standard output.
-use finite::model::Outcome;
+use answer::model::Outcome;
 use libc::STDOUT_FILENO;
 use limits::model::Checked;
 use sample::model::Marked;

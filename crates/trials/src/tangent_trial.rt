@@ -15,7 +15,7 @@ use crate::reading::u16_at;
 use crate::reading::u64_at;
 use crate::sums::of_wide_list;
 use crate::sums::print_sums;
-use finite::model::Outcome;
+use answer::model::Outcome;
 
 // The numbers to a line.
 const LINE: usize = 36;

@@ -3,7 +3,7 @@ use mathlib.Core.Path.{sym, ap}
 use mathlib.Core.List.{List, [], _∷_}
 use Prim.Native.Nat.{ℕ}
 use borrow.Author.Needs.{needs}
-use Rattle.finite.specs.Table.{Answer}
+use Rattle.answer.specs.Table.{Answer}
 use Rattle.limits.specs.declared.model.Mesh.{Mesh}
 use Rattle.mesh.specs.Answer.{checked}
 use Rattle.capi.specs.Answer.{code, counted}

@@ -9,8 +9,8 @@ use lib.Dec.{ltb}
 use lib.ListN.{length, getD}
 use borrow.Author.Needs.{needs}
 use Rattle.finite.specs.Filled.{filled}
-use Rattle.finite.specs.Table.{firstMet, refusalOf}
-use Rattle.finite.proofs.TableLaws.{refusal-some}
+use Rattle.answer.specs.Table.{firstMet, refusalOf}
+use Rattle.answer.proofs.TableLaws.{refusal-some}
 use Rattle.limits.specs.Limits.{maxVertices, maxFaces}
 use Rattle.decoding.specs.declared.model.Header.{Header}
 use Rattle.decoding.specs.Bytes.{le16}

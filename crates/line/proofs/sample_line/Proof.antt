@@ -5,8 +5,8 @@ use Prim.Native.Nat.{_≤_}
 use native.Mathlib.Omega.{arith}
 use lib.ListN.{length}
 use borrow.Author.Needs.{needs}
-use Rattle.finite.specs.Table.{refusalOf}
-use Rattle.finite.proofs.TableLaws.{refusal-some}
+use Rattle.answer.specs.Table.{refusalOf}
+use Rattle.answer.proofs.TableLaws.{refusal-some}
 use Rattle.sample.specs.Refusal.{maxSteps}
 use Rattle.sample.specs.Curve.{curveRefusal}
 use Rattle.sample.proofs.RefusalLaws.{allowed}

@@ -2,7 +2,7 @@
 use mathlib.Core.Path.{refl}
 use native.Mathlib.Omega.{arith}
 use borrow.Author.Needs.{needs}
-use Rattle.finite.specs.Table.{result}
+use Rattle.answer.specs.Table.{result}
 use Rattle.listing.specs.Listing.{countsText}
 use Rattle.listing.proofs.StretchLaws.{one-stored, nothing-more, counts-filled}
 use Rattle.listing.proofs.mesh_stretch.Statement.{statement}

@@ -2,7 +2,7 @@
 use mathlib.Core.Path.{refl}
 use native.Mathlib.Omega.{arith}
 use borrow.Author.Needs.{needs}
-use Rattle.finite.specs.Table.{refusal}
+use Rattle.answer.specs.Table.{refusal}
 use Rattle.text.specs.Text.{refusalLine}
 use Rattle.listing.proofs.StretchLaws.{one-stored, nothing-more, refusal-filled}
 use Rattle.listing.proofs.refusal_stretch.Statement.{statement}

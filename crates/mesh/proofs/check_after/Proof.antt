@@ -12,9 +12,9 @@ use lib.Dec.{eqb}
 use lib.ListN.{length, getD, getD-replicate}
 use borrow.Author.Tests.{ltb-false}
 use borrow.Author.Needs.{needs}
-use Rattle.finite.specs.Table.{Row, firstMet, refusalOf}
+use Rattle.answer.specs.Table.{Row, firstMet, refusalOf}
 use Rattle.finite.proofs.FilledLaws.{filled-at, filled-again}
-use Rattle.finite.proofs.TableLaws.{none-met, refusal-some}
+use Rattle.answer.proofs.TableLaws.{none-met, refusal-some}
 use Rattle.limits.specs.declared.model.Checked.the-variants.{Accepted}
 use Rattle.limits.specs.declared.model.Mesh.{Mesh}
 use Rattle.limits.specs.Limits.{maxVertices}

@@ -9,8 +9,8 @@ use native.Mathlib.Omega.{arith}
 use lib.ListN.{length, replicate, length-replicate}
 use borrow.Author.Tests.{le-ltb}
 use borrow.Author.Needs.{needs}
-use Rattle.finite.specs.Table.{firstMet, answerBy}
-use Rattle.finite.proofs.TableLaws.{skipped}
+use Rattle.answer.specs.Table.{firstMet, answerBy}
+use Rattle.answer.proofs.TableLaws.{skipped}
 use Rattle.limits.specs.Limits.{maxFaces}
 use Rattle.mesh.specs.IndexedMesh.{IndexedMesh, indexed, corners}
 use Rattle.mesh.specs.Refusal.{meshSizesOff}

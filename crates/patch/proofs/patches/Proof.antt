@@ -5,7 +5,7 @@ use mathlib.Core.List.{[]}
 use mathlib.Core.Option.{Option}
 use Prim.Native.Nat.{ℕ}
 use borrow.Author.Needs.{needs}
-use Rattle.finite.proofs.TableLaws.{refusal-met}
+use Rattle.answer.proofs.TableLaws.{refusal-met}
 use Rattle.mesh.specs.IndexedMesh.{IndexedMesh, indexed}
 use Rattle.mesh.specs.Answer.{countsOf, checked, meshRefusal}
 use Rattle.patch.specs.Answer.{Lent, lent, patchRows, patchAnswer, patchTwins}

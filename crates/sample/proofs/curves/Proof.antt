@@ -3,8 +3,8 @@
 use mathlib.Core.Path.{_≡_, sym, ap, _∙_}
 use mathlib.Core.Option.{none}
 use native.Mathlib.Omega.{arith}
-use Rattle.finite.specs.Table.{refusalOf}
-use Rattle.finite.proofs.TableLaws.{refusal-some}
+use Rattle.answer.specs.Table.{refusalOf}
+use Rattle.answer.proofs.TableLaws.{refusal-some}
 use Rattle.sample.specs.Curve.{curveRefusal}
 use Rattle.sample.proofs.RefusalLaws.{Allowed, allowed}
 use Rattle.sample.proofs.CurveLaws.{curves-refused, curves-given}

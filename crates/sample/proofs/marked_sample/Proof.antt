@@ -6,8 +6,8 @@ use Prim.Native.Nat.{_/_, _<_}
 use native.Mathlib.Omega.{arith}
 use lib.ListN.{length}
 use borrow.Author.Needs.{needs}
-use Rattle.finite.specs.Table.{result}
-use Rattle.finite.proofs.TableLaws.{over}
+use Rattle.answer.specs.Table.{result}
+use Rattle.answer.proofs.TableLaws.{over}
 use Rattle.sample.specs.Marked.{patchMarked, marked}
 use Rattle.sample.proofs.MarkedLaws.{marks-off, marks-all, withMarks, marked-refused, own-marked}
 use Rattle.sample.proofs.marked_sample.Statement.{statement}

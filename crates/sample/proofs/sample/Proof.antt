@@ -1,7 +1,7 @@
 -- `sample` meets its contract: its answer is that of the sample with its own mark, without the mark.
 use mathlib.Core.Path.{sym, ap, _∙_}
 use borrow.Author.Needs.{needs}
-use Rattle.finite.proofs.TableLaws.{over}
+use Rattle.answer.proofs.TableLaws.{over}
 use Rattle.sample.specs.declared.model.MarkedPoint.{MarkedPoint}
 use Rattle.sample.specs.Marked.{marked}
 use Rattle.sample.proofs.RefusalLaws.{own-point}

@@ -6,7 +6,7 @@ use Prim.Native.Nat.{ℕ}
 use native.Mathlib.Nat.{le-of-eq}
 use lib.IntN.{ℤ}
 use borrow.Author.Needs.{needs}
-use Rattle.finite.specs.Table.{result}
+use Rattle.answer.specs.Table.{result}
 use Rattle.limits.specs.declared.model.Mesh.{Mesh}
 use Rattle.mesh.specs.IndexedMesh.{IndexedMesh, indexed}
 use Rattle.mesh.specs.Answer.{checked, checkAnswer}

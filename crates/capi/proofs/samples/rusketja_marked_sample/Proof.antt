@@ -4,7 +4,7 @@ use mathlib.Core.List.{List, [], _∷_}
 use Prim.Native.Nat.{ℕ}
 use lib.IntN.{ℤ}
 use borrow.Author.Needs.{needs}
-use Rattle.finite.specs.Table.{Answer}
+use Rattle.answer.specs.Table.{Answer}
 use Rattle.sample.specs.declared.model.MarkedPoint.{MarkedPoint}
 use Rattle.sample.specs.Marked.{marked}
 use Rattle.capi.specs.Answer.{code, placed, unmarked, markStored}

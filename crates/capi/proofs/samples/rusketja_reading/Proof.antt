@@ -6,7 +6,7 @@ use borrow.Author.Needs.{needs}
 use Rattle.sample.specs.declared.model.Micrometres.{Micrometres}
 use Rattle.sample.specs.declared.model.Reading.{Reading}
 use Rattle.sample.specs.declared.model.Reading.the-variants.{At, Refused}
-use Rattle.finite.specs.Table.{Answer, result, refusal}
+use Rattle.answer.specs.Table.{Answer, result, refusal}
 use Rattle.sample.specs.declared.model.Point.{Point}
 use Rattle.sample.specs.Answer.{Reads, sampleAnswer}
 use Rattle.capi.specs.Answer.{ReadingStored}

@@ -3,7 +3,7 @@ use mathlib.Core.Path.{sym, ap, _∙_}
 use mathlib.Core.List.{List, [], _∷_}
 use lib.IntN.{ℤ}
 use borrow.Author.Needs.{needs}
-use Rattle.finite.specs.Table.{Answer}
+use Rattle.answer.specs.Table.{Answer}
 use Rattle.sample.specs.declared.model.Point.{Point}
 use Rattle.sample.specs.Answer.{sampled}
 use Rattle.capi.specs.Answer.{code, placed}

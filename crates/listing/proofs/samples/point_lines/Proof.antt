@@ -11,7 +11,7 @@ use mir.Val.{SFits}
 use mir.Facts.{toZ-ofZ}
 use borrow.Author.Needs.{needs}
 use borrow.Author.Tests.{leb-true, leb-false}
-use Rattle.finite.specs.Table.{result}
+use Rattle.answer.specs.Table.{result}
 use Rattle.line.specs.Line.{pointIn}
 use Rattle.sample.specs.Refusal.{maxSteps}
 use Rattle.text.specs.Text.{linePlaces, Printed}

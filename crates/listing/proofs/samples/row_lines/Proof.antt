@@ -5,8 +5,8 @@ use mathlib.Core.List.{List}
 use Prim.Native.Nat.{ℕ, _+_, _-_}
 use native.Mathlib.Omega.{arith}
 use borrow.Author.Needs.{needs}
-use Rattle.finite.specs.Table.{Answer, outcome}
-use Rattle.finite.proofs.TableLaws.{result-none, refusal-met}
+use Rattle.answer.specs.Table.{Answer, outcome}
+use Rattle.answer.proofs.TableLaws.{result-none, refusal-met}
 use Rattle.sample.specs.Answer.{sampleAnswer}
 use Rattle.sample.specs.declared.model.Point.{Point}
 use Rattle.line.proofs.LineAnswerLaws.{line-refused}

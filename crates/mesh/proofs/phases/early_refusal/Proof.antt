@@ -2,8 +2,8 @@
 use mathlib.Core.Path.{_≡_, sym, ap, _∙_}
 use mathlib.Core.Bool.{false}
 use native.Mathlib.Nat.{suc-ne-zero}
-use Rattle.finite.specs.Table.{refusalOf}
-use Rattle.finite.proofs.TableLaws.{met-here, skipped, some-append, none-append, refusal-some}
+use Rattle.answer.specs.Table.{refusalOf}
+use Rattle.answer.proofs.TableLaws.{met-here, skipped, some-append, none-append, refusal-some}
 use Rattle.mesh.specs.IndexedMesh.{IndexedMesh, indexed}
 use Rattle.mesh.specs.Refusal.{meshSizesOff, entryRows}
 use Rattle.mesh.proofs.SizeLaws.{mesh-sizes-false}

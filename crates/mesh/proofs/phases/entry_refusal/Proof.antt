@@ -5,8 +5,8 @@ use mathlib.Core.List.{List, [], _∷_}
 use Prim.Native.Nat.{_*_}
 use native.Mathlib.Nat.{suc-ne-zero}
 use native.Mathlib.Omega.{arith}
-use Rattle.finite.specs.Table.{Row, row}
-use Rattle.finite.proofs.TableLaws.{From, all-rows, row-met, row-passed}
+use Rattle.answer.specs.Table.{Row, row}
+use Rattle.answer.proofs.TableLaws.{From, all-rows, row-met, row-passed}
 use Rattle.mesh.specs.IndexedMesh.{IndexedMesh, indexed}
 use Rattle.mesh.specs.Refusal.{coordinateOff, tagOff, vertexOff, vertexTwice, halfEdgeTwice, entryRows}
 use Rattle.mesh.proofs.SizeLaws.{sized-indices, coordinates-sized, tags-sized, vertices-sized, twice-sized}

@@ -6,8 +6,8 @@ use Prim.Native.Nat.{ℕ, _*_}
 use native.Mathlib.Omega.{arith}
 use lib.ListN.{getD-replicate}
 use borrow.Author.Needs.{needs}
-use Rattle.finite.specs.Table.{Row, row}
-use Rattle.finite.proofs.TableLaws.{From, all-rows, row-met, row-passed}
+use Rattle.answer.specs.Table.{Row, row}
+use Rattle.answer.proofs.TableLaws.{From, all-rows, row-met, row-passed}
 use Rattle.limits.specs.Limits.{maxVertices}
 use Rattle.mesh.specs.Refusal.{vertexUnused, fanBroken, valenceOff, fanRows}
 use Rattle.mesh.specs.Tables.{vertexOf}

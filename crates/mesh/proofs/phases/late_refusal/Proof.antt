@@ -7,8 +7,8 @@ use Prim.Native.Nat.{ℕ, _*_}
 use native.Mathlib.Omega.{arith}
 use lib.IntN.{ℤ}
 use borrow.Author.Needs.{needs}
-use Rattle.finite.specs.Table.{Row, firstMet, refusalOf}
-use Rattle.finite.proofs.TableLaws.{met-here, skipped, some-append, none-append, refusal-some}
+use Rattle.answer.specs.Table.{Row, firstMet, refusalOf}
+use Rattle.answer.proofs.TableLaws.{met-here, skipped, some-append, none-append, refusal-some}
 use Rattle.mesh.specs.IndexedMesh.{IndexedMesh, indexed}
 use Rattle.mesh.specs.Refusal.{innerTagged, fanRows, vertexRows}
 use Rattle.mesh.specs.Tables.{vertexOf}

@@ -1,6 +1,6 @@
 -- `own_refusal` meets its contract: what the caller met comes first, then the row of the list of twins.
 use mathlib.Core.Path.{sym, _∙_}
-use Rattle.finite.proofs.TableLaws.{met-here, skipped}
+use Rattle.answer.proofs.TableLaws.{met-here, skipped}
 use Rattle.mesh.proofs.PhaseLaws.{given-met, given-none}
 use Rattle.mesh.proofs.phases.own_refusal.Statement.{statement}
 use Rattle.mesh.proofs.phases.own_refusal.Tie as tie

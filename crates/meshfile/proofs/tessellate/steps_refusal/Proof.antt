@@ -5,8 +5,8 @@ use mathlib.Core.List.{[], _∷_}
 use mathlib.Core.Option.{Option, some}
 use Prim.Native.Nat.{ℕ}
 use borrow.Author.Needs.{needs}
-use Rattle.finite.specs.Table.{row}
-use Rattle.finite.proofs.TableLaws.{orElse, result-none, refusal-met}
+use Rattle.answer.specs.Table.{row}
+use Rattle.answer.proofs.TableLaws.{orElse, result-none, refusal-met}
 use Rattle.mesh.specs.IndexedMesh.{IndexedMesh, indexed}
 use Rattle.mesh.specs.Answer.{countsOf, checked, meshRefusal}
 use Rattle.mesh.proofs.PhaseLaws.{refusal-split}

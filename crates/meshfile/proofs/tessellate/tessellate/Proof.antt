@@ -8,7 +8,7 @@ use native.Mathlib.Omega.{arith}
 use lib.IntN.{ℤ}
 use borrow.Author.Tests.{lt-ltb, le-ltb}
 use borrow.Author.Needs.{needs}
-use Rattle.finite.proofs.TableLaws.{result-none, refusal-met}
+use Rattle.answer.proofs.TableLaws.{result-none, refusal-met}
 use Rattle.mesh.specs.IndexedMesh.{IndexedMesh, indexed}
 use Rattle.mesh.specs.Answer.{countsOf, checked, meshRefusal}
 use Rattle.patch.specs.Answer.{patchesShort, patchRows}

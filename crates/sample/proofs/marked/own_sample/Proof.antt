@@ -2,8 +2,8 @@
 use mathlib.Core.Path.{_≡_, sym, ap, _∙_}
 use mathlib.Core.Option.{none}
 use native.Mathlib.Omega.{arith}
-use Rattle.finite.specs.Table.{firstMet, refusalOf}
-use Rattle.finite.proofs.TableLaws.{refusal-some}
+use Rattle.answer.specs.Table.{firstMet, refusalOf}
+use Rattle.answer.proofs.TableLaws.{refusal-some}
 use Rattle.sample.specs.Refusal.{sampleRows}
 use Rattle.sample.proofs.BlendLaws.{steps-at}
 use Rattle.sample.proofs.RefusalLaws.{Allowed, allowed, refused, answered}

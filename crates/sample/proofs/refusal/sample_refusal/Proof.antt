@@ -4,8 +4,8 @@ use mathlib.Core.Path.{_≡_, sym, _∙_}
 use mathlib.Core.Bool.{Bool, false}
 use mathlib.Core.List.{List, [], _∷_}
 use native.Mathlib.Omega.{arith}
-use Rattle.finite.specs.Table.{Row, row}
-use Rattle.finite.proofs.TableLaws.{From, all-rows, row-met, row-passed}
+use Rattle.answer.specs.Table.{Row, row}
+use Rattle.answer.proofs.TableLaws.{From, all-rows, row-met, row-passed}
 use Rattle.sample.specs.Refusal.{controlOff, placeOff, sampleRows}
 use Rattle.sample.proofs.PatchLaws.{patch-off}
 use Rattle.sample.proofs.RefusalLaws.{face-off, face-on}

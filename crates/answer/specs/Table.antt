@@ -11,8 +11,8 @@ use mathlib.Core.Bool.{Bool, cond}
 use mathlib.Core.List.{List, [], _∷_}
 use mathlib.Core.Option.{Option, none, some}
 use Prim.Native.Nat.{ℕ, zero, suc}
-use Rattle.finite.specs.declared.model.Outcome.{Outcome}
-use Rattle.finite.specs.declared.model.Outcome.the-variants.{Done, Refused}
+use Rattle.answer.specs.declared.model.Outcome.{Outcome}
+use Rattle.answer.specs.declared.model.Outcome.the-variants.{Done, Refused}
 
 -- a row of the table
 pub record Row : Type 0 where

@@ -11,7 +11,7 @@ use mathlib.Core.List.{List, [], _∷_, _++_}
 use mathlib.Core.Option.{Option, none, some}
 use Prim.Native.Nat.{ℕ, zero, suc}
 use native.Mathlib.Omega.{arith}
-use Rattle.finite.specs.Table.{Row, row, firstMet, Answer, result, refusal, answerBy, refusalOf}
+use Rattle.answer.specs.Table.{Row, row, firstMet, Answer, result, refusal, answerBy, refusalOf}
 
 -- ---- one row
 module _ (k : ℕ) (m : Option ℕ) {b : Bool} where

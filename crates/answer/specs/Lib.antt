@@ -1,0 +1,2 @@
+-- The definitions of the crate: tables of causes, and answers.
+pub mod Table
