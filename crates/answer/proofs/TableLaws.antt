@@ -3,15 +3,18 @@
 --
 --   From rows rest   what is first met of rows is what is first met of rest, the rows that are not checked yet
 --   orElse m m'    the first of two numbers, where it is there, else the second
+--   Met rows met   `met` is the number of the first cause met of the rows, 0 for none
 --   over g answer  the answer with g of its result, or the same refusal
 --   `firstMet (row b k ∷ rows)` is `cond b (some k) (firstMet rows)`; the laws speak of that form, with m what the rows after it give.
-use mathlib.Core.Path.{_≡_, refl, sym, _∙_}
+use mathlib.Core.Path.{_≡_, refl, sym, ap, _∙_}
 use mathlib.Core.Bool.{Bool, true, false, cond}
 use mathlib.Core.List.{List, [], _∷_, _++_}
 use mathlib.Core.Option.{Option, none, some}
 use Prim.Native.Nat.{ℕ, zero, suc}
+use native.Mathlib.Nat.{suc-ne-zero}
 use native.Mathlib.Omega.{arith}
-use Rattle.answer.specs.Table.{Row, row, firstMet, Answer, result, refusal, answerBy, refusalOf}
+use borrow.Author.Tests.{ne-eqb}
+use Rattle.answer.specs.Table.{Row, row, firstMet, Answer, result, refusal, answerBy, refusalOf, metOr}
 
 -- ---- one row
 module _ (k : ℕ) (m : Option ℕ) {b : Bool} where
@@ -100,3 +103,22 @@ module _ {rows rest : List Row} {b : Bool} {k : ℕ} (l : From rows (row b k ∷
 
   pub row-passed : b ≡ false → From rows rest
   row-passed e = record { same = l .same ∙ rw e }
+
+-- ---- a table that the code checks a row at a time, each by `first_met`
+pub record Met (rows : List Row) (met : ℕ) : Type 0 where
+  pub first : firstMet rows ≡ refusalOf met
+
+pub no-row : Met [] 0
+no-row = record { first = refl }
+
+-- one row more: its cause b is what the code tested, and its number is not 0
+pub next-row : {rows : List Row} {met r k : ℕ} {b b' : Bool} → Met rows met → r ≡ metOr met b' k → b' ≡ b → refusalOf k ≡ some k
+    → Met (rows ++ (row b k ∷ [])) r
+next-row {rows} {met} {r} {k} {b} {b'} m said same some-k = record {
+  first = first-append rows (row b k ∷ []) ∙ ap (λ (x : Option ℕ). orElse x (firstMet (row b k ∷ []))) (m .first) ∙ go met b ∙ sym (ap refusalOf (said ∙ ap (λ (x : Bool). metOr met x k) same));
+}
+  where
+    go : (m : ℕ) (x : Bool) → orElse (refusalOf m) (firstMet (row x k ∷ [])) ≡ refusalOf (metOr m x k)
+    go zero true = sym some-k
+    go zero false = refl
+    go (suc j) x = simp (ne-eqb (suc j) 0 (suc-ne-zero j))

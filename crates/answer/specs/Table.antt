@@ -5,12 +5,14 @@
 --   Answer A             what a call returns: its result, or the number of a refusal
 --   answerBy met a       the refusal that was met, else the result a
 --   writtenBy met before after   a lent list afterwards: as it was before after a refusal, else what was written
---   refusalOf r          a refusal as private functions hand it on: its number, 0 for none
+--   refusalOf r          a refusal as functions hand it on: its number, 0 for none
+--   metOr met cause number   the number of the first cause met after one more row, where `met` says which of the rows before it was
 --   outcome r            the answer of a call without a result, for each case of the code's enum `Outcome`
 use mathlib.Core.Bool.{Bool, cond}
 use mathlib.Core.List.{List, [], _∷_}
 use mathlib.Core.Option.{Option, none, some}
 use Prim.Native.Nat.{ℕ, zero, suc}
+use lib.Dec.{eqb}
 use Rattle.answer.specs.declared.model.Outcome.{Outcome}
 use Rattle.answer.specs.declared.model.Outcome.the-variants.{Done, Refused}
 
@@ -41,6 +43,9 @@ writtenBy (some k) before after = before
 abbrev pub refusalOf : ℕ → Option ℕ
 refusalOf zero = none
 refusalOf (suc k) = some (suc k)
+
+abbrev pub metOr : ℕ → Bool → ℕ → ℕ
+metOr met cause number = cond (eqb met 0) (cond cause number 0) met
 
 abbrev pub outcome : Outcome → Answer Unit
 outcome Done = result tt

@@ -31,7 +31,7 @@ pub fn mirror(
         (now («out_positions» .entry)) (now («out_tags» .entry)) (now («out_faces» .entry)) r
         (now («out_positions» .exit)) (now («out_tags» .exit)) (now («out_faces» .exit)) ⌝ }
 {
-    let answer = mesh::check_alone(v, f, positions, tags, faces);
+    let answer = mesh::check_alone(0, v, f, positions, tags, faces);
     if let Checked::Refused(k) = answer {
         return Outcome::Refused(k);
     }

@@ -22,7 +22,7 @@ use Rattle.corner.specs.Corner.{turn, next}
 use Rattle.mesh.specs.HalfEdge.{edges, boundaries, Simple}
 use Rattle.mesh.specs.Fan.{valence, onBoundary, fan}
 use Rattle.mesh.specs.IndexedMesh.{IndexedMesh, corners, at, tag, coordinate}
-use Rattle.mesh.specs.Refusal.{meshSizesOff, coordinateOff, tagOff, vertexOff, vertexTwice, halfEdgeTwice}
+use Rattle.mesh.specs.Refusal.{meshSizesOff, coordinateOff, tagOff, vertexOff, vertexTwice, halfEdgeTwice, listRows}
 use Rattle.mesh.specs.Refusal.{vertexUnused, fanBroken, valenceOff, innerTagged, entryRows, earlyRows, fanRows, lateRows, Accepted}
 use Rattle.mesh.specs.WellFormed.{Sized, WellFormed}
 use Rattle.mesh.proofs.TwinLaws.{doubled-simple, simple-doubled}
@@ -186,6 +186,13 @@ early-unmet M own early =
     let h₆ = none-met (vertexTwice M) 6 _ (h₅ .1) in
     let h₇ = none-met (halfEdgeTwice M) 7 _ (h₆ .1) in
     record { sizes = h₁ .0; rows = h₂ .0; coordinate = h₃ .0; tag = h₄ .0; vertex = h₅ .0; twice = h₆ .0; half-edge = h₇ .0 }
+
+-- where no row of the lists is met, the faces name known vertices
+pub lists-unmet : (M : IndexedMesh) → firstMet (listRows M) ≡ none → vertexOff M ≡ false
+lists-unmet M e =
+    let h₃ = none-met (coordinateOff M) 3 _ e in
+    let h₄ = none-met (tagOff M) 4 _ (h₃ .1) in
+    none-met (vertexOff M) 5 _ (h₄ .1) .0
 
 -- where no row of the fans is met, the corners at every vertex form one
 pub fans-unmet : (at : ℕ → ℕ) (n v : ℕ) → firstMet (fanRows at n v) ≡ none → (p : ℕ) → p < v → fan at n p ≡ true

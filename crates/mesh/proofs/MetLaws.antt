@@ -1,20 +1,23 @@
 -- Counting the corners that circulating meets tells one closed turn or one chain: they are as many as the corners at the vertex exactly when these
 -- form one of the two. `fan` says the same of one vertex, and row 9 of all.
-use mathlib.Core.Path.{_≡_, sym, ap, _∙_}
+use mathlib.Core.Path.{_≡_, refl, sym, ap, _∙_}
 use mathlib.Core.Bool.{true, false}
 use mathlib.Core.Logic.{_⊎_, inl, inr, ⊎-elim}
+use mathlib.Core.List.{List}
 use Prim.Native.Nat.{ℕ, suc, _-_, _<_}
 use native.Mathlib.Omega.{arith}
+use lib.Dec.{eqb}
 use borrow.Author.Tests.{eq-eqb, eqb-true}
 use Rattle.mesh.specs.HalfEdge.{twin, Simple}
 use Rattle.mesh.specs.Fan.{valence, around, iterate, fan}
 use Rattle.mesh.specs.Refusal.{fanBroken}
-use Rattle.mesh.specs.Tables.{Corners}
+use Rattle.mesh.specs.Tables.{Corners, vertexOf, twinOf, Twinned}
 use Rattle.mesh.specs.Circulation.{backAround, Turn, Circulated, Ordered, ClosedTurn, OneChain}
 use Rattle.mesh.proofs.TurnLaws.{turn-at}
-use Rattle.mesh.proofs.FanLaws.{OneTurn, fan-turning, fan-keeps, fan-means, means-fan, circulated-fan}
+use Rattle.mesh.proofs.FanLaws.{OneTurn, fan-turning, fan-keeps, fan-means, means-fan}
 use Rattle.mesh.proofs.BoundaryLaws.{leaves, leaves-back, enters, enters-back}
 use Rattle.mesh.proofs.AcceptedLaws.{fan-false, fan-none}
+use Rattle.mesh.proofs.ConnectedLaws.{corners-whole, fan-told}
 
 module _ {n : ℕ} (at : ℕ → ℕ) (k : Corners n) (simple : Simple at n) where
   abbrev s : ℕ → ℕ
@@ -80,10 +83,16 @@ module _ {n : ℕ} (at : ℕ → ℕ) (k : Corners n) (simple : Simple at n) whe
   pub ones-whole : (v : ℕ) → ((p : ℕ) → p < v → ClosedTurn at n p ⊎ OneChain at n p) → fanBroken at n v ≡ false
   ones-whole v h = fan-none at n v (λ p l. one-fan p (h p l))
 
-  -- ---- circulating from c meets m corners: they are all the corners at its vertex exactly when these form one closed turn or one chain
-  module _ (c m : ℕ) (w : Circulated (twin at n) n c m) where
-    pub met-all : m ≡ valence at n (at c) → ClosedTurn at n (at c) ⊎ OneChain at n (at c)
-    met-all e = fan-one (at c) (circulated-fan at k simple c m w ∙ eq-eqb m (valence at n (at c)) e)
+-- ---- circulating from c by the listed twins meets m corners: they are all the corners at its vertex exactly when these form one closed turn or one chain
+module _ {faces twins : List ℕ} {n : ℕ} (k : Twinned faces twins n) (c m : ℕ) (w : Circulated (twinOf twins) n c m) where
+  abbrev p : ℕ
+  p = vertexOf faces c
 
-    pub all-met : ClosedTurn at n (at c) ⊎ OneChain at n (at c) → m ≡ valence at n (at c)
-    all-met o = eqb-true m (valence at n (at c)) (sym (circulated-fan at k simple c m w) ∙ one-fan (at c) o)
+  told : eqb m (valence (vertexOf faces) n p) ≡ fan (vertexOf faces) n p
+  told = fan-told k c p refl m w
+
+  pub met-all : m ≡ valence (vertexOf faces) n p → ClosedTurn (vertexOf faces) n p ⊎ OneChain (vertexOf faces) n p
+  met-all e = fan-one (vertexOf faces) (corners-whole k) (k .simple) p (sym told ∙ eq-eqb m (valence (vertexOf faces) n p) e)
+
+  pub all-met : ClosedTurn (vertexOf faces) n p ⊎ OneChain (vertexOf faces) n p → m ≡ valence (vertexOf faces) n p
+  all-met o = eqb-true m (valence (vertexOf faces) n p) (told ∙ one-fan (vertexOf faces) (corners-whole k) (k .simple) p o)

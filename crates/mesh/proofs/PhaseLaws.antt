@@ -1,26 +1,26 @@
 -- From the phases of the check to its answer: the first cause met, what the tables say of a cause, and what passed phases give.
-use mathlib.Core.Path.{_≡_, sym, ap, _∙_}
-use mathlib.Core.Bool.{false, not, cond, _||_}
-use mathlib.Core.List.{List, [], _++_}
+use mathlib.Core.Path.{_≡_, refl, sym, ap, _∙_}
+use mathlib.Core.Bool.{false, _||_}
+use mathlib.Core.List.{List, [], _∷_, _++_}
 use mathlib.Core.Option.{Option, none, some}
-use Prim.Native.Nat.{ℕ, _+_, _*_, _≤_, _<_}
-use native.Mathlib.Nat.{lt-of-lt-of-le}
+use Prim.Native.Nat.{ℕ, zero, suc, _+_, _*_, _≤_, _<_}
+use native.Mathlib.Nat.{lt-of-lt-of-le, suc-ne-zero}
 use native.Mathlib.Omega.{arith}
 use lib.Dec.{eqb, ltb}
 use lib.ListN.{getD}
-use borrow.Author.Tests.{eq-eqb, ne-eqb}
+use borrow.Author.Tests.{ne-eqb}
 use Rattle.finite.specs.Fold.{anyBelow, countBelow, indicator}
 use Rattle.finite.specs.Filled.{filled}
 use Rattle.finite.proofs.FoldLaws.{bool-cases, fold-ext}
-use Rattle.answer.specs.Table.{Row, firstMet, result, refusal, answerBy, refusalOf}
-use Rattle.answer.proofs.TableLaws.{refusal-some, met-here, skipped, orElse, orElse-assoc, first-append, some-append, none-append}
+use Rattle.answer.specs.Table.{Row, firstMet, result, refusal, answerBy}
+use Rattle.answer.proofs.TableLaws.{Met, met-here, skipped, orElse, orElse-assoc, first-append, some-append, none-append}
 use Rattle.limits.specs.Limits.{maxVertices, noTwin}
 use Rattle.corner.specs.Corner.{next}
 use Rattle.mesh.specs.HalfEdge.{twin, edges, boundaries, Simple}
 use Rattle.mesh.specs.IndexedMesh.{IndexedMesh, corners, at}
 use Rattle.mesh.specs.Refusal.{meshSizesOff, entryRows, earlyRows, lateRows}
 use Rattle.mesh.specs.WellFormed.{MeshSized}
-use Rattle.mesh.specs.Answer.{countsOf, meshRefusal, meshAnswer, twinsAfter}
+use Rattle.mesh.specs.Answer.{countsOf, meshRefusal, meshAnswer, twinsAfter, given}
 use Rattle.mesh.proofs.SizeLaws.{mesh-sizes-false, sized-indices, indices-corners}
 use Rattle.mesh.proofs.EdgeLaws.{edges-lead, edges-twice}
 use Rattle.mesh.proofs.AcceptedLaws.{early-unmet, vertex-false, twice-false, half-edge-false}
@@ -69,11 +69,9 @@ early-passed M own e =
 
 -- ---- refusals as the private functions hand them on
 -- a call's row that is met as a number says
-pub given-met : (k : ℕ) (rest : Option ℕ) → (k ≡ 0 → ⊥) → cond (not (eqb k 0)) (some k) rest ≡ refusalOf k
-given-met k rest h = rw (ne-eqb k 0 h) (sym (refusal-some k h))
-
-pub given-none : (k : ℕ) (rest : Option ℕ) → k ≡ 0 → cond (not (eqb k 0)) (some k) rest ≡ rest
-given-none k rest h = rw (eq-eqb k 0 h)
+pub row-given : (k : ℕ) → Met (given k ∷ []) k
+row-given zero = record { first = refl }
+row-given (suc k) = record { first = simp (ne-eqb (suc k) 0 (suc-ne-zero k)) }
 
 -- ---- the answer and the list of twins, by where the first row met stands
 module _ (M : IndexedMesh) (own : List Row) where

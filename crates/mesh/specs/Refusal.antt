@@ -59,14 +59,13 @@ unfoldable pub innerTagged : IndexedMesh → Bool
 innerTagged M = anyBelow (λ p. eqb (tag M p) cornerTag && not (onBoundary (at M) (corners M) p)) (M .vertices)
 
 -- ---- the table
--- the rows of the entries of the lists, and of half-edges: 3 to 7
+-- the rows of the entries of the lists: 3 to 6
+abbrev pub listRows : IndexedMesh → List Row
+listRows M = row (coordinateOff M) 3 ∷ (row (tagOff M) 4 ∷ (row (vertexOff M) 5 ∷ (row (vertexTwice M) 6 ∷ [])))
+
+-- the same and the row of half-edges: 3 to 7
 abbrev pub entryRows : IndexedMesh → List Row
-entryRows M =
-    row (coordinateOff M) 3
-    ∷ (row (tagOff M) 4
-    ∷ (row (vertexOff M) 5
-    ∷ (row (vertexTwice M) 6
-    ∷ (row (halfEdgeTwice M) 7 ∷ []))))
+entryRows M = listRows M ++ (row (halfEdgeTwice M) 7 ∷ [])
 
 -- the rows that are checked before the twins are written: a refusal by one of them touches no list. The rows `own` are the call's own:
 -- whether one of the lists that it was lent is too short (2), and what later calls add there

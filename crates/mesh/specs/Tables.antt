@@ -6,6 +6,7 @@
 --   latest p n        one more than the greatest number below n that has p; 0 for none
 --   Chained at c head link   the corners below c, chained by vertex from the last to the first: `head` has the last
 --                     corner at each vertex, `link` the corner at the same vertex before each corner, both plus 1, 0 for none
+--   Unchained head link   two tables with room for the chains of any mesh, before the first corner is chained
 --   Indices faces n   the first n numbers of the face list are whole faces, and their vertices have places in the tables
 --   Twinned faces twins n   no half-edge of the faces occurs twice, and the first n places of the list of twins hold their twins
 --   Headed faces head n     `head` has the last corner at each vertex, plus 1, 0 for none
@@ -41,6 +42,11 @@ latest p (suc n) = cond (p n) (suc n) (latest p n)
 pub record Chained (at : ℕ → ℕ) (c : ℕ) (head link : List ℕ) : Type 0 where
   pub heads : Holds 0 head maxVertices (λ p. latest (λ d. eqb (at d) p) c)
   pub links : Holds 0 link c (λ e. latest (λ d. eqb (at d) (at e)) e)
+
+pub record Unchained (head link : List ℕ) : Type 0 where
+  pub heads-listed : maxVertices ≤ length head
+  pub links-listed : 4 * maxFaces ≤ length link
+  pub heads-are : Holds 0 head maxVertices (λ p. 0)
 
 pub record Indices (faces : List ℕ) (n : ℕ) : Type 0 where
   pub whole : n % 4 ≡ 0

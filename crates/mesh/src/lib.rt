@@ -11,9 +11,10 @@ use crate::chain::fill_twins;
 use crate::phases::accepted;
 use crate::phases::early_refusal;
 use crate::phases::late_refusal;
-use crate::phases::own_refusal;
+use answer::first_met;
 use limits::model::Checked;
 use limits::model::Mesh;
+use limits::twins_short;
 ghost use mathlib.Core.Path.{_≡_};
 ghost use mathlib.Core.List.{[], _∷_};
 ghost use Rattle.mesh.specs.IndexedMesh.{indexed};
@@ -41,14 +42,22 @@ pub fn check(
     check_after(0, v, f, positions, tags, faces, twins)
 }
 
-// The check of a whole mesh with a list of twins of its own, for calls that lend none.
+// The check of a whole mesh with a list of twins of its own, for calls that lend none: `own` is the number of the first of the call's own causes after 1
+// that is met, 0 for none.
 // Returns: V, F, E and B of an accepted mesh, or the number of the refusal. Writes: nothing.
-// Refuses: as `check`, but for 2, which has no list to speak of.
-pub fn check_alone(v: usize, f: usize, positions: &[i32], tags: &[u8], faces: &[u16]) -> Checked
-    ensures { λ r. ⌜ checked r ≡ meshAnswer (indexed v f (now (positions .entry)) (now (tags .entry)) (now (faces .entry))) [] [] ⌝ }
+// Refuses: as `check_after`, but for 2, which has no list to speak of.
+pub fn check_alone(
+    own: u8,
+    v: usize,
+    f: usize,
+    positions: &[i32],
+    tags: &[u8],
+    faces: &[u16],
+) -> Checked
+    ensures { λ r. ⌜ checked r ≡ meshAnswer (indexed v f (now (positions .entry)) (now (tags .entry)) (now (faces .entry))) (given own ∷ []) [] ⌝ }
 {
     let mut twins = [0u16; 4 * Mesh::MAX_FACES];
-    check_after(0, v, f, positions, tags, faces, &mut twins)
+    check_after(own, v, f, positions, tags, faces, &mut twins)
 }
 
 // The check of a whole mesh for a call that has causes of its own after 1: `own` is the number of the first of them that is met, 0 for none.
@@ -67,7 +76,7 @@ pub fn check_after(
 {
     let mut head = [0u16; Mesh::MAX_VERTICES];
     let mut link = [0u16; 4 * Mesh::MAX_FACES];
-    let first = own_refusal(own, f, twins.len());
+    let first = first_met(own, twins_short(f, twins.len()), 2);
     let early = early_refusal(first, v, f, positions, tags, faces, &mut head, &mut link);
     if early != 0 {
         return Checked::Refused(early);

@@ -6,28 +6,39 @@ use crate::fan::any_inner_tagged;
 use crate::fan::any_valence_off;
 use crate::vertex::any_unused;
 use crate::vertex::count_corners;
+use answer::first_met;
 use entries::any_coordinate_off;
 use entries::any_tag_off;
 use entries::any_vertex_off;
 use entries::any_vertex_twice;
 use limits::model::Mesh;
 use limits::sizes_off;
-use limits::twins_short;
 ghost use mathlib.Core.Path.{_≡_};
-ghost use mathlib.Core.List.{List, [], _∷_};
-ghost use Prim.Native.Nat.{_*_, _≤_};
-ghost use lib.Dec.{ltb};
+ghost use mathlib.Core.List.{List};
+ghost use mathlib.Core.Bool.{true};
+ghost use Prim.Native.Nat.{ℕ, _*_, _≤_, _<_};
 ghost use lib.IntN.{ℤ};
 ghost use lib.ListN.{length};
-ghost use Rattle.answer.specs.Table.{row, firstMet, refusalOf};
-ghost use Rattle.limits.specs.Limits.{maxVertices, maxFaces};
+ghost use Rattle.answer.specs.Table.{firstMet, refusalOf};
+ghost use Rattle.limits.specs.Limits.{maxVertices};
 ghost use Rattle.mesh.specs.HalfEdge.{edges, boundaries};
 ghost use Rattle.mesh.specs.IndexedMesh.{indexed};
-ghost use Rattle.mesh.specs.WellFormed.{Sized};
-ghost use Rattle.mesh.specs.Refusal.{fanRows, lateRows};
-ghost use Rattle.mesh.specs.Answer.{given};
-ghost use Rattle.mesh.specs.Tables.{Holds, vertexOf, Connected, Counted};
+ghost use Rattle.mesh.specs.Fan.{fan};
+ghost use Rattle.mesh.specs.WellFormed.{MeshSized};
+ghost use Rattle.mesh.specs.Refusal.{listRows, fanRows, vertexRows, lateRows};
+ghost use Rattle.mesh.specs.Tables.{vertexOf, Unchained, Connected, Counted};
 ghost use Rattle.mesh.specs.Phases.{EntriesMet, EarlyMet};
+
+// Causes 3 to 6, of lists that have the lengths of the sizes, a row each.
+fn list_refusal(v: usize, f: usize, positions: &[i32], tags: &[u8], faces: &[u16]) -> u8
+    requires { ⌜ MeshSized (indexed v f (now positions) (now tags) (now faces)) ⌝ }
+    ensures { λ r. ⌜ firstMet (listRows (indexed v f (now (positions .entry)) (now (tags .entry)) (now (faces .entry)))) ≡ refusalOf r ⌝ }
+{
+    let met = first_met(0, any_coordinate_off(positions), 3);
+    let met = first_met(met, any_tag_off(tags), 4);
+    let met = first_met(met, any_vertex_off(faces, v), 5);
+    first_met(met, any_vertex_twice(faces), 6)
+}
 
 // Causes 3 to 7, of lists that have the lengths of the sizes. Where none is met, head and link are the chains of all corners afterwards;
 // they come in zeroed.
@@ -40,23 +51,14 @@ fn entry_refusal(
     head: &mut [u16],
     link: &mut [u16],
 ) -> u8
-    requires { ⌜ Sized v f (length (now positions)) (length (now tags)) (length (now faces)) ⌝ }
-    requires { ⌜ (maxVertices ≤ length (now head)) × (4 * maxFaces ≤ length (now link)) × Holds 0 (now head) maxVertices (λ p. 0) ⌝ }
+    requires { ⌜ MeshSized (indexed v f (now positions) (now tags) (now faces)) × Unchained (now head) (now link) ⌝ }
     ensures { λ r. ⌜ EntriesMet (indexed v f (now (positions .entry)) (now (tags .entry)) (now (faces .entry))) (now (head .exit)) (now (link .exit)) r ⌝ }
 {
+    let listed = list_refusal(v, f, positions, tags, faces);
+    if listed != 0 {
+        return listed;
+    }
     let n = 4 * f;
-    if any_coordinate_off(positions) {
-        return 3;
-    }
-    if any_tag_off(tags) {
-        return 4;
-    }
-    if any_vertex_off(faces, v) {
-        return 5;
-    }
-    if any_vertex_twice(faces) {
-        return 6;
-    }
     if link_corners(faces, n, head, link) {
         return 7;
     }
@@ -74,7 +76,7 @@ pub(crate) fn early_refusal(
     head: &mut [u16],
     link: &mut [u16],
 ) -> u8
-    requires { ⌜ (maxVertices ≤ length (now head)) × (4 * maxFaces ≤ length (now link)) × Holds 0 (now head) maxVertices (λ p. 0) ⌝ }
+    requires { ⌜ Unchained (now head) (now link) ⌝ }
     ensures { λ r. ⌜ EarlyMet (indexed v f (now (positions .entry)) (now (tags .entry)) (now (faces .entry))) own (now (head .exit)) (now (link .exit)) r ⌝ }
 {
     if sizes_off(v, f, positions.len(), tags.len(), faces.len()) {
@@ -84,19 +86,6 @@ pub(crate) fn early_refusal(
         return own;
     }
     entry_refusal(v, f, positions, tags, faces, head, link)
-}
-
-// The first of the call's own causes that is met: `own`, where it is not 0, else 2 where there are too few places for the twins of f faces.
-pub(crate) fn own_refusal(own: u8, f: usize, twins: usize) -> u8
-    ensures { λ r. ⌜ firstMet (given own ∷ (row (ltb twins (4 * f)) 2 ∷ [])) ≡ refusalOf r ⌝ }
-{
-    if own != 0 {
-        return own;
-    }
-    if twins_short(f, twins) {
-        return 2;
-    }
-    0
 }
 
 // Causes 8 to 10, of a mesh whose twins are written; head has the last corner at each vertex.
@@ -119,8 +108,17 @@ fn fan_refusal(v: usize, f: usize, faces: &[u16], twins: &[u16], head: &[u16]) -
     0
 }
 
+// Cause 11, of a mesh with a fan at every vertex: the rows of what is listed by vertex. None of them looks at a position.
+fn vertex_refusal(v: usize, f: usize, tags: &[u8], faces: &[u16], twins: &[u16], head: &[u16]) -> u8
+    requires { ⌜ Connected (now faces) (now twins) (now head) (4 * f) × (v ≤ maxVertices) × (v ≤ length (now tags)) ⌝ }
+    requires { ⌜ ((p : ℕ) → p < v → fan (vertexOf (now faces)) (4 * f) p ≡ true) ⌝ }
+    ensures { λ r. ⌜ ((positions : List ℤ) → firstMet (vertexRows (indexed v f positions (now (tags .entry)) (now (faces .entry)))) ≡ refusalOf r) ⌝ }
+{
+    let n = 4 * f;
+    first_met(0, any_inner_tagged(faces, n, v, twins, tags, head), 11)
+}
+
 // Causes 8 to 11, of a mesh that meets none of the earlier ones and whose twins are written; head has the last corner at each vertex.
-// None of them looks at a position.
 pub(crate) fn late_refusal(
     v: usize,
     f: usize,
@@ -136,11 +134,7 @@ pub(crate) fn late_refusal(
     if fans != 0 {
         return fans;
     }
-    let n = 4 * f;
-    if any_inner_tagged(faces, n, v, twins, tags, head) {
-        return 11;
-    }
-    0
+    vertex_refusal(v, f, tags, faces, twins, head)
 }
 
 // The record of an accepted mesh: its counts. Each edge has two half-edges, or one on the boundary: 4F + B = 2E.

@@ -11,7 +11,7 @@ use borrow.Author.Needs.{needs}
 use Rattle.mesh.specs.IndexedMesh.{IndexedMesh, indexed}
 use Rattle.mesh.specs.Refusal.{Accepted}
 use Rattle.mesh.specs.WellFormed.{WellFormed}
-use Rattle.mesh.specs.Answer.{checked}
+use Rattle.mesh.specs.Answer.{checked, meshRefusal}
 use Rattle.mesh.proofs.AcceptedLaws.{accepted-well-formed}
 use Rattle.edit.specs.Mirror.{outputsOff}
 use Rattle.edit.proofs.AnswerLaws.{check-accepted, same-positions, same-tags, same-indices, refused, check-refused, lengths-refused, done}
@@ -49,6 +49,7 @@ module _ (c : tie.After-outputs-off) where
   entry = start checked-at
 
   accepted : Accepted (mesh entry)
+  unfolding meshRefusal
   accepted = check-accepted (mesh entry) (sym (ap checked (c .before .enum-told .given .1)) ∙ checked-at .check-alone .ensures)
 
 -- ---- the answers, in the order of the code
@@ -59,6 +60,7 @@ enum-known-answer : tie.Need-enum-known-answer
 enum-known-answer c = search needs
 
 returns : tie.Need-returns
+unfolding meshRefusal
 returns c =
     let k = asked c in
     let s = start k in

@@ -1,7 +1,7 @@
 -- `check_after` meets its contract: the early group says which of the rows up to 7 is met first; where none is, the twins are written, and the
 -- late group says which of the rows from 8 on is. So the answer is the first row met, or the counts, and the list of twins is as it was lent
 -- (early row), cleared (late row) or filled (no row).
-use mathlib.Core.Path.{_≡_, sym, ap, _∙_}
+use mathlib.Core.Path.{_≡_, refl, sym, ap, _∙_}
 use mathlib.Core.Bool.{not}
 use mathlib.Core.List.{List, _∷_}
 use mathlib.Core.Option.{none}
@@ -14,7 +14,7 @@ use borrow.Author.Tests.{ltb-false}
 use borrow.Author.Needs.{needs}
 use Rattle.answer.specs.Table.{Row, firstMet, refusalOf}
 use Rattle.finite.proofs.FilledLaws.{filled-at, filled-again}
-use Rattle.answer.proofs.TableLaws.{none-met, refusal-some}
+use Rattle.answer.proofs.TableLaws.{none-met, refusal-some, next-row}
 use Rattle.limits.specs.declared.model.Checked.the-variants.{Accepted}
 use Rattle.limits.specs.declared.model.Mesh.{Mesh}
 use Rattle.limits.specs.Limits.{maxVertices}
@@ -23,6 +23,7 @@ use Rattle.mesh.specs.IndexedMesh.{IndexedMesh, indexed, corners, at}
 use Rattle.mesh.specs.Refusal.{earlyRows, lateRows}
 use Rattle.mesh.specs.Answer.{checked, twinsShort, lentRows, given}
 use Rattle.mesh.proofs.PhaseLaws.{Passed, early-passed, answer-early, twins-early, answer-late, twins-late, answer-accepted, twins-accepted}
+use Rattle.mesh.proofs.PhaseLaws.{row-given}
 use Rattle.mesh.proofs.check_after.Statement.{statement}
 use Rattle.mesh.proofs.check_after.Tie as tie
 use Rattle.mesh.specs.Tables.{Holds, Chained, Twinned, Headed}
@@ -38,19 +39,23 @@ module _ (s : tie.Start) where
   abbrev own : List Row
   own = given (s .args .own) ∷ lentRows mesh lent
 
-abbrev entry : tie.After-own-refusal → tie.Start
+-- ---- the call's own rows are checked: what the caller met of its own, then the lent list
+abbrev entry : tie.After-twins-short → tie.Start
 entry c = let k : tie.After-slice-known = c .before in k .before .before .before
+
+own-met : (c : tie.After-first-met) → firstMet (own (entry (c .before))) ≡ refusalOf (c .first-met .result)
+own-met c = next-row (row-given (entry (c .before) .args .own)) (c .first-met .ensures) (c .before .twins-short .ensures) refl .first
 
 -- ---- the early group has answered
 module _ (c : tie.After-early-refusal) where
-  abbrev owned : tie.After-own-refusal
+  abbrev owned : tie.After-first-met
   owned = c .before .before .before
 
   abbrev early-start : tie.Start
-  early-start = entry owned
+  early-start = entry (owned .before)
 
   early : firstMet (earlyRows (mesh early-start) (own early-start)) ≡ refusalOf (c .early-refusal .result)
-  early = c .early-refusal .ensures .first (own early-start) (owned .own-refusal .ensures)
+  early = c .early-refusal .ensures .first (own early-start) (own-met owned)
 
 -- ---- past the early group: no early row is met, and what that gives
 module _ (c : tie.Else1) where
@@ -120,8 +125,11 @@ abbrev met-late : tie.After-clear-twins → tie.Then2
 met-late c = c .before .before
 
 -- ---- the answers, in the order of the code
-own-refusal-requires : tie.Need-own-refusal-requires
-own-refusal-requires c κs = tt
+twins-short-requires : tie.Need-twins-short-requires
+twins-short-requires c κs = tt
+
+first-met-requires : tie.Need-first-met-requires
+first-met-requires c κs = tt
 
 slice-aggregate-early-refusal : tie.Need-slice-aggregate-early-refusal
 slice-aggregate-early-refusal c = search needs
@@ -130,7 +138,8 @@ slice-aggregate-early-refusal-2 : tie.Need-slice-aggregate-early-refusal-2
 slice-aggregate-early-refusal-2 c = search needs
 
 early-refusal-requires : tie.Need-early-refusal-requires
-early-refusal-requires c κs = (omega arith, omega arith, λ p l. getD-replicate maxVertices p 0 0 l)
+early-refusal-requires c κs =
+    record { heads-listed = omega arith; links-listed = omega arith; heads-are = λ p l. getD-replicate maxVertices p 0 0 l }
 
 -- an early row
 returns : tie.Need-returns
@@ -216,7 +225,8 @@ pub check-after-spec : {M : Type 1} → statement M
 check-after-spec =
     tie.close
     (tie.spec
-    own-refusal-requires
+    twins-short-requires
+    first-met-requires
     slice-aggregate-early-refusal
     slice-aggregate-early-refusal-2
     early-refusal-requires
