@@ -1,0 +1,2 @@
+-- The control points that tables by corner tell.
+pub mod Control
