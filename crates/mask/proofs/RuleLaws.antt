@@ -7,7 +7,7 @@ use mathlib.Core.Bool.{Bool, true, false, cond, _||_}
 use Prim.Native.Nat.{ℕ, _+_, _-_, _*_, _≤_, _<_}
 use native.Mathlib.Nat.{mul-pos}
 use native.Mathlib.Omega.{arith}
-use lib.Dec.{eqb, ltb}
+use lib.Dec.{eqb}
 use lib.IntN.{ℤ, pos, _*ℤ_}
 use borrow.Author.Tests.{lt-ltb}
 use Rattle.integer.proofs.Difference.{int, nat, _⊕_, _⊛_, prove-eq}
@@ -55,6 +55,10 @@ rule-boundary tag n = at-most (eqb tag cornerTag || eqb n 1)
     at-most : (fixed : Bool) → cond fixed maxSharpness 0 ≤ maxSharpness
     at-most true = omega arith
     at-most false = omega arith
+
+pub rule-most : (inside : Bool) (tag n : ℕ) → cornerRule inside tag n ≤ maxSharpness + n
+rule-most true tag n = rw (rule-inside tag n) (omega arith)
+rule-most false tag n = omega (arith, rule-boundary tag n)
 
 pub smooth-rule : (n : ℕ) (p ring sharp : ℤ) → 0 < n → Scaled (smoothCornerMask n p ring) (cornerMask (maxSharpness + n) p ring sharp)
 unfolding smoothCornerMask cornerMask
