@@ -2,12 +2,10 @@
 use mathlib.Core.Path.{_≡_, refl, sym, ap, ap₂, _∙_}
 use mathlib.Core.List.{List, _++_, append-assoc, append-nil}
 use Prim.Native.Nat.{ℕ, zero, suc, _+_, _*_, _/_, _%_, _≤_, _<_}
-use native.Mathlib.Nat.{mul-add-div-right, mul-add-mod-self-right, mod-eq-of-lt, div-eq-of-lt, add-mul, mul-le-mul, mul-le-mul-right, le-trans}
+use native.Mathlib.Nat.{mul-add-div-right, mul-add-mod-self-right, mod-eq-of-lt, div-eq-of-lt, add-mul, mul-le-mul-right}
 use native.Mathlib.Omega.{arith}
 use lib.IntN.{ℤ}
 use Rattle.answer.specs.Table.{Answer, result, refusal}
-use Rattle.limits.specs.Limits.{maxFaces}
-use Rattle.sample.specs.Refusal.{maxSteps}
 use Rattle.meshfile.specs.declared.model.Tessellation.{Tessellation}
 use Rattle.listing.specs.Listing.{joined, sampleText, faceText, countsText, listing, lineCount, sampleTextAt, lineAt}
 
@@ -77,9 +75,3 @@ pub place-below : (n faces f b a : ℕ) → a ≤ n → b ≤ n → f < faces �
 place-below n faces f b a la lb lf =
     let row : f * (n + 1) + b + 1 ≤ faces * (n + 1) = omega (arith, add-mul f 1 (n + 1), mul-le-mul-right (n + 1) (let l : f + 1 ≤ faces = omega arith in l)) in
     omega (arith, add-mul (f * (n + 1) + b) 1 (n + 1), mul-le-mul-right (n + 1) row)
-
--- the largest listing has few lines
-pub few-lines : (faces n to : ℕ) → faces ≤ maxFaces → n ≤ maxSteps → to ≤ faces * (n + 1) * (n + 1) → to ≤ maxFaces * (maxSteps + 1) * (maxSteps + 1)
-few-lines faces n to lf ln l =
-    let m : n + 1 ≤ maxSteps + 1 = omega arith in
-    le-trans l (mul-le-mul (mul-le-mul lf m) m)

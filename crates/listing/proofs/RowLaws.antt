@@ -1,45 +1,56 @@
--- The lines of the samples in a buffer: the loop over the points of a row, and the loop over the rows.
+-- Lines in a buffer: a run of them, a loop that stores runs one behind the other, and the same over the lines of a file.
 use mathlib.Core.Path.{_≡_, sym, ap, _∙_, subst}
 use mathlib.Core.List.{List, _++_}
-use Prim.Native.Nat.{ℕ, zero, suc, _+_, _-_, _*_, _≤_, _<_, max}
-use native.Mathlib.Nat.{mul-le-mul-right, le-trans, le-max-left, le-max-right}
+use Prim.Native.Nat.{ℕ, _+_, _-_, _≤_, _<_, max}
+use native.Mathlib.Nat.{le-trans, le-max-right}
 use native.Mathlib.Omega.{arith}
+use lib.Dec.{ltb}
 use lib.IntN.{ℤ}
-use lib.ListN.{length, take, drop}
-use Rattle.answer.specs.Table.{result}
+use lib.ListN.{length, take, drop, length-append, length-take, length-drop}
+use borrow.Author.Tests.{ltb-true, ltb-false}
+use Rattle.answer.specs.Table.{Answer}
+use Rattle.finite.proofs.FoldLaws.{bool-cases}
 use Rattle.meshfile.specs.declared.model.Tessellation.{Tessellation}
 use Rattle.text.specs.Text.{linePlaces, Printed}
-use Rattle.listing.specs.Listing.{joined, sampleText, sampleTextAt, lineAt, Stored, Stretched}
-use Rattle.listing.specs.Place.{index, Placed, Run}
-use Rattle.listing.specs.declared.model.Place.{Place}
+use Rattle.listing.specs.Listing.{joined, lineAt, Stored, handedCount, linesFrom, linesFitting, Stretched}
+use Rattle.listing.specs.Place.{Room, Run}
 use Rattle.listing.specs.declared.model.Lines.{Lines}
-use Rattle.listing.proofs.ListingLaws.{joined-ext, joined-add, text-at, place-below}
-use Rattle.listing.proofs.StretchLaws.{stored-none, stored-length, stored-behind, printed-stored, lt-unless}
+use Rattle.listing.proofs.ListingLaws.{joined-ext, joined-add}
+use Rattle.listing.proofs.FittingLaws.{lt-unless, fitting-is}
+use Rattle.listing.proofs.StretchLaws.{stored-none, stored-length, stored-behind, printed-stored}
 
 -- ---- a run of lines
--- of other texts that are the same
-pub run-ext : {t u : ℕ → List ℕ} {most : ℕ} {before after : List ℕ} {r : Lines} → ((j : ℕ) → j < most → t j ≡ u j) → Run t most before r after
-    → Run u most before r after
-run-ext {t} {u} {most} {before} {after} {r} h s = record {
+-- of other texts that are the same, where more may follow
+pub run-ext : {t u : ℕ → List ℕ} {most end : ℕ} {before after : List ℕ} {r : Lines} → most ≤ end → ((j : ℕ) → j < most → t j ≡ u j)
+    → Run t most before r after → Run u end before r after
+run-ext {t} {u} {most} {end} {before} {after} {r} l h s = record {
   some = s .some;
-  within = s .within;
-  stored =
-      subst (λ (x : List ℕ). Stored x before after (r .length))
-      (joined-ext t u (r .count) (λ j l. h j (omega (arith, l, s .within)))) (s .stored);
+  within = omega (arith, l, s .within);
+  room = λ k q. subst (λ (x : List ℕ). linePlaces ≤ length before - length x) (same k (omega (arith, q))) (s .room k q);
+  stored = subst (λ (x : List ℕ). Stored x before after (r .length)) (same (r .count) (omega arith)) (s .stored);
 }
+  where
+    same : (k : ℕ) → k ≤ r .count → joined t k ≡ joined u k
+    same k q = joined-ext t u k (λ j i. h j (omega (arith, i, q, s .within)))
 
 -- of one line
 pub run-one : (t : ℕ → List ℕ) (most : ℕ) {before after : List ℕ} {r : ℕ} → 0 < most → linePlaces ≤ length before → length after ≡ length before
     → Printed (t 0) before after r → Run t most before (record { count = 1; length = r }) after
 unfolding joined
-run-one t most l room same q = record { some = omega arith; within = l; stored = printed-stored room same q }
+run-one t most {before} l room same q = record {
+  some = omega arith;
+  within = l;
+  room = λ k o. subst (λ (i : ℕ). linePlaces ≤ length before - length (joined t i)) (let z : 0 ≡ k = omega (arith, o) in z) (omega arith);
+  stored = printed-stored room same q;
+}
 
 -- ---- a loop that stores lines
 --   Running text from end before after a at   the lines text 0, text 1, .. with the numbers from `from` up to a, which is no further than `end`, are
---                          stored
+--                          stored, each where the buffer had room for a line
 pub record Running (text : ℕ → List ℕ) (from end : ℕ) (before after : List ℕ) (a at : ℕ) : Type 0 where
   pub on : from ≤ a
   pub within : a ≤ end
+  pub room : (k : ℕ) → k < a - from → Room text (length before) k
   pub stored : Stored (joined text (a - from)) before after at
 
 pub running-start : (text : ℕ → List ℕ) (from end : ℕ) (out : List ℕ) → from ≤ end → Running text from end out out from 0
@@ -47,105 +58,79 @@ unfolding joined
 running-start text from end out l = record {
   on = omega arith;
   within = l;
+  room = λ k q. absurd (omega (arith, q));
   stored = subst (λ (k : ℕ). Stored (joined text k) out out 0) (let z : 0 ≡ from - from = omega arith in z) (stored-none out);
 }
 
 module _ {text : ℕ → List ℕ} {from end : ℕ} {before after : List ℕ} {a at : ℕ} (g : Running text from end before after a at) where
+  -- what is stored ends within the buffer
+  pub running-ends : at ≤ length after
+  running-ends = omega (arith, g .stored .length-is, g .stored .fits, stored-length (g .stored))
+
+  -- behind what is stored the buffer has as much room as behind the lines
+  room-left : length after - at ≡ length before - length (joined text (a - from))
+  room-left = omega (arith, g .stored .length-is, stored-length (g .stored))
+
   -- a run more, in the part behind what is stored
-  pub running-more : (k : List ℕ) (r : Lines) {most : ℕ} → a + r .count ≤ end
-      → Run (λ j. text (a - from + j)) most (take (length after - at) (drop at after)) r k
-      → Running text from end before (take at after ++ (k ++ drop (length after - at) (drop at after))) (a + r .count) (at + r .length)
-  running-more k r l run = record {
-    on = omega (arith, g .on);
-    within = l;
-    stored =
-        subst (λ (x : List ℕ). Stored x before (take at after ++ (k ++ drop (length after - at) (drop at after))) (at + r .length))
-        (sym (joined-add text (a - from) (r .count)) ∙ ap (joined text) (let z : a - from + r .count ≡ a + r .count - from = omega (arith, g .on) in z))
-        (stored-behind (g .stored) (run .stored));
-  }
+  module _ (k : List ℕ) (r : Lines) {most : ℕ} (run : Run (λ j. text (a - from + j)) most (take (length after - at) (drop at after)) r k) where
+    room-more : (i : ℕ) → i < r .count → Room text (length before) (a - from + i)
+    room-more i l =
+        let part : length (take (length after - at) (drop at after)) ≡ length after - at = rw (length-take, length-drop) (omega arith) in
+        rw (joined-add, length-append) (omega (arith, run .room i l, part, room-left))
+
+    pub running-more : a + r .count ≤ end
+        → Running text from end before (take at after ++ (k ++ drop (length after - at) (drop at after))) (a + r .count) (at + r .length)
+    running-more l = record {
+      on = omega (arith, g .on);
+      within = l;
+      room = λ i q.
+          bool-cases (ltb i (a - from))
+          (λ e. g .room i (ltb-true i (a - from) e))
+          (λ e.
+          let far : a - from ≤ i = ltb-false i (a - from) e in
+          subst (λ (j : ℕ). Room text (length before) j) (let z : a - from + (i - (a - from)) ≡ i = omega (arith, far) in z)
+          (room-more (i - (a - from)) (omega (arith, far, q, g .on))));
+      stored =
+          subst (λ (x : List ℕ). Stored x before (take at after ++ (k ++ drop (length after - at) (drop at after))) (at + r .length))
+          (sym (joined-add text (a - from) (r .count)) ∙ ap (joined text) (let z : a - from + r .count ≡ a + r .count - from = omega (arith, g .on) in z))
+          (stored-behind (g .stored) (run .stored));
+    }
 
   -- where not even one line was stored, the buffer has no room for one
   pub running-stuck : from ≡ a → linePlaces ≤ length before → length after - at < linePlaces → ⊥
   unfolding joined
   running-stuck e room tight =
-      let none : at ≡ 0 = g .stored .length-is ∙ ap (λ (k : ℕ). length (joined text k)) (let z : a - from ≡ 0 = omega (arith, e) in z) in
-      omega (arith, none, tight, room, stored-length (g .stored))
+      let none : length (joined text (a - from)) ≡ 0 = ap (λ (k : ℕ). length (joined text k)) (let z : a - from ≡ 0 = omega (arith, e) in z) in
+      omega (arith, none, tight, room, room-left)
 
   pub running-end : (from ≡ a → ⊥) → Run text (end - from) before (record { count = a - from; length = at }) after
   running-end moved = record {
     some = let l : from < a = lt-unless (g .on) moved in omega (arith, l);
     within = omega (arith, g .within, g .on);
+    room = g .room;
     stored = g .stored;
   }
 
--- ---- a loop over the rows
---   Going ..    the lines from `line` up to `to` are stored, and p is the place of the next sample
-abbrev lastLine : ℕ → ℕ → ℕ → ℕ
-lastLine n faces line = max line (1 + faces * (n + 1) * (n + 1))
+-- ---- a loop that stores the lines of a file from one on
+module _ (answer : Answer Tessellation) (patches : List ℤ) (line : ℕ) {lines : ℕ} {before after : List ℕ} {to at : ℕ} (is : lines ≡ handedCount answer)
+    (g : Running (linesFrom answer patches line) line (max line lines) before after to at) where
+  -- a run of the lines from `to` on
+  pub running-lines : (k : List ℕ) (r : Lines) → to < lines
+      → Run (linesFrom answer patches to) (handedCount answer - to) (take (length after - at) (drop at after)) r k
+      → Running (linesFrom answer patches line) line (max line lines) before (take at after ++ (k ++ drop (length after - at) (drop at after)))
+      (to + r .count) (at + r .length)
+  running-lines k r l run =
+      running-more g k r
+      (run-ext {end = handedCount answer - to} (omega arith)
+      (λ j _. ap (lineAt answer patches) (let z : to + j ≡ line + (to - line + j) = omega (arith, g .on) in z)) run)
+      (le-trans (let z : to + r .count ≤ lines = omega (arith, run .within, is, l) in z) (le-max-right line lines))
 
-pub record Going (patches : List ℤ) (n faces line : ℕ) (before after : List ℕ) (p : Place) (to at : ℕ) : Type 0 where
-  pub placed : Placed n p
-  pub here : suc (index n p) ≡ to
-  pub running : Running (λ j. sampleTextAt patches n (line - 1 + j)) line (lastLine n faces line) before after to at
-
-pub going-start : (patches : List ℤ) (n faces line : ℕ) (out : List ℕ) (p : Place) → 0 < line → Placed n p → index n p ≡ line - 1
-    → Going patches n faces line out out p line 0
-going-start patches n faces line out p some placed e =
-    record { placed = placed; here = omega arith; running = running-start _ line _ out (le-max-left line (1 + faces * (n + 1) * (n + 1))) }
-
-module _ {patches : List ℤ} {n faces line : ℕ} {before after : List ℕ} {p : Place} {to at : ℕ} (g : Going patches n faces line before after p to at) where
-  -- so many lines more of this row end within the lines of the faces
-  pub going-fits : p .face < faces → (count : ℕ) → 0 < count → count ≤ n + 1 - p .a → to + count ≤ 1 + faces * (n + 1) * (n + 1)
-  going-fits l count some within =
-      omega (arith, g .here, place-below n faces (p .face) (p .b) (p .a + count - 1) (omega (arith, g .placed .a-within)) (g .placed .b-within) l)
-
-  -- the lines from p to the end of its row, by their numbers
-  row-text : 0 < line → (j : ℕ) → j < n + 1 - p .a → sampleText patches n (p .face) (p .b) (p .a + j) ≡ sampleTextAt patches n (line - 1 + (to - line + j))
-  row-text some j l =
-      sym (text-at patches n (p .face) (p .b) (p .a + j) (g .placed .b-within) (omega (arith, l)))
-      ∙ ap (sampleTextAt patches n)
-      (let z : (p .face * (n + 1) + p .b) * (n + 1) + (p .a + j) ≡ line - 1 + (to - line + j) = omega (arith, g .here, g .running .on) in z)
-
-  pub going-more : (k : List ℕ) (r : Lines) (p' : Place) → 0 < line → p .face < faces
-      → Run (λ j. sampleText patches n (p .face) (p .b) (p .a + j)) (n + 1 - p .a) (take (length after - at) (drop at after)) r k
-      → Placed n p' → index n p' ≡ to + r .count - 1
-      → Going patches n faces line before (take at after ++ (k ++ drop (length after - at) (drop at after))) p' (to + r .count) (at + r .length)
-  going-more k r p' some l run placed e = record {
-    placed = placed;
-    here = omega (arith, e, run .some);
-    running =
-        running-more (g .running) k r
-        (le-trans (going-fits l (r .count) (run .some) (run .within)) (le-max-right line (1 + faces * (n + 1) * (n + 1))))
-        (run-ext (row-text some) run);
-  }
-
-  -- where no face is left there is no line
-  pub going-no-face : faces ≤ p .face → line ≡ to → line < 1 + faces * (n + 1) * (n + 1) → ⊥
-  going-no-face l e more =
-      let beyond : faces * (n + 1) * (n + 1) ≤ (p .face * (n + 1) + p .b) * (n + 1) =
-      mul-le-mul-right (n + 1) (let row : faces * (n + 1) ≤ p .face * (n + 1) + p .b = omega (arith, mul-le-mul-right (n + 1) l) in row) in
-      omega (arith, beyond, g .here, e, more)
-
--- the lines by their numbers in the file
-line-later : (t : Tessellation) (patches : List ℤ) (line j : ℕ) → 0 < line
-    → lineAt (result t) patches (line + j) ≡ sampleTextAt patches (t .steps) (line - 1 + j)
-line-later t patches zero j some = absurd (omega arith)
-line-later t patches (suc i) j some =
-    ap (lineAt (result t) patches) (let e : suc i + j ≡ suc (i + j) = omega arith in e)
-    ∙ ap (sampleTextAt patches (t .steps)) (let e : i + j ≡ suc i - 1 + j = omega arith in e)
-
--- where a further line would have no room, or there is none, the stretch is whole
-pub going-end : (t : Tessellation) {patches : List ℤ} {line : ℕ} {before after : List ℕ} {p : Place} {to at : ℕ} → 0 < line
-    → Going patches (t .steps) (t .mesh .faces) line before after p to at
-    → (line ≡ to → line < 1 + t .mesh .faces * (t .steps + 1) * (t .steps + 1) → linePlaces ≤ length before → ⊥)
-    → Stretched (result t) patches line before (record { line = to; length = at }) after
-going-end t {patches} {line} {before} {after} {p} {to} {at} some g stuck = record {
-  on = g .running .on;
-  within = g .running .within;
-  stored =
-      subst (λ (x : List ℕ). Stored x before after at)
-      (joined-ext (λ j. sampleTextAt patches (t .steps) (line - 1 + j)) (λ j. lineAt (result t) patches (line + j)) (to - line)
-      (λ j _. sym (line-later t patches line j some)))
-      (g .running .stored);
-  some = λ _ more room. lt-unless (g .running .on) (λ e. stuck e more room);
-}
+  -- where no line is left, or the buffer has no room for one, the stretch is whole
+  pub running-stretched : (to < lines → length after - at < linePlaces) → Stretched answer patches line before (record { line = to; length = at }) after
+  running-stretched full =
+      record { line-is = omega (arith, g .on, count); stored = subst (λ (n : ℕ). Stored (joined (linesFrom answer patches line) n) before after at) count (g .stored) }
+    where
+      count : to - line ≡ linesFitting answer patches line (length before)
+      count =
+          fitting-is (linesFrom answer patches line) (handedCount answer - line) (length before) (to - line) (omega (arith, g .within, is))
+          (g .room) (λ l. omega (arith, full (omega (arith, l, is)), room-left g))

@@ -1,24 +1,22 @@
 -- Stretches of lines in a buffer: what is stored, and that the stretches, one behind the other, are the listing.
-use mathlib.Core.Path.{_≡_, refl, sym, ap, ap₂, _∙_, subst}
-use mathlib.Core.Bool.{Bool, true, false, cond}
-use mathlib.Core.Logic.{⊎-elim}
-use mathlib.Core.List.{List, [], _∷_, _++_, append-assoc, append-nil}
+use mathlib.Core.Path.{_≡_, refl, sym, ap, ap₂, _∙_}
+use mathlib.Core.Bool.{false}
+use mathlib.Core.List.{List, [], _++_, append-assoc, append-nil}
 use Prim.Native.Nat.{ℕ, _+_, _-_, _≤_, _<_}
-use native.Mathlib.Nat.{le-trans, eq-or-lt-of-le, le-max-left, le-max-right, max-le, le-refl}
 use native.Mathlib.Omega.{arith}
-use lib.Dec.{eqb, ltb}
+use lib.Dec.{ltb}
 use lib.IntN.{ℤ}
 use lib.ListN.{length, take, drop, length-append, length-drop, drop-of-length-le}
 use lib.Seq.{take-append-seam, drop-append-seam, drop-drop, take-all}
-use borrow.Author.Tests.{le-ltb, ltb-true, ltb-false, ne-eqb}
+use borrow.Author.Tests.{le-ltb}
 use Rattle.answer.specs.Table.{Answer}
-use Rattle.finite.proofs.FoldLaws.{bool-cases}
 use Rattle.meshfile.specs.declared.model.Tessellation.{Tessellation}
-use Rattle.text.specs.Text.{decimal, countsLine, refusalLine, linePlaces, Printed}
+use Rattle.text.specs.Text.{linePlaces, Printed}
 use Rattle.text.proofs.TextLaws.{printed-within}
-use Rattle.listing.specs.Listing.{joined, listing, lineCount, lineAt, Stored, Printable, Stretched}
+use Rattle.listing.specs.Listing.{joined, listing, lineCount, lineAt, Stored, handedCount, linesFrom, Stretched}
 use Rattle.listing.specs.declared.model.Stretch.{Stretch}
 use Rattle.listing.proofs.ListingLaws.{joined-add, lines-listing}
+use Rattle.listing.proofs.FittingLaws.{fitting-within, fitting-some}
 
 -- ---- what stands at the front of a buffer
 pub stored-none : (l : List ℕ) → Stored [] l l 0
@@ -69,77 +67,15 @@ stored-behind {t} {l} {m} {u} {k} {p} {r} s q = record {
         ∙ sym (append-assoc t u (drop (length u) (drop (length t) l)))
         ∙ ap (λ (x : List ℕ). (t ++ u) ++ x) (drop-drop (length u) (length t) l ∙ ap (λ (i : ℕ). drop i l) (sym (length-append t u)))
 
--- a stretch of one line, the next one, in an empty buffer: it is stored where it has room
-pub one-stored : (answer : Answer Tessellation) (patches : List ℤ) (u : List ℕ) {before after : List ℕ} {r : ℕ}
-    → lineAt answer patches 0 ≡ u → 1 ≤ lineCount answer → (length u ≡ 0 → ⊥) → length after ≡ length before → Printed u before after r
-    → Stretched answer patches 0 before (record { line = cond (eqb r 0) 0 1; length = r }) after
-unfolding joined
-one-stored answer patches u {before} {after} {r} is more filled same q =
-    bool-cases (ltb (length before) linePlaces) (λ e. short e) (λ e. long e)
-  where
-    short : ltb (length before) linePlaces ≡ true → Stretched answer patches 0 before (record { line = cond (eqb r 0) 0 1; length = r }) after
-    short e =
-        let none : r ≡ 0 = q .places ∙ rw e in
-        let kept : after ≡ before = q .list ∙ rw e in
-        rw (none, kept) (record {
-          on = omega arith;
-          within = omega arith;
-          stored = stored-none before;
-          some = λ _ _ room. absurd (omega (arith, ltb-true (length before) linePlaces e, room));
-        })
-
-    long : ltb (length before) linePlaces ≡ false → Stretched answer patches 0 before (record { line = cond (eqb r 0) 0 1; length = r }) after
-    long e =
-        let whole : r ≡ length u = q .places ∙ rw e in
-        let line : _≡_ {A = ℕ} (cond (eqb r 0) 0 1) 1 = ap (λ (b : Bool). cond b 0 1) (ne-eqb r 0 (λ z. filled (sym whole ∙ z))) in
-        rw line (record {
-          on = omega arith;
-          within = le-trans more (le-max-right 0 (lineCount answer));
-          stored = rw is (printed-stored (ltb-false (length before) linePlaces e) same q);
-          some = λ _ _ _. omega arith;
-        })
-
--- a line has at least its end
-pub refusal-filled : (k : ℕ) → length (refusalLine k) ≡ 0 → ⊥
-unfolding refusalLine
-refusal-filled k e = omega (arith, e)
-
-pub counts-filled : (v f e b : ℕ) → length (countsLine v f e b) ≡ 0 → ⊥
-unfolding countsLine
-counts-filled v f e b q = omega (arith, q, length-append (decimal v) (32 ∷ (decimal f ++ (32 ∷ (decimal e ++ (32 ∷ (decimal b ++ (10 ∷ []))))))))
-
--- nothing is left, or nothing can be handed out
-pub nothing-more : (answer : Answer Tessellation) (patches : List ℤ) (line : ℕ) (out : List ℕ)
-    → (Printable answer → line < lineCount answer → ⊥) → Stretched answer patches line out (record { line = line; length = 0 }) out
-unfolding joined
-nothing-more answer patches line out end = record {
-  on = omega arith;
-  within = le-max-left line (lineCount answer);
-  stored = rw (let e : line - line ≡ 0 = omega arith in e) (stored-none out);
-  some = λ able more _. absurd (end able more);
-}
-
--- a stretch by an answer that is known
-pub stretched-as : {a b : Answer Tessellation} {patches : List ℤ} {line : ℕ} {before after : List ℕ} {r : Stretch} → a ≡ b
-    → Stretched a patches line before r after → Stretched b patches line before r after
-stretched-as {patches = patches} {line = line} {before = before} {after = after} {r = r} e s =
-    subst (λ (x : Answer Tessellation). Stretched x patches line before r after) e s
-
-pub lt-unless : {a b : ℕ} → a ≤ b → (a ≡ b → ⊥) → a < b
-lt-unless {a} {b} l h = ⊎-elim (λ e. absurd (h e)) (λ q. q) (eq-or-lt-of-le l)
-
--- ---- a loop over the stretches: where one has bytes, it leads on, and no further than to the end
+-- ---- a loop over the stretches: each leads on where a line and room are left, and none leads beyond the last line
 module _ {answer : Answer Tessellation} {patches : List ℤ} {line : ℕ} {before after : List ℕ} {r : Stretch}
     (s : Stretched answer patches line before r after) where
-  pub leads-on : (r .length ≡ 0 → ⊥) → line < r .line
-  unfolding joined
-  leads-on some =
-      lt-unless (s .on) (λ e.
-      some (s .stored .length-is
-      ∙ ap (λ (k : ℕ). length (joined (λ j. lineAt answer patches (line + j)) k)) (let z : r .line - line ≡ 0 = omega (arith, e) in z)))
+  pub leads-on : line < handedCount answer → linePlaces ≤ length before → line < r .line
+  leads-on more room =
+      omega (arith, s .line-is, fitting-some (linesFrom answer patches line) (handedCount answer - line) (length before) (omega arith) room)
 
-  pub leads-within : line ≤ lineCount answer → r .line ≤ lineCount answer
-  leads-within l = le-trans (s .within) (max-le l (le-refl (lineCount answer)))
+  pub leads-within : line ≤ handedCount answer → r .line ≤ handedCount answer
+  leads-within l = omega (arith, s .line-is, fitting-within (linesFrom answer patches line) (handedCount answer - line) (length before))
 
   pub stretch-fits : r .length ≤ length before
   stretch-fits = omega (arith, s .stored .length-is, s .stored .fits)
@@ -158,10 +94,10 @@ pub stretches-lines : (answer : Answer Tessellation) (patches : List ℤ) (line 
     → t ≡ joined (lineAt answer patches) line
 unfolding joined
 stretches-lines answer patches line t begun = refl
-stretches-lines answer patches line t (further {line = i} {t = u} {r = r} h s) =
+stretches-lines answer patches line t (further {line = i} {t = u} h s) =
     ap₂ _++_ (stretches-lines answer patches i u h) (taken (s .stored))
-    ∙ sym (joined-add (lineAt answer patches) i (r .line - i))
-    ∙ ap (joined (lineAt answer patches)) (let e : i + (r .line - i) ≡ r .line = omega (arith, s .on) in e)
+    ∙ sym (joined-add (lineAt answer patches) i _)
+    ∙ ap (joined (lineAt answer patches)) (sym (s .line-is))
 
 -- and at the end the listing
 pub stretches-listing : (answer : Answer Tessellation) (patches : List ℤ) (t : List ℕ) → Stretches answer patches (lineCount answer) t

@@ -9,15 +9,21 @@
 --   lineCount answer, lineAt answer patches i   how many lines that is, and line i. proofs/ListingLaws.antt: the lines, one behind the other, are
 --                          the listing
 --   Stored t before after r   the text t stands at the front of a list, which is as it was behind it; r is its length
---   Printable answer       the sizes are those of an accepted mesh and its N
---   Stretched answer patches line before r after   what was put into a buffer: the lines from `line` on, as many as `r .line` says, and at least one
---                          where there is one and the buffer has room for it
+--   handedCount answer     how many lines are handed out: all of them, where F and N are within their upper limits
+--   fitting text left places   how many of the texts text 0, text 1, .., text (left - 1) are put into so many places: the least number j such that fewer
+--                          than 128 are left behind the first j of them; all of them, where none is such
+--   linesFrom, linesFitting   the lines of a file from one on, and how many of them are put into so many places
+--   Stretched answer patches line before r after   what was put into a buffer: the lines from `line` on, as many as fit, and the number of the next one
 use mathlib.Core.Path.{_≡_}
+use mathlib.Core.Bool.{cond, _&&_}
+use mathlib.Core.Option.{Option·getD}
 use mathlib.Core.List.{List, [], _++_}
-use Prim.Native.Nat.{ℕ, zero, suc, _+_, _-_, _*_, _/_, _%_, _≤_, _<_, max}
+use Prim.Native.Nat.{ℕ, zero, suc, _+_, _-_, _*_, _/_, _%_, _≤_}
+use lib.Dec.{leb, ltb}
 use lib.IntN.{ℤ}
 use lib.ListN.{length, drop}
 use Rattle.answer.specs.Table.{Answer, result, refusal}
+use Rattle.finite.specs.Fold.{leastBelow}
 use Rattle.limits.specs.Limits.{maxFaces}
 use Rattle.sample.specs.Refusal.{maxSteps}
 use Rattle.sample.specs.Answer.{sampleAnswer}
@@ -65,12 +71,20 @@ pub record Stored (t before after : List ℕ) (r : ℕ) : Type 0 where
   pub fits : length t ≤ length before
   pub list : after ≡ t ++ drop (length t) before
 
-abbrev pub Printable : Answer Tessellation → Type 0
-Printable (result t) = (t .mesh .faces ≤ maxFaces) × (t .steps ≤ maxSteps)
-Printable (refusal k) = Unit
+-- the line of counts alone where a size is above its limit, as in no answer of opening a file
+abbrev pub handedCount : Answer Tessellation → ℕ
+handedCount (result t) = cond (leb (t .mesh .faces) maxFaces && leb (t .steps) maxSteps) (lineCount (result t)) 1
+handedCount (refusal k) = 1
+
+abbrev pub linesFrom : Answer Tessellation → List ℤ → ℕ → ℕ → List ℕ
+linesFrom answer patches line j = lineAt answer patches (line + j)
+
+unfoldable pub fitting : (ℕ → List ℕ) → ℕ → ℕ → ℕ
+fitting text left places = Option·getD (leastBelow (λ j. ltb (places - length (joined text j)) linePlaces) left) left
+
+abbrev pub linesFitting : Answer Tessellation → List ℤ → ℕ → ℕ → ℕ
+linesFitting answer patches line places = fitting (linesFrom answer patches line) (handedCount answer - line) places
 
 pub record Stretched (answer : Answer Tessellation) (patches : List ℤ) (line : ℕ) (before : List ℕ) (r : Stretch) (after : List ℕ) : Type 0 where
-  pub on : line ≤ r .line
-  pub within : r .line ≤ max line (lineCount answer)
-  pub stored : Stored (joined (λ j. lineAt answer patches (line + j)) (r .line - line)) before after (r .length)
-  pub some : Printable answer → line < lineCount answer → linePlaces ≤ length before → line < r .line
+  pub line-is : r .line ≡ line + linesFitting answer patches line (length before)
+  pub stored : Stored (joined (linesFrom answer patches line) (linesFitting answer patches line (length before))) before after (r .length)

@@ -1,7 +1,6 @@
-// The lines of the samples of a mesh, in their order: row by row, a row being the samples of one face and one b.
+// The lines of a mesh, in their order: the counts, then row by row the samples, a row being those of one face and one b.
 use crate::model::Lines;
 use crate::model::Place;
-use crate::model::Stretch;
 use answer::model::Outcome;
 use line::model::MAX_LINE;
 use meshfile::model::Tessellation;
@@ -10,11 +9,10 @@ ghost use mathlib.Core.Path.{_≡_};
 ghost use Prim.Native.Nat.{_+_, _-_, _≤_, _<_};
 ghost use lib.ListN.{length};
 ghost use Rattle.answer.specs.Table.{result};
-ghost use Rattle.limits.specs.Limits.{maxFaces};
 ghost use Rattle.sample.specs.Refusal.{maxSteps};
 ghost use Rattle.line.specs.Line.{lineLength, pointIn};
 ghost use Rattle.text.specs.Text.{linePlaces};
-ghost use Rattle.listing.specs.Listing.{lineOf, sampleText, Stretched};
+ghost use Rattle.listing.specs.Listing.{lineOf, sampleText, handedCount, linesFrom};
 ghost use Rattle.listing.specs.Place.{index, Placed, Run};
 
 // The place of sample i.
@@ -33,7 +31,7 @@ fn place_of(n: usize, i: usize) -> Place
 
 // The lines of the points of a row from p on, as many as have room.
 fn point_lines(points: &[i32], n: usize, p: Place, out: &mut [u8]) -> Lines
-    requires { ⌜ Placed n p × (n ≤ maxSteps) × (lineLength n ≤ length (now points)) × (linePlaces ≤ length (now out)) ⌝ }
+    requires { ⌜ Placed n p × (lineLength n ≤ length (now points)) × (linePlaces ≤ length (now out)) ⌝ }
     ensures { λ r. ⌜ Run (λ j. lineOf (result (pointIn (now (points .entry)) (p .a + j))) (p .face) (p .a + j) (p .b)) (n + 1 - p .a)
         (now (out .entry)) r (now (out .exit)) ⌝ }
 {
@@ -54,7 +52,7 @@ fn point_lines(points: &[i32], n: usize, p: Place, out: &mut [u8]) -> Lines
 
 // The lines of the samples of a row from p on, as many as have room; of a refused row the line of one sample.
 fn row_lines(patches: &[i32], n: usize, p: Place, out: &mut [u8]) -> Lines
-    requires { ⌜ Placed n p × (n ≤ maxSteps) × (linePlaces ≤ length (now out)) ⌝ }
+    requires { ⌜ Placed n p × (linePlaces ≤ length (now out)) ⌝ }
     ensures { λ r. ⌜ Run (λ j. sampleText (now (patches .entry)) n (p .face) (p .b) (p .a + j)) (n + 1 - p .a)
         (now (out .entry)) r (now (out .exit)) ⌝ }
 {
@@ -68,24 +66,18 @@ fn row_lines(patches: &[i32], n: usize, p: Place, out: &mut [u8]) -> Lines
     }
 }
 
-// The next stretch of the lines of samples of an accepted file.
-pub(crate) fn sample_lines(t: Tessellation, patches: &[i32], line: usize, out: &mut [u8]) -> Stretch
-    requires { ⌜ (0 < line) × (t .mesh .faces ≤ maxFaces) × (t .steps ≤ maxSteps) ⌝ }
-    ensures { λ r. ⌜ Stretched (result t) (now (patches .entry)) line (now (out .entry)) r (now (out .exit)) ⌝ }
+// Lines of an accepted file from `line` on, at least one: that of the counts, or those of a row of samples.
+pub(crate) fn mesh_lines(t: Tessellation, patches: &[i32], line: usize, out: &mut [u8]) -> Lines
+    requires { ⌜ (line < handedCount (result t)) × (linePlaces ≤ length (now out)) ⌝ }
+    ensures { λ r. ⌜ Run (linesFrom (result t) (now (patches .entry)) line) (handedCount (result t) - line)
+        (now (out .entry)) r (now (out .exit)) ⌝ }
 {
-    let n = t.steps;
-    let faces = t.mesh.faces;
-    let mut p = place_of(n, line - 1);
-    let mut to = line;
-    let mut at: usize = 0;
-    while p.face < faces && LINE_PLACES <= out.len() - at {
-        let row = row_lines(patches, n, p, &mut out[at..]);
-        at += row.length;
-        to += row.count;
-        p = place_of(n, to - 1);
+    if line == 0 {
+        let m = t.mesh;
+        return Lines {
+            count: 1,
+            length: text::counts_line(m.vertices, m.faces, m.edges, m.boundary, out),
+        };
     }
-    Stretch {
-        line: to,
-        length: at,
-    }
+    row_lines(patches, t.steps, place_of(t.steps, line - 1), out)
 }

@@ -7,7 +7,10 @@ use decoding::model::Header;
 use libc::STDOUT_FILENO;
 use limits::model::Mesh;
 use meshfile::model::Opened;
+ghost use Prim.Native.Nat.{_≤_};
+ghost use lib.ListN.{length};
 ghost use Rattle.meshfile.specs.Answer.{FileOpened};
+ghost use Rattle.text.specs.Text.{linePlaces};
 
 // The places that the patches of the largest mesh take up: a list of so many is never too short.
 pub const PATCH_PLACES: usize = 48 * Mesh::MAX_FACES;
@@ -16,19 +19,20 @@ pub const PATCH_PLACES: usize = 48 * Mesh::MAX_FACES;
 pub const FILE_PLACES: usize = Header::MAX_BYTES + 1;
 
 // Writes the stretches of the text one after the other, up to its end or to the first write that is not taken whole, and answers whether all were.
-fn write_stretches(answer: Opened, patches: &[i32], out: &mut [u8]) -> bool {
+fn write_stretches(answer: Opened, patches: &[i32], out: &mut [u8]) -> bool
+    requires { ⌜ linePlaces ≤ length (now out) ⌝ }
+{
+    let lines = listing::line_count(answer);
     let mut line: usize = 0;
-    loop {
+    while line < lines {
         let next = listing::stretch(answer, patches, line, out);
         let end = next.length;
-        if end == 0 {
-            return true;
-        }
         if !io::write_all(STDOUT_FILENO, &out[..end]) {
             return false;
         }
         line = next.line;
     }
+    true
 }
 
 // Prints the text of a file: of an accepted mesh the counts and then the samples, face by face, in each by rows of one b and along a row by a; of any other the

@@ -26,7 +26,11 @@ returns : tie.Need-returns
 returns c =
     let i = c .args .i in
     let m = c .args .n + 1 in (
-      record { a-within = omega (arith, mod-lt i {m = m} (omega arith)); b-within = omega (arith, mod-lt (i / m) {m = m} (omega arith)) },
+      record {
+        a-within = omega (arith, mod-lt i {m = m} (omega arith));
+        b-within = omega (arith, mod-lt (i / m) {m = m} (omega arith));
+        steps-few = c .pre;
+      },
       ap (λ (r : ℕ). r * m + i % m) (div-add-mod' (i / m) m) ∙ div-add-mod' i m,
     )
 

@@ -19,7 +19,7 @@ use Rattle.text.proofs.TextLaws.{printed-within}
 use Rattle.listing.specs.Listing.{lineOf}
 use Rattle.listing.specs.declared.model.Place.{Place}
 use Rattle.listing.proofs.StretchLaws.{stored-length}
-use Rattle.listing.proofs.RowLaws.{run-one, Running, running-start, running-more, running-stuck, running-end}
+use Rattle.listing.proofs.RowLaws.{run-one, Running, running-start, running-ends, running-more, running-stuck, running-end}
 use Rattle.listing.proofs.samples.point_lines.Statement.{statement}
 use Rattle.listing.proofs.samples.point_lines.Tie as tie
 
@@ -39,7 +39,7 @@ module _ (c : tie.At-loop Inv-loop μ-loop) where
   start = c .before .before
 
   ends : c .loop .at ≤ length (c .loop .out)
-  ends = let g = c .loop .inv .stored in omega (arith, g .length-is, g .fits, stored-length g)
+  ends = running-ends (c .loop .inv)
 
 -- ---- in the loop: a is a place of the row, and its line has room
 module _ (c : tie.Then1 Inv-loop μ-loop) where
@@ -50,10 +50,10 @@ module _ (c : tie.Then1 Inv-loop μ-loop) where
   on-row = c .before .loop-test .taken
 
   few : at-loop .loop .a ≤ maxSteps
-  few = omega (arith, on-row, start at-loop .pre .1)
+  few = omega (arith, on-row, start at-loop .pre .0 .steps-few)
 
   held : 3 * (at-loop .loop .a + 1) ≤ length (start at-loop .args .points .now)
-  held = omega (arith, on-row, start at-loop .pre .2)
+  held = omega (arith, on-row, start at-loop .pre .1)
 
   room : linePlaces ≤ length (at-loop .loop .out) - at-loop .loop .at
   room = leb-true linePlaces _ (c .if1 .taken)
@@ -159,12 +159,13 @@ loop-again c =
     let i = in-loop v in
     let l = here w in
     let s = start l in
-    running-more (l .loop .inv) _ _ (omega (arith, on-row i))
+    running-more (l .loop .inv) _ _
     (run-one (λ j. lineText (s .args .points .now) (s .args .p) (l .loop .a - s .args .p .a + j)) 1 (omega arith)
     (rw (length-take, length-drop) (omega (arith, room i)))
     (w .sample-line .kept .1 .1 .1 .1 .1 .1 .0)
     (printed-at (s .args .points .now) (s .args .p) (l .loop .a) (l .loop .inv .on)
     (rw (toZ-ofZ (fits v .0), toZ-ofZ (fits v .1), toZ-ofZ (fits v .2)) at (w .sample-line .ensures))))
+    (omega (arith, on-row i))
 
 sub-t24 : tie.Need-sub-t24 Inv-loop μ-loop
 sub-t24 c = c .before .before .loop .inv .on
@@ -177,7 +178,7 @@ returns c =
     let l : tie.At-loop Inv-loop μ-loop = c .before .before in
     running-end (l .loop .inv) (λ e.
     ⊎-elim
-    (λ full. running-stuck (l .loop .inv) e (start l .pre .3) (leb-false linePlaces _ (full .1 .left)))
+    (λ full. running-stuck (l .loop .inv) e (start l .pre .2) (leb-false linePlaces _ (full .1 .left)))
     (λ over. omega (arith, over .left, e, start l .pre .0 .a-within))
     (c .before .loop-test .came))
 

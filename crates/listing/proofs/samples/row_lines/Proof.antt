@@ -2,7 +2,7 @@
 use mathlib.Core.Path.{_≡_, sym, ap, _∙_, subst}
 use mathlib.Core.Option.{none}
 use mathlib.Core.List.{List}
-use Prim.Native.Nat.{ℕ, _+_, _-_}
+use Prim.Native.Nat.{ℕ, _+_}
 use native.Mathlib.Omega.{arith}
 use borrow.Author.Needs.{needs}
 use Rattle.answer.specs.Table.{Answer, outcome}
@@ -78,7 +78,7 @@ returns c =
     let left = s .sample-line .ensures in
     let told = sym (ap outcome (done w .enum-told .given .1)) ∙ left .answer-is in
     let none = result-none _ told .0 in
-    run-ext (λ j l. ap (λ (r : Answer Point). line s r j) (sym (left .left .samples-are none (start s .args .p .a + j) (omega (arith, l)))))
+    run-ext (omega arith) (λ j l. ap (λ (r : Answer Point). line s r j) (sym (left .left .samples-are none (start s .args .p .a + j) (omega (arith, l)))))
     (w .point-lines .ensures)
 
 same-length-2 : tie.Need-same-length-2
@@ -91,8 +91,8 @@ returns-2 c =
     let s : tie.After-sample-line = not-sampled k in
     let told = sym (ap outcome (k .k .given .1)) ∙ s .sample-line .ensures .answer-is in
     let p = start s .args .p in
-    let here = line-refused _ _ _ _ _ (p .a + 0) (omega (arith, start s .pre .0 .a-within)) (omega (arith, start s .pre .1)) (refusal-met tt _ told) in
-    run-one _ _ (omega (arith, start s .pre .0 .a-within)) (start s .pre .2) (w .refusal-line .kept .1 .0)
+    let here = line-refused _ _ _ _ _ (p .a + 0) (omega (arith, start s .pre .0 .a-within)) (omega (arith, start s .pre .0 .steps-few)) (refusal-met tt _ told) in
+    run-one _ _ (omega (arith, start s .pre .0 .a-within)) (start s .pre .1) (w .refusal-line .kept .1 .0)
     (printed-as (λ r. line s r 0) (sym here) (w .refusal-line .ensures))
 
 pub row-lines-spec : {M : Type 1} → statement M
