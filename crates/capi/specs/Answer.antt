@@ -29,7 +29,7 @@ use Rattle.sample.specs.Answer.{Over256}
 use Rattle.sample.specs.declared.model.Point.{Point}
 use Rattle.sample.specs.declared.model.MarkedPoint.{MarkedPoint}
 use Rattle.line.specs.Line.{lineAnswer, LineLeft}
-use Rattle.edit.specs.Mirror.{mirrorAnswer, MirrorLeft}
+use Rattle.edit.specs.Mirror.{outputs, mirrorAnswer, MirrorLeft}
 use Rattle.tangent.specs.Answer.{tangentAnswer, tangentsAfter}
 
 abbrev pub code : {A : Type 0} → Answer A → ℕ
@@ -100,8 +100,8 @@ pub record LineStored (patches : List ℤ) (f n b : ℕ) (line : List ℤ) (r : 
   pub left : LineLeft patches f n b line line'
 
 pub record MirrorStored (M : IndexedMesh) (x : List ℤ) (t i : List ℕ) (r : ℕ) (x' : List ℤ) (t' i' : List ℕ) : Type 0 where
-  pub code-is : r ≡ code (mirrorAnswer M x t i)
-  pub left : MirrorLeft M x t i x' t' i'
+  pub code-is : r ≡ code (mirrorAnswer M (outputs x t i))
+  pub left : MirrorLeft M (outputs x t i) (outputs x' t' i')
 
 pub record TangentsStored (M : IndexedMesh) (g : ℕ) (d : List ℤ) (r : ℕ) (d' : List ℤ) : Type 0 where
   pub code-is : r ≡ code (tangentAnswer M g d)

@@ -69,7 +69,7 @@ module _ {z : Sense} {M M′ : IndexedMesh} (a : WellFormed M) (r : Alike z M M�
 
   fixed-moves : (p : ℕ) → p < v → fixed G′ (π p) ≡ fixed G p
   unfolding fixed
-  fixed-moves p b = rw (r .tags-move p b, valence-moves s i p b)
+  fixed-moves p b = rw (r .tags-carried .moves p b, valence-moves s i p b)
 
   sharp-moves : (c : ℕ) → c < n → sharp G′ (σ c) ≡ sharp G c
   unfolding sharp

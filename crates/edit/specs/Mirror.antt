@@ -4,12 +4,12 @@
 --   reflectedCorner c    the corner of the same face whose vertex corner c of the image has: the corners 0, 3, 2 and 1 for 0, 1, 2 and 3
 --   reflected k z        coordinate k of the image of a vertex that has z there: x (k = 0) is negated, y and z stay
 --   mirrored M           the mirror image of the mesh M
---   outputsOff M x t i   a lent list has another length than the list of M that is written into it (rule R2, row 16)
+--   Outputs              the lists that the call is lent, for the positions, the tags and the indices of the image
+--   outputsOff M d       a lent list has another length than the list of M that is written into it (rule R2, row 16)
 --   mirrorRefusal ..     the refusal that the call meets: one of the mesh, as it is checked where no twins are lent, or else row 16
 --   mirrorAnswer ..      its answer: done, or the number of the refusal
---   MirrorLeft M x t i x' t' i'   x', t' and i' are the lent positions x, tags t and indices i after the mirror call on the mesh M: whole lists of
---                        the image, or as they were after a refusal
---   MeshMirrored M x t i r x' t' i'   r is the answer of that call, and x', t' and i' are the lists afterwards
+--   MirrorLeft M d d'    d' are the lent lists d after the mirror call on the mesh M: whole lists of the image, or as they were after a refusal
+--   MeshMirrored M d r d'   r is the answer of that call, and d' are the lists afterwards
 use mathlib.Core.Path.{_≡_}
 use mathlib.Core.Bool.{Bool, not, _||_}
 use mathlib.Core.List.{List, [], _∷_}
@@ -42,23 +42,33 @@ mirrored M =
 abbrev pub differ : ℕ → ℕ → Bool
 differ m n = not (eqb m n)
 
-abbrev pub outputsOff : IndexedMesh → List ℤ → List ℕ → List ℕ → Bool
-outputsOff M x t i = differ (length x) (length (M .positions)) || (differ (length t) (length (M .tags)) || differ (length i) (length (M .indices)))
+pub record Outputs : Type 0 where
+  pub positions : List ℤ
+  pub tags : List ℕ
+  pub indices : List ℕ
 
-abbrev pub mirrorRows : IndexedMesh → List ℤ → List ℕ → List ℕ → List Row
-mirrorRows M x t i = row (outputsOff M x t i) 16 ∷ []
+abbrev pub outputs : List ℤ → List ℕ → List ℕ → Outputs
+outputs positions tags indices = record { positions = positions; tags = tags; indices = indices }
 
-abbrev pub mirrorRefusal : IndexedMesh → List ℤ → List ℕ → List ℕ → Option ℕ
-mirrorRefusal M x t i = meshRefusal M [] (mirrorRows M x t i)
+abbrev pub outputsOff : IndexedMesh → Outputs → Bool
+outputsOff M d =
+    differ (length (d .positions)) (length (M .positions))
+    || (differ (length (d .tags)) (length (M .tags)) || differ (length (d .indices)) (length (M .indices)))
 
-abbrev pub mirrorAnswer : IndexedMesh → List ℤ → List ℕ → List ℕ → Answer Unit
-mirrorAnswer M x t i = answerBy (mirrorRefusal M x t i) tt
+abbrev pub mirrorRows : IndexedMesh → Outputs → List Row
+mirrorRows M d = row (outputsOff M d) 16 ∷ []
 
-pub record MirrorLeft (M : IndexedMesh) (x : List ℤ) (t i : List ℕ) (x' : List ℤ) (t' i' : List ℕ) : Type 0 where
-  pub positions-are : x' ≡ writtenBy (mirrorRefusal M x t i) x (mirrored M .positions)
-  pub tags-are : t' ≡ writtenBy (mirrorRefusal M x t i) t (mirrored M .tags)
-  pub indices-are : i' ≡ writtenBy (mirrorRefusal M x t i) i (mirrored M .indices)
+abbrev pub mirrorRefusal : IndexedMesh → Outputs → Option ℕ
+mirrorRefusal M d = meshRefusal M [] (mirrorRows M d)
 
-pub record MeshMirrored (M : IndexedMesh) (x : List ℤ) (t i : List ℕ) (r : Outcome) (x' : List ℤ) (t' i' : List ℕ) : Type 0 where
-  pub answer-is : outcome r ≡ mirrorAnswer M x t i
-  pub left : MirrorLeft M x t i x' t' i'
+abbrev pub mirrorAnswer : IndexedMesh → Outputs → Answer Unit
+mirrorAnswer M d = answerBy (mirrorRefusal M d) tt
+
+pub record MirrorLeft (M : IndexedMesh) (d d' : Outputs) : Type 0 where
+  pub positions-are : d' .positions ≡ writtenBy (mirrorRefusal M d) (d .positions) (mirrored M .positions)
+  pub tags-are : d' .tags ≡ writtenBy (mirrorRefusal M d) (d .tags) (mirrored M .tags)
+  pub indices-are : d' .indices ≡ writtenBy (mirrorRefusal M d) (d .indices) (mirrored M .indices)
+
+pub record MeshMirrored (M : IndexedMesh) (d : Outputs) (r : Outcome) (d' : Outputs) : Type 0 where
+  pub answer-is : outcome r ≡ mirrorAnswer M d
+  pub left : MirrorLeft M d d'

@@ -8,7 +8,7 @@ use crate::image::reflect_positions;
 use answer::model::Outcome;
 use limits::model::Checked;
 ghost use Rattle.mesh.specs.IndexedMesh.{indexed};
-ghost use Rattle.edit.specs.Mirror.{MeshMirrored};
+ghost use Rattle.edit.specs.Mirror.{outputs, MeshMirrored};
 
 // The mirror image of a mesh of v vertices and f faces, which is checked first.
 // Returns: that it is done, or the number of the refusal.
@@ -28,8 +28,8 @@ pub fn mirror(
     out_faces: &mut [u16],
 ) -> Outcome
     ensures { λ r. ⌜ MeshMirrored (indexed v f (now (positions .entry)) (now (tags .entry)) (now (faces .entry)))
-        (now («out_positions» .entry)) (now («out_tags» .entry)) (now («out_faces» .entry)) r
-        (now («out_positions» .exit)) (now («out_tags» .exit)) (now («out_faces» .exit)) ⌝ }
+        (outputs (now («out_positions» .entry)) (now («out_tags» .entry)) (now («out_faces» .entry))) r
+        (outputs (now («out_positions» .exit)) (now («out_tags» .exit)) (now («out_faces» .exit))) ⌝ }
 {
     let answer = mesh::check_alone(0, v, f, positions, tags, faces);
     if let Checked::Refused(k) = answer {

@@ -28,6 +28,7 @@ use Rattle.sample.proofs.SampleLaws.{numerator-ext, numerator-swap, rounded-ext
 use Rattle.mask.proofs.LinearLaws.{Linear}
 use Rattle.patch.specs.Patch.{patchPoint, units, exactly, controlValue, view}
 use Rattle.patch.proofs.Related.{valued, patch-related}
+use Rattle.symmetry.proofs.CarriedLaws.{carried-list}
 use Rattle.symmetry.proofs.Sense.{reversed}
 use Rattle.symmetry.proofs.WellFormedMoves.{Alike}
 use Rattle.correspondence.proofs.PointSense.{pointIn}
@@ -138,7 +139,6 @@ module _ {M : IndexedMesh} (a : WellFormed M) where
     same-vertices = refl;
     same-faces = refl;
     same-positions = length-listBelow _ (3 * M .vertices) ∙ sym (a .sized .positions-are);
-    same-tags = length-listBelow _ (M .vertices) ∙ sym (a .sized .tags-are);
     same-indices = length-listBelow _ (corners M) ∙ sym (a .sized .indices-are);
     shape = record {
       corners = reflectedCorners;
@@ -147,7 +147,7 @@ module _ {M : IndexedMesh} (a : WellFormed M) where
       at-moves = at-reflected;
     };
     sizes-move = λ p k l h. ap natAbs (coordinate-reflected p k l h) ∙ abs-reflected k _;
-    tags-move = λ p l. listBelow-at _ (M .vertices) p 0 l;
+    tags-carried = carried-list 0 (same-numbers (M .vertices)) (M .tags) (a .sized .tags-are);
   }
 
   -- coordinate k of the vertices, reflected in place: the image has it with the faces turned the other way

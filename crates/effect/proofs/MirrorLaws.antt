@@ -1,14 +1,12 @@
 -- The claim about the answers that the calls gave for a mesh and for its mirror image, from the laws of the image.
 use mathlib.Core.Path.{_≡_, sym, ap, _∙_, subst}
 use mathlib.Core.Bool.{false}
-use mathlib.Core.List.{List}
 use mathlib.Core.Option.{none}
 use Prim.Native.Nat.{ℕ, _*_, _<_}
 use native.Mathlib.Omega.{arith}
-use lib.IntN.{ℤ}
 use Rattle.answer.specs.Table.{result, outcome}
 use Rattle.answer.specs.declared.model.Outcome.{Outcome}
-use Rattle.mesh.specs.IndexedMesh.{IndexedMesh, indexed}
+use Rattle.mesh.specs.IndexedMesh.{IndexedMesh}
 use Rattle.mesh.specs.WellFormed.{WellFormed}
 use Rattle.mesh.specs.Answer.{countsOf}
 use Rattle.mesh.proofs.AcceptedLaws.{accepted-well-formed, well-formed-accepted}
@@ -18,11 +16,11 @@ use Rattle.sample.proofs.RefusalLaws.{place-on}
 use Rattle.patch.specs.Patch.{view}
 use Rattle.patch.specs.Answer.{Lent, listsShort, patchList, exactList}
 use Rattle.symmetry.proofs.WellFormedMoves.{alike-well-formed, alike-counts}
-use Rattle.edit.specs.Mirror.{reflected, mirrored, outputsOff, mirrorRefusal, MeshMirrored}
+use Rattle.edit.specs.Mirror.{reflected, mirrored, Outputs, outputsOff, mirrorRefusal, MeshMirrored}
 use Rattle.edit.proofs.AnswerLaws.{nothing-met}
 use Rattle.surface.specs.Claim.{OnMesh}
 use Rattle.surface.specs.Renumbering.{place}
-use Rattle.surface.specs.Witness.{sampleAt, markedAt, Evaluated}
+use Rattle.surface.specs.Witness.{sampleAt, markedAt, asked, Evaluated}
 use Rattle.surface.specs.declared.model.SamplePlace.{SamplePlace}
 use Rattle.surface.specs.declared.model.Evaluation.{Evaluation}
 use Rattle.surface.proofs.FaceSamples.{sampleFrom}
@@ -30,7 +28,7 @@ use Rattle.surface.proofs.MarkLaws.{markFrom}
 use Rattle.surface.proofs.AnsweredLaws.{place-none}
 use Rattle.surface.proofs.ClaimLaws.{answerFrom, markedAnswerFrom}
 use Rattle.surface.proofs.WitnessLaws.{accepted-answer, sample-from, marked-by}
-use Rattle.effect.specs.Mirroring.{exchanged, reflectedAnswer, reflectedMarked, MirrorClaim, MirrorKeepsSamples}
+use Rattle.effect.specs.Mirroring.{exchanged, reflectedAnswer, reflectedMarked, meshLeft, MirrorClaim, MirrorKeepsSamples}
 use Rattle.effect.proofs.FromMirror.{alike, sample-mirrored, mark-mirrored}
 
 -- ---- the image of an accepted mesh
@@ -62,27 +60,27 @@ module _ {M : IndexedMesh} (a : WellFormed M) where
     image-marked = rw (image-coordinate 0 (omega arith), image-coordinate 1 (omega arith), image-coordinate 2 (omega arith), image-mark)
 
   -- ---- what the mirror call gave and left
-  module _ {x x′ : List ℤ} {t i t′ i′ : List ℕ} {r : Outcome} (mirror : MeshMirrored M x t i r x′ t′ i′) (on : outputsOff M x t i ≡ false) where
-    unmet : mirrorRefusal M x t i ≡ none
-    unmet = nothing-met M x t i (well-formed-accepted a) on
+  module _ {x x′ : Outputs} {r : Outcome} (mirror : MeshMirrored M x r x′) (on : outputsOff M x ≡ false) where
+    unmet : mirrorRefusal M x ≡ none
+    unmet = nothing-met M x (well-formed-accepted a) on
 
     mirror-done : outcome r ≡ result tt
     mirror-done = mirror .answer-is ∙ rw unmet
 
-    image-left : mirrored M ≡ indexed (M .vertices) (M .faces) x′ t′ i′
+    image-left : mirrored M ≡ meshLeft M x′
     image-left = let left = mirror .left in rw (left .positions-are, left .tags-are, left .indices-are, unmet)
 
 -- ---- what the patch call and the sample calls gave
 evaluated-sample : {M : IndexedMesh} → WellFormed M → {d b : Lent} {n : ℕ} {q : SamplePlace} {r : Evaluation}
-    → Evaluated M d n q r b → listsShort M d ≡ false → OnMesh M n q → sampled (r .sample) ≡ answerFrom M n (q .face) (place (q .a) (q .b))
+    → Evaluated n (asked M d q) r b → listsShort M d ≡ false → OnMesh M n q → sampled (r .sample) ≡ answerFrom M n (q .face) (place (q .a) (q .b))
 evaluated-sample a {d} {n = n} {q = q} gave long on = gave .sample-is ∙ sample-from d a long n q on
 
 evaluated-marked : {M : IndexedMesh} → WellFormed M → {d b : Lent} {n : ℕ} {q : SamplePlace} {r : Evaluation}
-    → Evaluated M d n q r b → listsShort M d ≡ false → OnMesh M n q → marked (r .marked) ≡ markedAnswerFrom M n (q .face) (place (q .a) (q .b))
+    → Evaluated n (asked M d q) r b → listsShort M d ≡ false → OnMesh M n q → marked (r .marked) ≡ markedAnswerFrom M n (q .face) (place (q .a) (q .b))
 evaluated-marked a {d} {n = n} {q = q} gave long on = gave .marked-is ∙ marked-by d a long n q on
 
 module _ {M : IndexedMesh} (a : WellFormed M) {d d′ b b′ : Lent} {n : ℕ} {q q′ : SamplePlace}
-    {s s′ : Evaluation} (first : Evaluated M d n q s b) (second : Evaluated (mirrored M) d′ n q′ s′ b′) where
+    {s s′ : Evaluation} (first : Evaluated n (asked M d q) s b) (second : Evaluated n (asked (mirrored M) d′ q′) s′ b′) where
   -- the image's samples at the place with a and b exchanged
   module _ (long : listsShort (mirrored M) d′ ≡ false) (on : OnMesh M n q) (at : q′ ≡ exchanged q) where
     turned-up : sampled (s′ .sample) ≡ answerFrom (mirrored M) n (q .face) (place (q .b) (q .a))
@@ -97,7 +95,7 @@ module _ {M : IndexedMesh} (a : WellFormed M) {d d′ b b′ : Lent} {n : ℕ} {
         ∙ ap (markedAt (patchList (mirrored M) d′) (exactList (mirrored M) d′) n) at
         ∙ marked-by d′ (image-formed a) long n (exchanged q) (image-place a n q on)
 
-  claim : {r : Outcome} → outcome r ≡ result tt → MirrorClaim M d (mirrored M) d′ n q q′ r s s′
+  claim : {r : Outcome} → outcome r ≡ result tt → MirrorClaim n (asked M d q) (asked (mirrored M) d′ q′) r s s′
   claim done = record {
     done = done;
     accepted = well-formed-accepted (image-formed a);
@@ -112,9 +110,8 @@ module _ {M : IndexedMesh} (a : WellFormed M) {d d′ b b′ : Lent} {n : ℕ} {
 -- the claim, of what the calls for the mesh and for the lists that the mirror call left handed back
 pub mirror-keeps-samples : MirrorKeepsSamples
 mirror-keeps-samples = record {
-  claim = λ {M} {r = r} {n = n} {q = q} {q' = q′} {s = s} {s' = s′} {d = d} {d' = d′} {b' = b′}
-      mirror first second accepted on.
+  claim = λ {M} {r = r} {n = n} {d = d} {d' = d′} {b' = b′} {q = q} {q' = q′} {s = s} {s' = s′} mirror first second accepted on.
       let a = accepted-well-formed accepted in
-      subst (λ (N : IndexedMesh). Evaluated N d′ n q′ s′ b′ → MirrorClaim M d N d′ n q q′ r s s′) (image-left a mirror on)
+      subst (λ (N : IndexedMesh). Evaluated n (asked N d′ q′) s′ b′ → MirrorClaim n (asked M d q) (asked N d′ q′) r s s′) (image-left a mirror on)
       (λ there. claim a first there (mirror-done a mirror on)) second;
 }

@@ -2,9 +2,9 @@
 -- square is an accepted mesh.
 use mathlib.Core.Path.{_≡_, refl}
 use mathlib.Core.Bool.{false}
-use mathlib.Core.List.{List, [], _∷_}
+use mathlib.Core.List.{[], _∷_}
 use Prim.Native.Nat.{ℕ}
-use lib.IntN.{ℤ, pos}
+use lib.IntN.{pos}
 use lib.ListN.{replicate}
 use Rattle.finite.specs.Fold.{foldBelow}
 use Rattle.answer.specs.Table.{Answer, result, refusal, writtenBy, outcome}
@@ -28,8 +28,8 @@ use Rattle.sample.specs.declared.model.Sampled.the-variants.{At, Refused as Ref
 use Rattle.sample.specs.declared.model.Marked.{Marked}
 use Rattle.sample.specs.declared.model.Marked.the-variants.{At as AtMarked, Refused as RefusedMarked}
 use Rattle.patch.specs.Answer.{Lent, lent, patchAnswer, patchTwins, patchList, exactList}
-use Rattle.edit.specs.Mirror.{mirrored, mirrorRefusal, mirrorAnswer, outputsOff, MeshMirrored}
-use Rattle.surface.specs.Witness.{sampleAt, markedAt, Evaluated}
+use Rattle.edit.specs.Mirror.{mirrored, Outputs, outputs, mirrorRefusal, mirrorAnswer, outputsOff, MeshMirrored}
+use Rattle.surface.specs.Witness.{sampleAt, markedAt, asked, Evaluated}
 use Rattle.surface.specs.declared.model.SamplePlace.{SamplePlace}
 use Rattle.surface.specs.declared.model.Evaluation.{Evaluation}
 
@@ -67,11 +67,11 @@ marked-of (result p) = refl
 marked-of (refusal k) = refl
 
 -- ---- whatever the calls are passed
-pub mirror-met : (M : IndexedMesh) (x : List ℤ) (t i : List ℕ) → (let met = mirrorRefusal M x t i in
-    MeshMirrored M x t i (outcomeOf (mirrorAnswer M x t i))
-    (writtenBy met x (mirrored M .positions)) (writtenBy met t (mirrored M .tags)) (writtenBy met i (mirrored M .indices)))
-mirror-met M x t i =
-    record { answer-is = outcome-of (mirrorAnswer M x t i); left = record { positions-are = refl; tags-are = refl; indices-are = refl } }
+pub mirror-met : (M : IndexedMesh) (x : Outputs) → (let met = mirrorRefusal M x in
+    MeshMirrored M x (outcomeOf (mirrorAnswer M x)) (outputs (writtenBy met (x .positions) (mirrored M .positions))
+    (writtenBy met (x .tags) (mirrored M .tags)) (writtenBy met (x .indices) (mirrored M .indices))))
+mirror-met M x =
+    record { answer-is = outcome-of (mirrorAnswer M x); left = record { positions-are = refl; tags-are = refl; indices-are = refl } }
 
 abbrev evaluation : IndexedMesh → Lent → ℕ → SamplePlace → Evaluation
 evaluation M d n q = record {
@@ -81,7 +81,7 @@ evaluation M d n q = record {
 }
 
 pub evaluated-met : (M : IndexedMesh) (d : Lent) (n : ℕ) (q : SamplePlace)
-    → Evaluated M d n q (evaluation M d n q) (lent (patchTwins M d) (patchList M d) (exactList M d))
+    → Evaluated n (asked M d q) (evaluation M d n q) (lent (patchTwins M d) (patchList M d) (exactList M d))
 evaluated-met M d n q = record {
   patched = record { answer-is = checked-of (patchAnswer M d); twins-are = refl; patches-are = refl; exact-are = refl };
   sample-is = sampled-of (sampleAt (patchList M d) n q);
@@ -92,7 +92,7 @@ evaluated-met M d n q = record {
 abbrev square : IndexedMesh
 square = indexed 4 1 (replicate 12 (pos 0)) (replicate 4 0) (0 ∷ 1 ∷ 2 ∷ 3 ∷ [])
 
-pub accepted-met : Accepted square × (outputsOff square (replicate 12 (pos 0)) (replicate 4 0) (replicate 4 0) ≡ false)
+pub accepted-met : Accepted square × (outputsOff square (outputs (replicate 12 (pos 0)) (replicate 4 0) (replicate 4 0)) ≡ false)
 unfolding Accepted foldBelow isTwin twin boundary sameWay doubled valence onBoundary around iterate fanBy fan
     sizesOff coordinateOff tagOff vertexOff vertexTwice halfEdgeTwice vertexUnused fanBroken valenceOff innerTagged
 accepted-met = (refl, refl)

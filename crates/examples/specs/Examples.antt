@@ -23,7 +23,7 @@ use Rattle.mask.specs.Mask.{cornerWeight, innerMask, edgeMask, boundaryEdgeMask
 use Rattle.patch.specs.Point.{weight, sharp, sharpSum, ringSum, fixed, cornerPoint, innerPoint, edgePoint, alongPoint, beforePoint, point}
 use Rattle.patch.specs.Patch.{owner, kind, patchPoint, patchNumber, patchesAfter}
 use Rattle.line.specs.Line.{lineShort, lineAnswer, lineAfter}
-use Rattle.edit.specs.Mirror.{mirrored, mirrorAnswer}
+use Rattle.edit.specs.Mirror.{mirrored, outputs, mirrorAnswer}
 use Rattle.examples.specs.Meshes.{square, cube, pillow, doubledFace, bowTie, strip, reentrant, tagged, openFanOfEight, openFanOfNine}
 
 -- an example: what is computed, and what is stated
@@ -69,7 +69,7 @@ refusalNumber (result done) = []
 refusalNumber (refusal k) = pos k ∷ []
 
 abbrev mirroring : IndexedMesh → ℕ → ℕ → ℕ → List ℤ
-mirroring M positions tags indices = refusalNumber (mirrorAnswer M (replicate positions (pos 0)) (replicate tags 0) (replicate indices 0))
+mirroring M positions tags indices = refusalNumber (mirrorAnswer M (outputs (replicate positions (pos 0)) (replicate tags 0) (replicate indices 0)))
 
 -- the line call on the patch list of a mesh, with so many 7s lent: the number of a refusal, and then the list afterwards
 abbrev lineNumbers : List ℤ → ℕ → ℕ → ℕ → List ℤ → List ℤ

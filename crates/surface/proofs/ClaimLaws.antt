@@ -31,7 +31,7 @@ use Rattle.correspondence.proofs.PointMoves.{patch-moves}
 use Rattle.surface.specs.Renumbering.{Renumbering, Place, matching, onSide}
 use Rattle.surface.specs.Claim.{OnMesh, exact, Multiples, exactSum, pointOf}
 use Rattle.surface.specs.declared.model.SamplePlace.{SamplePlace}
-use Rattle.surface.proofs.FromRenumbering.{alike, face-begins}
+use Rattle.surface.proofs.FromRenumbering.{alike, face-begins, position-moves}
 use Rattle.surface.proofs.FaceSamples.{sampleFrom, Within, matching-within, side-within, sample-matching}
 use Rattle.surface.proofs.Seam.{twin-inside, seam}
 use Rattle.surface.proofs.Distance.{distance}
@@ -89,7 +89,7 @@ module _ {M M′ : IndexedMesh} (r : Renumbering M M′) (a : WellFormed M) (k :
   patch-renumbered : (m : ℕ) → m < 16 → patchPoint (view M′ k) (4 * r .faces .to f) m ≡ patchPoint (view M k) (turn (r .start f) (4 * f)) m
   patch-renumbered m b =
       ap (λ (c : ℕ). patchPoint (view M′ k) c m) (sym (face-begins r f face))
-      ∙ patch-moves a (alike r) (view M k .value) (view M′ k .value) (λ p l. r .positions-move p k l axis) (turn (r .start f) (4 * f)) (omega arith) m b
+      ∙ patch-moves a (alike r) (view M k .value) (view M′ k .value) (λ p l. position-moves r p k l axis) (turn (r .start f) (4 * f)) (omega arith) m b
 
   sample-renumbered : (n : ℕ) (p : Place) → Within n p
       → sampleFrom (view M′ k) n (4 * r .faces .to f) (matching n (r .start f) p) ≡ sampleFrom (view M k) n (4 * f) p

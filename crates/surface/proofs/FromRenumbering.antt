@@ -4,15 +4,18 @@
 --   to r c, from r c the corner that c has become, and the one that has become c
 --   alike r          the two meshes are of one shape, their faces turned the same way
 use mathlib.Core.Path.{_≡_, ap, _∙_}
+use mathlib.Core.List.{List}
 use Prim.Native.Nat.{ℕ, _+_, _-_, _*_, _/_, _%_, _<_}
 use native.Mathlib.Omega.{arith}
 use lib.IntN.{natAbs}
+use lib.ListN.{getD}
 use Rattle.finite.specs.Permutation.{Permutation}
 use Rattle.corner.specs.Corner.{turn, next}
-use Rattle.mesh.specs.IndexedMesh.{IndexedMesh, corners, at}
+use Rattle.mesh.specs.IndexedMesh.{IndexedMesh, corners, coordinate}
+use Rattle.symmetry.proofs.CarriedLaws.{three-moves}
 use Rattle.symmetry.proofs.Sense.{same}
 use Rattle.symmetry.proofs.WellFormedMoves.{Alike}
-use Rattle.surface.specs.Renumbering.{Renumbering}
+use Rattle.surface.specs.Renumbering.{ByCorner, Renumbering}
 
 -- ---- corners by face
 spot : ℕ → ℕ → ℕ
@@ -90,12 +93,14 @@ module _ {M M′ : IndexedMesh} (r : Renumbering M M′) where
       ∙ spot-same (r .faces .to (c / 4)) _ (next c + (4 - r .start (c / 4))) (omega arith)
       ∙ ap (λ (g : ℕ). spot (r .faces .to g) (next c + (4 - r .start g))) e
 
-  pub at-moves : (c : ℕ) → c < corners M → at M′ (cornerMap .to c) ≡ r .vertices .to (at M c)
+  -- what a list by corner says of the new number of corner c
+  pub corner-moves : {A : Type 0} {z : A} {rename : A → A} {xs ys : List A} → ByCorner z rename (r .faces .to) (r .start) (M .faces) xs ys
+      → (c : ℕ) → c < corners M → getD ys (cornerMap .to c) z ≡ rename (getD xs c z)
   unfolding cornerMap to spot
-  at-moves c l =
+  corner-moves {z = z} {rename = rename} {xs = xs} w c l =
       let b : c / 4 < M .faces = omega arith in
       let e : 4 * (c / 4) + (r .start (c / 4) + (c + (4 - r .start (c / 4))) % 4) % 4 ≡ c = omega (arith, r .start-below (c / 4) b) in
-      r .faces-move (c / 4) _ b (omega arith) ∙ ap (λ (d : ℕ). r .vertices .to (at M d)) e
+      w .moves (c / 4) _ b (omega arith) ∙ ap (λ (d : ℕ). rename (getD xs d z)) e
 
   -- a face of M′ begins at the corner that the renumbering says
   pub face-begins : (f : ℕ) → f < M .faces → cornerMap .to (turn (r .start f) (4 * f)) ≡ 4 * r .faces .to f
@@ -106,14 +111,16 @@ module _ {M M′ : IndexedMesh} (r : Renumbering M M′) where
       let z : (turn (r .start f) (4 * f) + (4 - r .start f)) % 4 ≡ 0 = omega arith in
       ap (λ (g : ℕ). 4 * r .faces .to g + (turn (r .start f) (4 * f) + (4 - r .start g)) % 4) e ∙ omega arith
 
+  pub position-moves : (p k : ℕ) → p < M .vertices → k < 3 → coordinate M′ (3 * r .vertices .to p + k) ≡ coordinate M (3 * p + k)
+  position-moves p k l h = three-moves (r .vertices .to) (M .vertices) (r .positions-carried) p k l h
+
   abbrev pub alike : Alike same M M′
   alike = record {
     same-vertices = r .same-vertices;
     same-faces = r .same-faces;
-    same-positions = r .same-positions;
-    same-tags = r .same-tags;
-    same-indices = r .same-indices;
-    shape = record { corners = cornerMap; vertices = r .vertices; next-moves = λ c l. next-moves c; at-moves = at-moves };
-    sizes-move = λ p k b h. ap natAbs (r .positions-move p k b h);
-    tags-move = r .tags-move;
+    same-positions = r .positions-carried .same-length;
+    same-indices = r .faces-carried .same-length;
+    shape = record { corners = cornerMap; vertices = r .vertices; next-moves = λ c l. next-moves c; at-moves = corner-moves (r .faces-carried) };
+    sizes-move = λ p k b h. ap natAbs (position-moves p k b h);
+    tags-carried = r .tags-carried;
   }

@@ -5,20 +5,36 @@ use Prim.Native.Nat.{ℕ, _+_, _*_, _/_, _%_, _<_}
 use native.Mathlib.Omega.{arith}
 use lib.IntN.{pos}
 use lib.ListN.{length, getD}
-use lib.Seq.{ext-getD}
 use Rattle.finite.specs.Filled.{listBelow}
 use Rattle.finite.specs.Permutation.{Permutation}
 use Rattle.finite.proofs.FilledLaws.{length-listBelow, listBelow-at}
-use Rattle.mesh.specs.IndexedMesh.{IndexedMesh, corners, at, tag, coordinate}
-use Rattle.mesh.specs.WellFormed.{Sized}
-use Rattle.surface.specs.Renumbering.{Renumbering}
-use Rattle.surface.specs.Renumbered.{renumber}
+use Rattle.mesh.specs.IndexedMesh.{IndexedMesh}
+use Rattle.mesh.specs.WellFormed.{MeshSized}
+use Rattle.symmetry.proofs.CarriedLaws.{list-below, carried-list, carried-made, threesOf}
+use Rattle.surface.specs.Renumbering.{ByCorner, Renumbering}
+use Rattle.surface.specs.Renumbered.{cornerWas, renumber}
 
--- a list by its length and what stands at each place
-list-below : {A : Type 0} (xs : List A) (z : A) (n : ℕ) (g : ℕ → A) → length xs ≡ n → ((i : ℕ) → i < n → getD xs i z ≡ g i) → xs ≡ listBelow g n
-list-below xs z n g e h =
-    ext-getD z xs (listBelow g n) (e ∙ sym (length-listBelow g n)) (λ i l.
-    let b : i < n = omega arith in h i b ∙ sym (listBelow-at g n i z b))
+-- ---- a list by corner
+module _ {A : Type 0} (z : A) (rename : A → A) {n : ℕ} (f : Permutation n) (start : ℕ → ℕ) (xs : List A) (whole : length xs ≡ 4 * n) where
+  abbrev made : List A
+  made = listBelow (λ c. rename (getD xs (cornerWas f start c) z)) (4 * n)
+
+  corners-list : ByCorner z rename (f .to) start n xs made
+  corners-list = record {
+    same-length = length-listBelow _ (4 * n) ∙ sym whole;
+    moves = λ g s l h.
+        let i : (4 * f .to g + s) / 4 ≡ f .to g = omega arith in
+        let j : (4 * f .to g + s) % 4 ≡ s = omega arith in
+        listBelow-at _ (4 * n) (4 * f .to g + s) z (omega (arith, f .to-below g l)) ∙ rw (i, j, f .from-to g l);
+  }
+
+  corners-made : (ys : List A) → ByCorner z rename (f .to) start n xs ys → ys ≡ made
+  corners-made ys w =
+      list-below ys z (4 * n) _ (w .same-length ∙ whole) (λ c l.
+      let g : ℕ = f .from (c / 4) in
+      let b : c / 4 < n = omega arith in
+      let e : c ≡ 4 * f .to g + c % 4 = rw (f .to-from (c / 4) b) (omega arith) in
+      ap (λ (d : ℕ). getD ys d z) e ∙ w .moves g (c % 4) (f .from-below (c / 4) b) (omega arith))
 
 -- a renumbering with these very permutations and starts
 pub record Choice (M M′ : IndexedMesh) (v : Permutation (M .vertices)) (f : Permutation (M .faces)) (start : ℕ → ℕ) : Type 0 where
@@ -32,39 +48,19 @@ module _ (M : IndexedMesh) (v : Permutation (M .vertices)) (f : Permutation (M .
   abbrev M′ : IndexedMesh
   M′ = renumber M v f start
 
-  positions-move : (p k : ℕ) → p < M .vertices → k < 3 → coordinate M′ (3 * v .to p + k) ≡ coordinate M (3 * p + k)
-  positions-move p k l h =
-      let i : (3 * v .to p + k) / 3 ≡ v .to p = omega arith in
-      let j : (3 * v .to p + k) % 3 ≡ k = omega arith in
-      listBelow-at _ (3 * M .vertices) (3 * v .to p + k) (pos 0) (omega (arith, v .to-below p l))
-      ∙ rw (i, j, v .from-to p l)
-
-  tags-move : (p : ℕ) → p < M .vertices → tag M′ (v .to p) ≡ tag M p
-  tags-move p l = listBelow-at _ (M .vertices) (v .to p) 0 (v .to-below p l) ∙ rw (v .from-to p l)
-
-  faces-move : (g s : ℕ) → g < M .faces → s < 4 → at M′ (4 * f .to g + s) ≡ v .to (at M (4 * g + (start g + s) % 4))
-  faces-move g s l h =
-      let i : (4 * f .to g + s) / 4 ≡ f .to g = omega arith in
-      let j : (4 * f .to g + s) % 4 ≡ s = omega arith in
-      listBelow-at _ (corners M) (4 * f .to g + s) 0 (omega (arith, f .to-below g l))
-      ∙ rw (i, j, f .from-to g l)
-
-  pub renumbering : Sized (M .vertices) (M .faces) (length (M .positions)) (length (M .tags)) (length (M .indices))
-      → ((g : ℕ) → g < M .faces → start g < 4) → Choice M M′ v f start
+  pub renumbering : MeshSized M → ((g : ℕ) → g < M .faces → start g < 4) → Choice M M′ v f start
+  unfolding threesOf
   renumbering sized below = record {
     chosen = record {
       same-vertices = refl;
       same-faces = refl;
-      same-positions = length-listBelow _ (3 * M .vertices) ∙ sym (sized .positions-are);
-      same-tags = length-listBelow _ (M .vertices) ∙ sym (sized .tags-are);
-      same-indices = length-listBelow _ (corners M) ∙ sym (sized .indices-are);
       vertices = v;
       faces = f;
       start = start;
       start-below = below;
-      positions-move = positions-move;
-      tags-move = tags-move;
-      faces-move = faces-move;
+      positions-carried = carried-list (pos 0) (threesOf v) (M .positions) (sized .positions-are);
+      tags-carried = carried-list 0 v (M .tags) (sized .tags-are);
+      faces-carried = corners-list 0 (v .to) f start (M .indices) (sized .indices-are);
     };
     vertices-are = refl;
     faces-are = refl;
@@ -72,34 +68,12 @@ module _ (M : IndexedMesh) (v : Permutation (M .vertices)) (f : Permutation (M .
   }
 
 -- every renumbering is made so
-module _ {M M′ : IndexedMesh} (sized : Sized (M .vertices) (M .faces) (length (M .positions)) (length (M .tags)) (length (M .indices)))
-    (r : Renumbering M M′) where
-  positions-made : M′ .positions ≡ renumber M (r .vertices) (r .faces) (r .start) .positions
-  positions-made =
-      list-below (M′ .positions) (pos 0) (3 * M .vertices) _ (r .same-positions ∙ sized .positions-are) (λ i l.
-      let p : ℕ = r .vertices .from (i / 3) in
-      let b : i / 3 < M .vertices = omega arith in
-      let e : i ≡ 3 * r .vertices .to p + i % 3 = rw (r .vertices .to-from (i / 3) b) (omega arith) in
-      ap (coordinate M′) e ∙ r .positions-move p (i % 3) (r .vertices .from-below (i / 3) b) (omega arith))
-
-  tags-made : M′ .tags ≡ renumber M (r .vertices) (r .faces) (r .start) .tags
-  tags-made =
-      list-below (M′ .tags) 0 (M .vertices) _ (r .same-tags ∙ sized .tags-are) (λ p l.
-      ap (tag M′) (sym (r .vertices .to-from p l)) ∙ r .tags-move (r .vertices .from p) (r .vertices .from-below p l))
-
-  indices-made : M′ .indices ≡ renumber M (r .vertices) (r .faces) (r .start) .indices
-  indices-made =
-      list-below (M′ .indices) 0 (corners M) _ (r .same-indices ∙ sized .indices-are) (λ c l.
-      let g : ℕ = r .faces .from (c / 4) in
-      let b : c / 4 < M .faces = omega arith in
-      let e : c ≡ 4 * r .faces .to g + c % 4 = rw (r .faces .to-from (c / 4) b) (omega arith) in
-      ap (at M′) e ∙ r .faces-move g (c % 4) (r .faces .from-below (c / 4) b) (omega arith))
-
-  pub renumbering-made : M′ ≡ renumber M (r .vertices) (r .faces) (r .start)
-  renumbering-made = λ i. record {
-    vertices = r .same-vertices i;
-    faces = r .same-faces i;
-    positions = positions-made i;
-    tags = tags-made i;
-    indices = indices-made i;
-  }
+pub renumbering-made : {M M′ : IndexedMesh} → MeshSized M → (r : Renumbering M M′) → M′ ≡ renumber M (r .vertices) (r .faces) (r .start)
+unfolding threesOf
+renumbering-made {M} {M′} sized r = λ i. record {
+  vertices = r .same-vertices i;
+  faces = r .same-faces i;
+  positions = carried-made (pos 0) (threesOf (r .vertices)) (M .positions) (sized .positions-are) (M′ .positions) (r .positions-carried) i;
+  tags = carried-made 0 (r .vertices) (M .tags) (sized .tags-are) (M′ .tags) (r .tags-carried) i;
+  indices = corners-made 0 (r .vertices .to) (r .faces) (r .start) (M .indices) (sized .indices-are) (M′ .indices) (r .faces-carried) i;
+}

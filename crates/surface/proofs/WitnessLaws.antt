@@ -26,7 +26,7 @@ use Rattle.patch.specs.Answer.{Lent, patchesShort, exactShort, listsShort, patc
 use Rattle.symmetry.proofs.WellFormedMoves.{alike-well-formed, alike-counts}
 use Rattle.surface.specs.Claim.{OnMesh, coordinateOf, number, pointOf, isExact, Claim}
 use Rattle.surface.specs.Renumbering.{place}
-use Rattle.surface.specs.Witness.{sampleAt, markedAt, Evaluated, Witnessed}
+use Rattle.surface.specs.Witness.{sampleAt, markedAt, Asked, asked, Evaluated, Witnessed}
 use Rattle.surface.specs.declared.model.SamplePlace.{SamplePlace}
 use Rattle.surface.specs.declared.model.Evaluation.{Evaluation}
 use Rattle.surface.specs.declared.model.Witness.{Witness}
@@ -36,12 +36,12 @@ use Rattle.surface.proofs.AnsweredLaws.{answered, marked-answered}
 use Rattle.surface.proofs.ClaimLaws.{answerFrom, markedAnswerFrom, sampled-from, marked-from, distance-on, seam-on, renumbered-on, marks-renumbered-on}
 
 -- what the three calls gave, the sample calls on the lists that the patch call left
-pub evaluated : {M : IndexedMesh} {d b : Lent} {n : ℕ} {q : SamplePlace} {r : Evaluation} → Patched M d (r .mesh) b
-    → sampled (r .sample) ≡ sampleAt (b .patches) n q → marked (r .marked) ≡ markedAt (b .patches) (b .marks) n q → Evaluated M d n q r b
-evaluated {n = n} {q = q} patched sample marks = record {
+pub evaluated : {n : ℕ} {a : Asked} {r : Evaluation} {b : Lent} → Patched (a .mesh) (a .lists) (r .mesh) b
+    → sampled (r .sample) ≡ sampleAt (b .patches) n (a .place) → marked (r .marked) ≡ markedAt (b .patches) (b .marks) n (a .place) → Evaluated n a r b
+evaluated {n} {a} patched sample marks = record {
   patched = patched;
-  sample-is = sample ∙ ap (λ (t : List ℤ). sampleAt t n q) (patched .patches-are);
-  marked-is = marks ∙ ap₂ (λ (t : List ℤ) (u : List ℕ). markedAt t u n q) (patched .patches-are) (patched .exact-are);
+  sample-is = sample ∙ ap (λ (t : List ℤ). sampleAt t n (a .place)) (patched .patches-are);
+  marked-is = marks ∙ ap₂ (λ (t : List ℤ) (u : List ℕ). markedAt t u n (a .place)) (patched .patches-are) (patched .exact-are);
 }
 
 -- a coordinate of three numbers given by their places
@@ -96,7 +96,7 @@ module _ {M : IndexedMesh} (d : Lent) (a : WellFormed M) (long : listsShort M d 
       marked-on n q ∙ marked-from a (d .patches) (d .marks) patches-long marks-long n (q .face) (place (q .a) (q .b)) (on .0) (on .1)
 
 module _ {M M′ : IndexedMesh} {d d′ b b′ : Lent} {n : ℕ} {q q′ : SamplePlace} (o : SamplePlace) (w : Witness)
-    (first : Evaluated M d n q (w .first) b) (second : Evaluated M′ d′ n q′ (w .second) b′)
+    (first : Evaluated n (asked M d q) (w .first) b) (second : Evaluated n (asked M′ d′ q′) (w .second) b′)
     (other-is : sampled (w .other) ≡ sampleAt (patchList M d) n o) where
   module _ (a : WellFormed M) (long : listsShort M d ≡ false) where
     abbrev after : List ℤ
@@ -145,7 +145,8 @@ module _ {M M′ : IndexedMesh} {d d′ b b′ : Lent} {n : ℕ} {q q′ : Sampl
           ∙ rw (k .0, k .1, r .same-vertices, r .same-faces));
       renumbered = λ r long′ on at-q′.
           let a′ = alike-well-formed a (alike r) in
-          here ∙ renumbered-on a (d .patches) (patches-long d a long) n r (d′ .patches) (patches-long d′ a′ long′) (q .face) (place (q .a) (q .b)) (on .0) (on .1)
+          here
+          ∙ renumbered-on a (d .patches) (patches-long d a long) n r (d′ .patches) (patches-long d′ a′ long′) (q .face) (place (q .a) (q .b)) (on .0) (on .1)
           ∙ sym (second .sample-is ∙ sample-on d′ a′ long′ n q′ ∙ ap (sampleAt (patchesAfter M′ (d′ .patches)) n) at-q′);
       marks-renumbered = λ r long′ on at-q′.
           let a′ = alike-well-formed a (alike r) in
@@ -156,9 +157,8 @@ module _ {M M′ : IndexedMesh} {d d′ b b′ : Lent} {n : ℕ} {q q′ : Sampl
     }
 
 -- what `witness` gave: the calls for both meshes, and one more sample of the list that the first patch call left
-pub witnessed : {M M′ : IndexedMesh} {d d′ b b′ : Lent} {n : ℕ} {q o q′ : SamplePlace} {w : Witness}
-    → Evaluated M d n q (w .first) b → sampled (w .other) ≡ sampleAt (b .patches) n o → Evaluated M′ d′ n q′ (w .second) b′
-    → Witnessed M d M′ d′ n q o q′ w b b′
-witnessed {M} {n = n} {o = o} {w = w} first other second =
+pub witnessed : {n : ℕ} {a a′ : Asked} {o : SamplePlace} {w : Witness} {b b′ : Lent}
+    → Evaluated n a (w .first) b → sampled (w .other) ≡ sampleAt (b .patches) n o → Evaluated n a′ (w .second) b′ → Witnessed n a o a′ w b b′
+witnessed {n} {o = o} {w = w} first other second =
     let other-is = other ∙ ap (λ (t : List ℤ). sampleAt t n o) (first .patched .patches-are) in
     record { first = first; other-is = other-is; second = second; claim = λ a long. claim o w first second other-is (accepted-well-formed a) long }

@@ -1,31 +1,37 @@
 -- A renumbering M' of a mesh M (rule C8): the user says that M' comes from M.
 --
+--   ByCorner z rename to start n xs ys   lists with one entry a corner, of n faces: ys is as long as xs, and where face f gets the number `to f` and
+--                      begins at its corner `start f`, its corner s has there what corner start + s, modulo 4, has in xs, renamed
 --   vertices, faces    the permutations: the new number of each vertex and of each face
 --   start f            face f, by its old number, begins at this one of its corners in M'
 --   Place              a place (a, b) of a face, for an N
 --   matching n s p     the place that matches p in the face begun s corners later: (a, b) goes to (b, N - a), s times (rule C9)
 --   onSide n s t       place t of half-edge 4f + s, as a place of face f (rule C6)
 use mathlib.Core.Path.{_≡_}
+use mathlib.Core.List.{List}
 use Prim.Native.Nat.{ℕ, zero, suc, _+_, _-_, _*_, _%_, _<_}
-use lib.ListN.{length}
+use lib.IntN.{pos}
+use lib.ListN.{length, getD}
 use Rattle.finite.specs.Permutation.{Permutation}
-use Rattle.mesh.specs.IndexedMesh.{IndexedMesh, at, tag, coordinate}
+use Rattle.mesh.specs.IndexedMesh.{IndexedMesh}
+use Rattle.symmetry.specs.Carried.{Carried, threes}
+
+pub record ByCorner {A : Type 0} (z : A) (rename : A → A) (to start : ℕ → ℕ) (n : ℕ) (xs ys : List A) : Type 0 where
+  pub same-length : length ys ≡ length xs
+  pub moves : (f s : ℕ) → f < n → s < 4 → getD ys (4 * to f + s) z ≡ rename (getD xs (4 * f + (start f + s) % 4) z)
 
 pub record Renumbering (M M' : IndexedMesh) : Type 0 where
   pub same-vertices : M' .vertices ≡ M .vertices
   pub same-faces : M' .faces ≡ M .faces
-  pub same-positions : length (M' .positions) ≡ length (M .positions)
-  pub same-tags : length (M' .tags) ≡ length (M .tags)
-  pub same-indices : length (M' .indices) ≡ length (M .indices)
   pub vertices : Permutation (M .vertices)
   pub faces : Permutation (M .faces)
   pub start : ℕ → ℕ
   pub start-below : (f : ℕ) → f < M .faces → start f < 4
   -- a vertex keeps its position and tag under its new number
-  pub positions-move : (p k : ℕ) → p < M .vertices → k < 3 → coordinate M' (3 * vertices .to p + k) ≡ coordinate M (3 * p + k)
-  pub tags-move : (p : ℕ) → p < M .vertices → tag M' (vertices .to p) ≡ tag M p
+  pub positions-carried : Carried (pos 0) (threes (vertices .to)) (3 * M .vertices) (M .positions) (M' .positions)
+  pub tags-carried : Carried 0 (vertices .to) (M .vertices) (M .tags) (M' .tags)
   -- corner s of the new face is corner start + s, modulo 4, of the old one, and names that vertex's new number
-  pub faces-move : (f s : ℕ) → f < M .faces → s < 4 → at M' (4 * faces .to f + s) ≡ vertices .to (at M (4 * f + (start f + s) % 4))
+  pub faces-carried : ByCorner 0 (vertices .to) (faces .to) start (M .faces) (M .indices) (M' .indices)
 
 pub record Place : Type 0 where
   pub a : ℕ

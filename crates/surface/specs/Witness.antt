@@ -1,10 +1,12 @@
 -- What the patch call and the two sample calls give for one mesh and for two, whatever they are passed, and with it the claim.
 --
 --   sampleAt patches n q, markedAt patches exact n q   the answers of the sample call and of the marked one at place q
---   Evaluated M d n q r b   r holds the answers of the patch call on the mesh M with the lent lists d, and of the sample calls at place q on the
---                     lists that it left, b
---   Witnessed M d M' d' n q o q' w b b'   w holds the answers for M, with samples of one list at the places q and o, and for M' with samples
---                     at q'; b and b' are the lists afterwards; and of these answers the claim holds
+--   Asked             what the calls for one mesh are passed: the mesh, the lists lent for it, and the place of the sample
+--   LongEnough a      the lent lists have the places that the patch call asks for (rule R2, row 2)
+--   Evaluated n a r b   r holds the answers of the patch call on the mesh with its lent lists, and of the sample calls at the place on the lists that
+--                     it left, b
+--   Witnessed n a o a' w b b'   w holds the answers for a, with one more sample of the first list at the place o, and for a'; b and b' are the lists
+--                     afterwards; and of these answers the claim holds
 use mathlib.Core.Path.{_≡_}
 use mathlib.Core.Bool.{false}
 use mathlib.Core.List.{List}
@@ -29,13 +31,24 @@ sampleAt patches n q = sampleAnswer patches (q .face) n (q .a) (q .b)
 abbrev pub markedAt : List ℤ → List ℕ → ℕ → SamplePlace → Answer MarkedPoint
 markedAt patches exact n q = markedAnswer patches exact (q .face) n (q .a) (q .b)
 
-pub record Evaluated (M : IndexedMesh) (d : Lent) (n : ℕ) (q : SamplePlace) (r : Evaluation) (b : Lent) : Type 0 where
-  pub patched : Patched M d (r .mesh) b
-  pub sample-is : sampled (r .sample) ≡ sampleAt (patchList M d) n q
-  pub marked-is : marked (r .marked) ≡ markedAt (patchList M d) (exactList M d) n q
+pub record Asked : Type 0 where
+  pub mesh : IndexedMesh
+  pub lists : Lent
+  pub place : SamplePlace
 
-pub record Witnessed (M : IndexedMesh) (d : Lent) (M' : IndexedMesh) (d' : Lent) (n : ℕ) (q o q' : SamplePlace) (w : Witness) (b b' : Lent) : Type 0 where
-  pub first : Evaluated M d n q (w .first) b
-  pub other-is : sampled (w .other) ≡ sampleAt (patchList M d) n o
-  pub second : Evaluated M' d' n q' (w .second) b'
-  pub claim : Accepted M → listsShort M d ≡ false → Claim M M' d' n q o q' w
+abbrev pub asked : IndexedMesh → Lent → SamplePlace → Asked
+asked M d q = record { mesh = M; lists = d; place = q }
+
+abbrev pub LongEnough : Asked → Type 0
+LongEnough a = listsShort (a .mesh) (a .lists) ≡ false
+
+pub record Evaluated (n : ℕ) (a : Asked) (r : Evaluation) (b : Lent) : Type 0 where
+  pub patched : Patched (a .mesh) (a .lists) (r .mesh) b
+  pub sample-is : sampled (r .sample) ≡ sampleAt (patchList (a .mesh) (a .lists)) n (a .place)
+  pub marked-is : marked (r .marked) ≡ markedAt (patchList (a .mesh) (a .lists)) (exactList (a .mesh) (a .lists)) n (a .place)
+
+pub record Witnessed (n : ℕ) (a : Asked) (o : SamplePlace) (a' : Asked) (w : Witness) (b b' : Lent) : Type 0 where
+  pub first : Evaluated n a (w .first) b
+  pub other-is : sampled (w .other) ≡ sampleAt (patchList (a .mesh) (a .lists)) n o
+  pub second : Evaluated n a' (w .second) b'
+  pub claim : Accepted (a .mesh) → LongEnough a → Claim (a .mesh) (a' .mesh) (a' .lists) n (a .place) o (a' .place) w

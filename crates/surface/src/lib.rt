@@ -6,7 +6,7 @@ use crate::model::SamplePlace;
 use crate::model::Witness;
 ghost use Rattle.mesh.specs.IndexedMesh.{indexed};
 ghost use Rattle.patch.specs.Answer.{lent};
-ghost use Rattle.surface.specs.Witness.{Evaluated, Witnessed};
+ghost use Rattle.surface.specs.Witness.{asked, Evaluated, Witnessed};
 
 // The patches of a mesh with their marks, and one sample of them, also marked.
 // Returns: the answer of the patch call, and those of the sample call and of the marked one on the lists that it left.
@@ -23,9 +23,9 @@ pub fn evaluate(
     n: usize,
     place: SamplePlace,
 ) -> Evaluation
-    ensures { λ r. ⌜ Evaluated
-        (indexed v f (now (positions .entry)) (now (tags .entry)) (now (faces .entry)))
-        (lent (now (twins .entry)) (now (patches .entry)) (now (exact .entry))) n place r
+    ensures { λ r. ⌜ Evaluated n
+        (asked (indexed v f (now (positions .entry)) (now (tags .entry)) (now (faces .entry)))
+        (lent (now (twins .entry)) (now (patches .entry)) (now (exact .entry))) place) r
         (lent (now (twins .exit)) (now (patches .exit)) (now (exact .exit))) ⌝ }
 {
     let mesh = patch::patches(v, f, positions, tags, faces, twins, patches, exact);
@@ -64,12 +64,12 @@ pub fn witness(
     other: SamplePlace,
     place2: SamplePlace,
 ) -> Witness
-    ensures { λ r. ⌜ Witnessed
-        (indexed v f (now (positions .entry)) (now (tags .entry)) (now (faces .entry)))
-        (lent (now (twins .entry)) (now (patches .entry)) (now (exact .entry)))
-        (indexed v2 f2 (now (positions2 .entry)) (now (tags2 .entry)) (now (faces2 .entry)))
-        (lent (now (twins2 .entry)) (now (patches2 .entry)) (now (exact2 .entry)))
-        n place other place2 r (lent (now (twins .exit)) (now (patches .exit)) (now (exact .exit)))
+    ensures { λ r. ⌜ Witnessed n
+        (asked (indexed v f (now (positions .entry)) (now (tags .entry)) (now (faces .entry)))
+        (lent (now (twins .entry)) (now (patches .entry)) (now (exact .entry))) place) other
+        (asked (indexed v2 f2 (now (positions2 .entry)) (now (tags2 .entry)) (now (faces2 .entry)))
+        (lent (now (twins2 .entry)) (now (patches2 .entry)) (now (exact2 .entry))) place2) r
+        (lent (now (twins .exit)) (now (patches .exit)) (now (exact .exit)))
         (lent (now (twins2 .exit)) (now (patches2 .exit)) (now (exact2 .exit))) ⌝ }
 {
     let first = evaluate(

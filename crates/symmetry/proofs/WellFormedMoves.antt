@@ -18,6 +18,7 @@ use Rattle.mesh.specs.Fan.{valence, onBoundary, fan}
 use Rattle.mesh.specs.IndexedMesh.{IndexedMesh, indexed, corners, at, tag, coordinate}
 use Rattle.mesh.specs.WellFormed.{WellFormed}
 use Rattle.mesh.proofs.AcceptedLaws.{accepted-corners, accepted-edges}
+use Rattle.symmetry.specs.Carried.{Carried}
 use Rattle.symmetry.proofs.Sense.{Sense, same, reversed, turned, turned-below}
 use Rattle.symmetry.proofs.Iso.{Sound, Iso, halfEdges, at-turn, at-reflects, sound-moves, boundary-moves}
 use Rattle.symmetry.proofs.VertexMoves.{valence-moves, on-boundary-moves}
@@ -27,11 +28,10 @@ pub record Alike (z : Sense) (M M′ : IndexedMesh) : Type 0 where
   pub same-vertices : M′ .vertices ≡ M .vertices
   pub same-faces : M′ .faces ≡ M .faces
   pub same-positions : length (M′ .positions) ≡ length (M .positions)
-  pub same-tags : length (M′ .tags) ≡ length (M .tags)
   pub same-indices : length (M′ .indices) ≡ length (M .indices)
   pub shape : Iso z (at M) (at M′) (corners M) (M .vertices)
   pub sizes-move : (p k : ℕ) → p < M .vertices → k < 3 → natAbs (coordinate M′ (3 * shape .vertices .to p + k)) ≡ natAbs (coordinate M (3 * p + k))
-  pub tags-move : (p : ℕ) → p < M .vertices → tag M′ (shape .vertices .to p) ≡ tag M p
+  pub tags-carried : Carried 0 (shape .vertices .to) (M .vertices) (M .tags) (M′ .tags)
 
 pub sound : {M : IndexedMesh} → WellFormed M → Sound (at M) (corners M) (M .vertices)
 sound a = record { whole = accepted-corners a; named = a .named; simple = a .simple }
@@ -69,11 +69,11 @@ module _ {z : Sense} {M M′ : IndexedMesh} (a : WellFormed M) (r : Alike z M M�
   -- M′, with the sizes of M
   here : WellFormed (indexed (M .vertices) (M .faces) (M′ .positions) (M′ .tags) (M′ .indices))
   here = record {
-    sized = rw (r .same-positions, r .same-tags, r .same-indices) (a .sized);
+    sized = rw (r .same-positions, r .tags-carried .same-length, r .same-indices) (a .sized);
     coordinates = λ j l.
         let e : 3 * (j / 3) + j % 3 ≡ j = omega arith in
         rw (← e) (moved-coordinate (j / 3) (omega arith) (j % 3) (omega arith));
-    tags-known = to-every (i .vertices) (λ p. tag M′ p ≤ cornerTag) (λ p l. rw (r .tags-move p l) (a .tags-known p l));
+    tags-known = to-every (i .vertices) (λ p. tag M′ p ≤ cornerTag) (λ p l. rw (r .tags-carried .moves p l) (a .tags-known p l));
     named = sound-moves s i .named;
     distinct = λ c j l b. moved-distinct c l j b;
     simple = sound-moves s i .simple;
@@ -88,7 +88,7 @@ module _ {z : Sense} {M M′ : IndexedMesh} (a : WellFormed M) (r : Alike z M M�
     boundary-high = to-every (i .vertices) (λ p. onBoundary (at M′) (corners M) p ≡ true → valence (at M′) (corners M) p ≤ maxBoundaryFaces) (λ p l e.
         rw (valence-moves s i p l) (a .boundary-high p l (sym (on-boundary p l) ∙ e)));
     tagged-boundary = to-every (i .vertices) (λ p. tag M′ p ≡ cornerTag → onBoundary (at M′) (corners M) p ≡ true) (λ p l e.
-        on-boundary p l ∙ a .tagged-boundary p l (sym (r .tags-move p l) ∙ e));
+        on-boundary p l ∙ a .tagged-boundary p l (sym (r .tags-carried .moves p l) ∙ e));
   }
 
   pub alike-well-formed : WellFormed M′

@@ -86,7 +86,7 @@ module _ (S : View) (k : Corners (S .shape .n)) (simple : Simple (S .shape .at) 
   unfolding endVector
   end-twin = ap (λ (b : ℕ). negℤ (cornerVector S b)) (twin-twin (S .shape .at) k simple c l inside)
 
-  terms-same : endTerm S d ≡ startTerm S c
+  pub terms-same : endTerm S (twinOf S c) ≡ startTerm S c
   terms-same =
       rw (end-twin, middle-twin, ends .0, ends .1) (sym (first-back (cosineAt S c) (cosineAt S (next c)) (cornerVector S c) (middleVector S c)))
 

@@ -20,7 +20,7 @@ use Rattle.patch.specs.Patch.{view}
 use Rattle.tangent.specs.Tangent as table
 use Rattle.tangent.specs.Tangent.{Kind, start, middle, end, inner, startIn, endIn, Row, rowOf, signed, vector, tangent, tangentNumber, tangentList}
 use Rattle.tangency.specs.Claim.{number, along, Across}
-use Rattle.tangency.proofs.AcrossLaws.{across-edge}
+use Rattle.tangency.proofs.AcrossLaws.{terms-same, across-edge}
 
 -- ---- the number of a vector leads back to its side and its kind
 -- a row without its sign, and whether it is one of the 24
@@ -70,6 +70,10 @@ pub across-lists : {M : IndexedMesh} → WellFormed M → (c : ℕ) → c < corn
     → Across M c (tangentList M (c / 4)) (tangentList M (twin (at M) (corners M) c / 4))
 unfolding vector
 across-lists {M} a c l e = record {
+  common = λ k h.
+      let b = twin (at M) (corners M) c in
+      rw (along-edge M middle b k h, along-edge M end b k h, along-edge M start c k h, along-edge M middle c k h)
+      (terms-same (view M k) (accepted-corners a) (a .simple) c l e);
   sum = λ k h.
       rw (along-edge M startIn c k h, along-edge M endIn (twin (at M) (corners M) c) k h, along-edge M start c k h, along-edge M middle c k h)
       (across-edge (view M k) (accepted-corners a) (a .simple) c l e);

@@ -18,7 +18,7 @@ use Rattle.tangent.specs.Tangent.{Kind, vector, tangentList}
 use Rattle.tangent.specs.Answer.{faceOpen}
 use Rattle.tangent.proofs.InnerLaws.{side-inner}
 use Rattle.surface.specs.Renumbering.{Renumbering}
-use Rattle.surface.proofs.FromRenumbering.{cornerMap, face-begins, alike}
+use Rattle.surface.proofs.FromRenumbering.{cornerMap, face-begins, position-moves, alike}
 use Rattle.tangency.specs.Claim.{along}
 use Rattle.tangency.proofs.ListLaws.{along-is}
 use Rattle.tangency.proofs.VectorMoves.{vector-moves}
@@ -44,7 +44,7 @@ module _ {M M′ : IndexedMesh} (r : Renumbering M M′) (a : WellFormed M) (g :
       let p = at M (4 * g + was s) in
       let named = a .named (4 * g + was s) (omega arith) in
       ap (λ (f : ℕ). onBoundary (at M′) (4 * f) (at M′ (4 * r .faces .to g + s))) (r .same-faces)
-      ∙ ap (onBoundary (at M′) (corners M)) (r .faces-move g s l b)
+      ∙ ap (onBoundary (at M′) (corners M)) (r .faces-carried .moves g s l b)
       ∙ on-boundary-moves (sound a) (alike r .shape) p named (a .fans p named)
       ∙ any-false _ 4 closed (was s) (mod-lt (r .start g + s) (omega arith)))
 
@@ -58,7 +58,7 @@ module _ {M M′ : IndexedMesh} (r : Renumbering M M′) (a : WellFormed M) (g :
   vector-renumbered q s k b axis =
       let ends = side-inner a g l closed (was s) (mod-lt (r .start g + s) (omega arith)) in
       ap (λ (c : ℕ). vector (view M′ k) c q) (side-begins s)
-      ∙ vector-moves a (alike r) (view M k .value) (view M′ k .value) (λ p h. r .positions-move p k h axis)
+      ∙ vector-moves a (alike r) (view M k .value) (view M′ k .value) (λ p h. position-moves r p k h axis)
       (turn (was s) (4 * g)) (turn-inside g (was s) (M .faces) l) (ends .0) (ends .1) q
 
   pub renumbered-lists : (q : Kind) (s k : ℕ) → s < 4 → k < 3

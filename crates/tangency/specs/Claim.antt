@@ -3,9 +3,11 @@
 --   number q s         the place among the 24 of the vector of kind q of side s
 --   along r q s k      coordinate k of that vector in the list r of a face, turned to run along the side, or from it into the face
 --   cosineOf M c       the cosine of the vertex of corner c (rule D1)
---   edgeTerm M r c k   the cosine term that both faces of half-edge c have near its start, times 3 * 2^20, from the list r of the face of c
---   Across M c r r'    r and r' are the lists of the faces of half-edge c and of its twin: near the start of c the two vectors into the faces sum,
---                      in each coordinate, to within 7 units of twice the cosine term, all times 3 * 2^20 (rule D10)
+--   edgeTerm M r c k   the cosine term near the start of half-edge c, times 3 * 2^20, from the list r of the face of c
+--   farTerm M r c k    the one near its end, likewise
+--   Across M c r r'    r and r' are the lists of the faces of half-edge c and of its twin: near the start of c, which is the end of the twin, both have
+--                      one cosine term, and the two vectors into the faces sum, in each coordinate, to within 7 units of twice that term, all times
+--                      3 * 2^20 (rule D10)
 --   Written r          the call wrote the tangents
 --   Edge M c g h       half-edge c is of face g and its twin of face h
 --   TangentClaim       the claim, of whatever the tangent call hands back: its hypotheses are the record that the call promises (`tangent-claim`)
@@ -23,7 +25,7 @@ use Rattle.mesh.specs.Fan.{valence}
 use Rattle.mesh.specs.IndexedMesh.{IndexedMesh, corners, at}
 use Rattle.mesh.specs.Refusal.{Accepted}
 use Rattle.cosine.specs.Cosine.{cosine}
-use Rattle.tangent.specs.Vector.{correctedDivisor, firstTerm}
+use Rattle.tangent.specs.Vector.{correctedDivisor, firstTerm, secondTerm}
 use Rattle.tangent.specs.Tangent.{Kind, start, middle, end, inner, startIn, endIn, rowOf, signed}
 use Rattle.tangent.specs.Answer.{faceOpen, TangentsGiven}
 use Rattle.surface.specs.Renumbering.{Renumbering}
@@ -45,7 +47,11 @@ cosineOf M c = cosine (valence (at M) (corners M) (at M c))
 abbrev pub edgeTerm : IndexedMesh → List ℤ → ℕ → ℕ → ℤ
 edgeTerm M r c k = firstTerm (cosineOf M c) (cosineOf M (next c)) (along r start (c % 4) k) (along r middle (c % 4) k)
 
+abbrev pub farTerm : IndexedMesh → List ℤ → ℕ → ℕ → ℤ
+farTerm M r c k = secondTerm (cosineOf M c) (cosineOf M (next c)) (along r middle (c % 4) k) (along r end (c % 4) k)
+
 pub record Across (M : IndexedMesh) (c : ℕ) (r r' : List ℤ) : Type 0 where
+  pub common : (k : ℕ) → k < 3 → farTerm M r' (twin (at M) (corners M) c) k ≡ edgeTerm M r c k
   pub sum : (k : ℕ) → k < 3
       → natAbs (pos correctedDivisor *ℤ (along r startIn (c % 4) k +ℤ along r' endIn (twin (at M) (corners M) c % 4) k) -ℤ pos 2 *ℤ edgeTerm M r c k)
       ≤ 7 * correctedDivisor

@@ -2,19 +2,16 @@
 -- limit, the faces are whole, and the three lists are filled to their ends.
 use mathlib.Core.Path.{_≡_, refl, sym, ap, _∙_}
 use mathlib.Core.Bool.{false}
-use mathlib.Core.List.{List}
-use Prim.Native.Nat.{ℕ}
 use native.Mathlib.Omega.{arith}
 use native.Mathlib.Nat.{le-of-eq}
-use lib.IntN.{ℤ}
 use borrow.Author.Needs.{needs}
 use Rattle.mesh.specs.IndexedMesh.{IndexedMesh, indexed}
 use Rattle.mesh.specs.Refusal.{Accepted}
 use Rattle.mesh.specs.WellFormed.{WellFormed}
 use Rattle.mesh.specs.Answer.{checked, meshRefusal}
 use Rattle.mesh.proofs.AcceptedLaws.{accepted-well-formed}
-use Rattle.edit.specs.Mirror.{outputsOff}
-use Rattle.edit.proofs.AnswerLaws.{check-accepted, same-positions, same-tags, same-indices, refused, check-refused, lengths-refused, done}
+use Rattle.edit.specs.Mirror.{Outputs, outputs, outputsOff}
+use Rattle.edit.proofs.AnswerLaws.{SameLengths, check-accepted, lengths-same, refused, check-refused, lengths-refused, done}
 use Rattle.edit.proofs.mirror.Statement.{statement}
 use Rattle.edit.proofs.mirror.Tie as tie
 
@@ -23,14 +20,8 @@ module _ (s : tie.Start) where
   abbrev mesh : IndexedMesh
   mesh = indexed (s .args .v) (s .args .f) (s .args .positions .now) (s .args .tags .now) (s .args .faces .now)
 
-  abbrev lent-positions : List ℤ
-  lent-positions = s .args .out-positions .now
-
-  abbrev lent-tags : List ℕ
-  lent-tags = s .args .out-tags .now
-
-  abbrev lent-indices : List ℕ
-  lent-indices = s .args .out-faces .now
+  abbrev lent : Outputs
+  lent = outputs (s .args .out-positions .now) (s .args .out-tags .now) (s .args .out-faces .now)
 
 -- ---- the check has answered
 abbrev start : tie.After-check-alone → tie.Start
@@ -64,8 +55,8 @@ unfolding meshRefusal
 returns c =
     let k = asked c in
     let s = start k in
-    refused (mesh s) (lent-positions s) (lent-tags s) (lent-indices s) _ refl
-    (check-refused (mesh s) (lent-positions s) (lent-tags s) (lent-indices s) (sym (ap checked (c .before .answer .given .1)) ∙ k .check-alone .ensures))
+    refused (mesh s) (lent s) _ refl
+    (check-refused (mesh s) (lent s) (sym (ap checked (c .before .answer .given .1)) ∙ k .check-alone .ensures))
 
 enum-told : tie.Need-enum-told
 enum-told c = search needs
@@ -77,8 +68,8 @@ returns-2 : tie.Need-returns-2
 returns-2 c =
     let k = c .before in
     let s = entry k in
-    refused (mesh s) (lent-positions s) (lent-tags s) (lent-indices s) _ refl
-    (lengths-refused (mesh s) (lent-positions s) (lent-tags s) (lent-indices s) (accepted k) (sym (k .outputs-off .ensures) ∙ c .if1 .taken))
+    refused (mesh s) (lent s) _ refl
+    (lengths-refused (mesh s) (lent s) (accepted k) (sym (k .outputs-off .ensures) ∙ c .if1 .taken))
 
 -- ---- the lengths are those of the mesh's lists
 module _ (c : tie.Else1) where
@@ -88,8 +79,11 @@ module _ (c : tie.Else1) where
   abbrev passed-in : tie.Start
   passed-in = entry compared
 
-  on : outputsOff (mesh passed-in) (lent-positions passed-in) (lent-tags passed-in) (lent-indices passed-in) ≡ false
+  on : outputsOff (mesh passed-in) (lent passed-in) ≡ false
   on = sym (compared .outputs-off .ensures) ∙ c .if1 .left
+
+  same : SameLengths (mesh passed-in) (lent passed-in)
+  same = lengths-same (mesh passed-in) (lent passed-in) on
 
   formed : WellFormed (mesh passed-in)
   formed = accepted-well-formed (accepted compared)
@@ -104,24 +98,15 @@ before-faces c = let written = c .before .before .before in before-tags (written
 reflect-positions-requires : tie.Need-reflect-positions-requires
 reflect-positions-requires c κs =
     let k : tie.Else1 = c .before in
-    let s = passed-in k in (
-      le-of-eq (sym (same-positions (mesh s) (lent-positions s) (lent-tags s) (lent-indices s) (on k))),
-      λ i l. formed k .coordinates i (rw (formed k .sized .positions-are) at l),
-    )
+    (le-of-eq (sym (same k .positions)), λ i l. formed k .coordinates i (rw (formed k .sized .positions-are) at l))
 
 copy-bytes-requires : tie.Need-copy-bytes-requires
-copy-bytes-requires c κs =
-    let k = before-tags c in
-    let s = passed-in k in
-    le-of-eq (sym (same-tags (mesh s) (lent-positions s) (lent-tags s) (lent-indices s) (on k)))
+copy-bytes-requires c κs = le-of-eq (sym (same (before-tags c) .tags))
 
 reflect-faces-requires : tie.Need-reflect-faces-requires
 reflect-faces-requires c κs =
     let k = before-faces c in
-    let s = passed-in k in (
-      le-of-eq (sym (same-indices (mesh s) (lent-positions s) (lent-tags s) (lent-indices s) (on k))),
-      omega (arith, formed k .sized .indices-are),
-    )
+    (le-of-eq (sym (same k .indices)), omega (arith, formed k .sized .indices-are))
 
 same-length : tie.Need-same-length
 same-length c = search needs
@@ -139,8 +124,8 @@ returns-3 c =
     let positions : tie.After-reflect-positions = tags .before .before .before in
     let k : tie.Else1 = positions .before .before in
     let s = passed-in k in
-    done (mesh s) (lent-positions s) (lent-tags s) (lent-indices s) (accepted (compared k)) (on k) _ refl
-    (positions .reflect-positions .ensures) (tags .copy-bytes .ensures) (faces .reflect-faces .ensures)
+    done (mesh s) (lent s) (accepted (compared k)) (on k) _ refl
+    (record { positions = positions .reflect-positions .ensures; tags = tags .copy-bytes .ensures; indices = faces .reflect-faces .ensures })
 
 pub mirror-spec : {M : Type 1} → statement M
 mirror-spec =
