@@ -3,13 +3,17 @@
 --   Narrow a       the four values of a face are of 32 bits
 use mathlib.Core.Path.{_≡_}
 use mathlib.Core.Bool.{Bool, _&&_}
-use Prim.Native.Nat.{ℕ, suc, _*_, _+_, _≤_, _<_, _^_}
+use Prim.Native.Nat.{ℕ, _*_, _+_, _-_, _≤_, _<_, _^_}
+use native.Mathlib.Nat.{mul-le-mul}
 use native.Mathlib.Omega.{arith}
-use lib.IntN.{ℤ, pos, negsuc, natAbs}
+use lib.Dec.{ltb}
+use lib.IntN.{ℤ, pos, negsuc, natAbs, _*ℤ_}
 use lib.Signed.{mag}
-use borrow.Author.Tests.{eq-eqb, ne-eqb}
+use borrow.Author.Tests.{eq-eqb, ne-eqb, ltb-false}
+use Rattle.integer.proofs.Laws.{abs-+, abs-*}
+use Rattle.finite.proofs.FoldLaws.{bool-cases}
 use Rattle.limits.specs.Limits.{noTwin}
-use Rattle.mask.specs.Mask.{Fraction, innerMask, edgeMask, boundaryEdgeMask}
+use Rattle.mask.specs.Mask.{Fraction, innerMask, edgeMask, boundaryEdgeMask, smoothCornerMask, sharpCornerMask, maxSharpness, cornerMask}
 use Rattle.mask.specs.declared.model.FaceValues.{FaceValues}
 use Rattle.mask.proofs.LinearLaws.{Related, bounds, inner-mask, edge-mask, boundary-edge-mask}
 use Rattle.control.specs.Control.{valueOf, pointOf, linked}
@@ -79,3 +83,26 @@ edge-small w a b l s t = omega (arith, edge-sized w a b s t .related)
 pub sharp-small : (p q : ℤ) → natAbs p ≤ 2 ^ 31 * 1 → natAbs q ≤ 2 ^ 31 * 1 → natAbs (boundaryEdgeMask p q .num) ≤ 2 ^ 54
 unfolding boundaryEdgeMask
 sharp-small p q l m = omega (arith, sharp-sized p q l m .related)
+
+-- ---- the corner point, for every rule of 8 bits
+smooth-small : (n : ℕ) (p s : ℤ) → n < 256 → natAbs p ≤ 2 ^ 31 * 1 → natAbs s ≤ 2 ^ 31 * 1 → natAbs (smoothCornerMask n p s .num) ≤ 2 ^ 54
+unfolding smoothCornerMask
+smooth-small n p s l hp hs =
+    let square = mul-le-mul {n₁ = n} {m₁ = n} {n₂ = 256} {m₂ = 256} (omega arith) (omega arith) in
+    let product = mul-le-mul {n₁ = n * n} {m₁ = natAbs p} {n₂ = 65536} {m₂ = 2 ^ 31} (omega arith) (omega arith) in
+    omega (arith, abs-+ (pos (n * n) *ℤ p) s, abs-* (pos (n * n)) p)
+
+boundary-small : (g : ℕ) (p s : ℤ) → g ≤ maxSharpness → natAbs p ≤ 2 ^ 31 * 1 → natAbs s ≤ 2 ^ 31 * 1 → natAbs (sharpCornerMask g p s .num) ≤ 2 ^ 54
+unfolding sharpCornerMask
+boundary-small g p s l hp hs =
+    let first = mul-le-mul {n₁ = 64 + 2 * g} {m₁ = natAbs p} {n₂ = 96} {m₂ = 2 ^ 31} (omega arith) (omega arith) in
+    let second = mul-le-mul {n₁ = maxSharpness - g} {m₁ = natAbs s} {n₂ = 16} {m₂ = 2 ^ 31} (omega arith) (omega arith) in
+    omega (arith, abs-+ (pos (64 + 2 * g) *ℤ p) (pos (maxSharpness - g) *ℤ s), abs-* (pos (64 + 2 * g)) p, abs-* (pos (maxSharpness - g)) s)
+
+pub corner-small : (r : ℕ) (p ring sharp : ℤ) → r < 256 → natAbs p ≤ 2 ^ 31 * 1 → natAbs ring ≤ 2 ^ 31 * 1 → natAbs sharp ≤ 2 ^ 31 * 1
+    → natAbs (cornerMask r p ring sharp .num) ≤ 2 ^ 54
+unfolding cornerMask
+corner-small r p ring sharp l hp hr hs =
+    bool-cases (ltb maxSharpness r)
+    (λ e. rw e (smooth-small (r - maxSharpness) p ring (omega arith) hp hr))
+    (λ e. rw e (boundary-small r p sharp (ltb-false maxSharpness r e) hp hs))

@@ -1,7 +1,7 @@
 //! The control points that a corner of a face owns, from tables by corner. Every call takes any tables and any corner: a place beyond a table is read at
 //! its rest by the length, so that no list has to be trusted.
 pub mod model;
-mod value;
+pub mod value;
 
 use crate::model::ControlPoint;
 use crate::model::Value;

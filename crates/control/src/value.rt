@@ -10,12 +10,12 @@ use mask::model::Fraction;
 ghost use mathlib.Core.Path.{_≡_};
 ghost use Prim.Native.Nat.{_≤_, _^_};
 ghost use lib.IntN.{natAbs};
-ghost use Rattle.mask.specs.Mask.{boundaryEdgeMask};
+ghost use Rattle.mask.specs.Mask.{boundaryEdgeMask, cornerMask};
 ghost use Rattle.mask.specs.FractionOf.{fractionOf};
 ghost use Rattle.control.specs.Control.{valueAt, faceAt, innerAt, edgeAt, linkedAlong, linkedBefore, valueOf};
 
-// Coordinate k of the vertex of corner c.
-fn value(values: &[i32; 4096], k: usize, c: usize) -> i32
+// Coordinate k of the vertex of corner c. Writes: nothing. Refuses: nothing.
+pub fn value(values: &[i32; 4096], k: usize, c: usize) -> i32
     ensures { λ r. ⌜ r ≡ valueAt (now (values .entry)) k c ⌝ }
 {
     values[4 * (c % 1024) + k % 4]
@@ -59,6 +59,13 @@ pub fn edge_value(values: &[i32; 4096], w: u16, k: usize, c: usize, d: usize) ->
     let a = face_values(values, k, c);
     let b = face_values(values, k, d);
     in_units(mask::edge_mask(w, a, b))
+}
+
+// The corner point of a vertex of coordinate p by its rule, from its two sums. Writes: nothing. Refuses: nothing.
+pub fn corner_value(rule: u8, p: i32, ring: i32, sharp: i32) -> Value
+    ensures { λ r. ⌜ r ≡ valueOf (cornerMask rule p ring sharp) ⌝ }
+{
+    in_units(mask::corner_mask(rule, p, ring, sharp))
 }
 
 // The edge point near p on the sharp edge between p and q.
