@@ -8,6 +8,9 @@
 --                     corner at each vertex, `link` the corner at the same vertex before each corner, both plus 1, 0 for none
 --   Unchained head link   two tables with room for the chains of any mesh, before the first corner is chained
 --   Indices faces n   the first n numbers of the face list are whole faces, and their vertices have places in the tables
+--   Linkable faces head link n   the face list and room for the chains of its first n corners
+--   Linked faces head link n     these chains, of half-edges of which none occurs twice: what the twins are found by
+--   Valences faces valences n    `valences` has the number of corners at each vertex
 --   Twinned faces twins n   no half-edge of the faces occurs twice, and the first n places of the list of twins hold their twins
 --   Headed faces head n     `head` has the last corner at each vertex, plus 1, 0 for none
 --   Connected faces twins head n   both: what circulating about a vertex rests on
@@ -21,6 +24,7 @@ use lib.ListN.{length, getD}
 use Rattle.limits.specs.Limits.{maxVertices, maxFaces, noTwin}
 use Rattle.corner.specs.Corner.{next}
 use Rattle.mesh.specs.HalfEdge.{twin, Simple}
+use Rattle.mesh.specs.Fan.{valence}
 
 pub record Corners (n : ℕ) : Type 0 where
   pub whole : n % 4 ≡ 0
@@ -53,6 +57,20 @@ pub record Indices (faces : List ℕ) (n : ℕ) : Type 0 where
   pub few : n ≤ 4 * maxFaces
   pub listed : n ≤ length faces
   pub named : (c : ℕ) → c < n → vertexOf faces c < maxVertices
+
+pub record Linkable (faces head link : List ℕ) (n : ℕ) : Type 0 where
+  pub indices : Indices faces n
+  pub heads-listed : maxVertices ≤ length head
+  pub links-listed : n ≤ length link
+
+pub record Linked (faces head link : List ℕ) (n : ℕ) : Type 0 where
+  pub room : Linkable faces head link n
+  pub chained : Chained (vertexOf faces) n head link
+  pub simple : Simple (vertexOf faces) n
+
+pub record Valences (faces valences : List ℕ) (n : ℕ) : Type 0 where
+  pub listed : maxVertices ≤ length valences
+  pub are : Holds 0 valences maxVertices (valence (vertexOf faces) n)
 
 pub record Twinned (faces twins : List ℕ) (n : ℕ) : Type 0 where
   pub indices : Indices faces n

@@ -11,8 +11,8 @@ ghost use Rattle.finite.specs.Fold.{anyBelow};
 ghost use Rattle.finite.specs.Filled.{filled};
 ghost use Rattle.limits.specs.Limits.{maxVertices, noTwin};
 ghost use Rattle.corner.specs.Corner.{next};
-ghost use Rattle.mesh.specs.HalfEdge.{runs, twin, doubled, Simple};
-ghost use Rattle.mesh.specs.Tables.{Holds, vertexOf, latest, Chained, Indices};
+ghost use Rattle.mesh.specs.HalfEdge.{runs, twin, doubled};
+ghost use Rattle.mesh.specs.Tables.{Holds, vertexOf, latest, Chained, Indices, Linkable, Linked};
 
 // The last half-edge below c that runs from p to q, plus 1, and 0 for none, along the chain of p's corners below c from start on.
 fn find(faces: &[u16], n: usize, link: &[u16], c: usize, p: usize, start: u16, q: u16) -> u16
@@ -46,8 +46,7 @@ fn occurs_before(faces: &[u16], n: usize, link: &[u16], c: usize, start: u16) ->
 
 // Cause 7. Where it does not hold, head and link are the chains of all corners afterwards; they come in zeroed.
 pub(crate) fn link_corners(faces: &[u16], n: usize, head: &mut [u16], link: &mut [u16]) -> bool
-    requires { ⌜ Indices (now faces) n × (maxVertices ≤ length (now head)) × (n ≤ length (now link)) ⌝ }
-    requires { ⌜ Holds 0 (now head) maxVertices (λ p. 0) ⌝ }
+    requires { ⌜ Linkable (now faces) (now head) (now link) n × Holds 0 (now head) maxVertices (λ p. 0) ⌝ }
     ensures { λ r. ⌜ r ≡ doubled (vertexOf (now (faces .entry))) n ⌝ }
     ensures { λ r. ⌜ (r ≡ false → Chained (vertexOf (now (faces .entry))) n (now (head .exit)) (now (link .exit))) ⌝ }
 {
@@ -65,9 +64,7 @@ pub(crate) fn link_corners(faces: &[u16], n: usize, head: &mut [u16], link: &mut
 
 // The twin of half-edge c.
 fn twin_of(faces: &[u16], n: usize, head: &[u16], link: &[u16], c: usize) -> u16
-    requires { ⌜ Indices (now faces) n × (c < n) × (maxVertices ≤ length (now head)) × (n ≤ length (now link)) ⌝ }
-    requires { ⌜ Chained (vertexOf (now faces)) n (now head) (now link) ⌝ }
-    requires { ⌜ Simple (vertexOf (now faces)) n ⌝ }
+    requires { ⌜ Linked (now faces) (now head) (now link) n × (c < n) ⌝ }
     ensures { λ r. ⌜ r ≡ twin (vertexOf (now (faces .entry))) n c ⌝ }
 {
     let p = wide(faces[next_corner(c)]);
@@ -81,9 +78,7 @@ fn twin_of(faces: &[u16], n: usize, head: &[u16], link: &[u16], c: usize) -> u16
 
 // Writes the twins into the first n places.
 pub(crate) fn fill_twins(faces: &[u16], n: usize, head: &[u16], link: &[u16], twins: &mut [u16])
-    requires { ⌜ Indices (now faces) n × (maxVertices ≤ length (now head)) × (n ≤ length (now link)) × (n ≤ length (now twins)) ⌝ }
-    requires { ⌜ Chained (vertexOf (now faces)) n (now head) (now link) ⌝ }
-    requires { ⌜ Simple (vertexOf (now faces)) n ⌝ }
+    requires { ⌜ Linked (now faces) (now head) (now link) n × (n ≤ length (now twins)) ⌝ }
     ensures { λ _. ⌜ now (twins .exit) ≡ filled (twin (vertexOf (now (faces .entry))) n) n (now (twins .entry)) ⌝ }
 {
     for c in 0..n {

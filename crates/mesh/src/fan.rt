@@ -15,7 +15,7 @@ ghost use Rattle.limits.specs.Limits.{maxVertices, cornerTag};
 ghost use Rattle.limits.specs.Range.{valenceBad};
 ghost use Rattle.mesh.specs.Fan.{valence, onBoundary, fan};
 ghost use Rattle.mesh.specs.Refusal.{fanBroken, valenceOff};
-ghost use Rattle.mesh.specs.Tables.{Holds, vertexOf, Headed, Connected};
+ghost use Rattle.mesh.specs.Tables.{vertexOf, Valences, Headed, Connected};
 
 // A corner at vertex p, which has corners: the last of them.
 fn corner_at(faces: &[u16], n: usize, head: &[u16], p: usize) -> usize
@@ -35,7 +35,7 @@ fn fan_broken(
     p: usize,
 ) -> bool
     requires { ⌜ Connected (now faces) (now twins) (now head) n × (p < maxVertices) × (0 < valence (vertexOf (now faces)) n p) ⌝ }
-    requires { ⌜ (maxVertices ≤ length (now valences)) × Holds 0 (now valences) maxVertices (valence (vertexOf (now faces)) n) ⌝ }
+    requires { ⌜ Valences (now faces) (now valences) n ⌝ }
     ensures { λ r. ⌜ r ≡ not (fan (vertexOf (now (faces .entry))) n p) ⌝ }
 {
     let start = corner_at(faces, n, head, p);
@@ -94,7 +94,7 @@ pub(crate) fn any_fan_broken(
     head: &[u16],
 ) -> bool
     requires { ⌜ Connected (now faces) (now twins) (now head) n × (v ≤ maxVertices) ⌝ }
-    requires { ⌜ (maxVertices ≤ length (now valences)) × Holds 0 (now valences) maxVertices (valence (vertexOf (now faces)) n) ⌝ }
+    requires { ⌜ Valences (now faces) (now valences) n ⌝ }
     requires { ⌜ ((p : ℕ) → p < v → 0 < valence (vertexOf (now faces)) n p) ⌝ }
     ensures { λ r. ⌜ r ≡ fanBroken (vertexOf (now (faces .entry))) n v ⌝ }
 {
@@ -116,7 +116,7 @@ pub(crate) fn any_valence_off(
     head: &[u16],
 ) -> bool
     requires { ⌜ Connected (now faces) (now twins) (now head) n × (v ≤ maxVertices) ⌝ }
-    requires { ⌜ (maxVertices ≤ length (now valences)) × Holds 0 (now valences) maxVertices (valence (vertexOf (now faces)) n) ⌝ }
+    requires { ⌜ Valences (now faces) (now valences) n ⌝ }
     requires { ⌜ ((p : ℕ) → p < v → fan (vertexOf (now faces)) n p ≡ true) ⌝ }
     ensures { λ r. ⌜ r ≡ valenceOff (vertexOf (now (faces .entry))) n v ⌝ }
 {

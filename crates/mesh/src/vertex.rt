@@ -11,8 +11,7 @@ ghost use Rattle.mesh.specs.Tables.{Holds, vertexOf, Indices};
 
 // Counts the corners at each vertex, over a table of zeros.
 pub(crate) fn count_corners(faces: &[u16], n: usize, valences: &mut [u16])
-    requires { ⌜ Indices (now faces) n × (maxVertices ≤ length (now valences)) ⌝ }
-    requires { ⌜ Holds 0 (now valences) maxVertices (λ p. 0) ⌝ }
+    requires { ⌜ Indices (now faces) n × (maxVertices ≤ length (now valences)) × Holds 0 (now valences) maxVertices (λ p. 0) ⌝ }
     ensures { λ _. ⌜ Holds 0 (now (valences .exit)) maxVertices (valence (vertexOf (now (faces .entry))) n) ⌝ }
 {
     for c in 0..n {

@@ -161,8 +161,14 @@ slice-aggregate-fill-twins-2 c = search needs
 fill-twins-requires : tie.Need-fill-twins-requires
 fill-twins-requires c κs =
     let e = c .before .before .before in
-    let p = passed e in
-    ((p .indices, omega arith, omega (arith, p .sized .faces-high), room e), (chained e, p .simple))
+    let p = passed e in (
+      record {
+        room = record { indices = p .indices; heads-listed = omega arith; links-listed = omega (arith, p .sized .faces-high) };
+        chained = chained e;
+        simple = p .simple;
+      },
+      room e,
+    )
 
 slice-aggregate-late-refusal : tie.Need-slice-aggregate-late-refusal
 slice-aggregate-late-refusal c = search needs

@@ -1,6 +1,7 @@
 -- `link_corners` meets its contract: the corners passed are chained and no half-edge among them runs as an earlier one does; the loop stops at
 -- the first that does.
 use mathlib.Core.Bool.{true≢false, false}
+use mathlib.Core.List.{List}
 use mathlib.Core.Path.{_≡_, refl, sym, ap, _∙_, subst}
 use Prim.Native.Nat.{ℕ, _-_, _<_, _≤_}
 use native.Mathlib.Nat.{le-antisymm}
@@ -19,10 +20,16 @@ use Rattle.mesh.proofs.chain.link_corners.Statement.{statement}
 use Rattle.mesh.proofs.chain.link_corners.Tie as tie
 use Rattle.mesh.specs.Tables.{vertexOf, latest, Chained}
 
+-- the corners below c are chained, and no half-edge of theirs runs as an earlier one does
+record Linking (faces : List ℕ) (n : ℕ) (head₀ link₀ head link : List ℕ) (c : ℕ) : Type 0 where
+  within : c ≤ n
+  heads-kept : length head ≡ length head₀
+  links-kept : length link ≡ length link₀
+  chained : Chained (vertexOf faces) c head link
+  apart : anyBelow (λ d. anyBelow (runs (vertexOf faces) (vertexOf faces d) (vertexOf faces (next d))) d) c ≡ false
+
 abbrev Inv-loop : tie.InvT-loop
-Inv-loop faces n head₀ link₀ c₀ head link c =
-    (c ≤ n) × (length head ≡ length head₀) × (length link ≡ length link₀) × Chained (vertexOf faces) c head link
-    × (anyBelow (λ d. anyBelow (runs (vertexOf faces) (vertexOf faces d) (vertexOf faces (next d))) d) c ≡ false)
+Inv-loop faces n head₀ link₀ c₀ head link c = Linking faces n head₀ link₀ head link c
 
 abbrev μ-loop : tie.MeasureT-loop
 μ-loop faces n head₀ link₀ c₀ head link c = n - c
@@ -50,12 +57,12 @@ module _ (c : tie.After-wide Inv-loop μ-loop) where
   p = c .wide .result
 
   p-named : p < maxVertices
-  p-named = rw (c .wide .ensures) (start .pre .0 .0 .named (at-loop .loop .c) (passing .loop-test .taken))
+  p-named = rw (c .wide .ensures) (start .pre .0 .indices .named (at-loop .loop .c) (passing .loop-test .taken))
 
   -- what the table holds there: the corner before c at its vertex
   head-is : getD (at-loop .loop .head) p 0 ≡ latest (λ d. eqb (vertex start d) (vertex start (at-loop .loop .c))) (at-loop .loop .c)
   head-is =
-      at-loop .loop .inv .3 .heads p p-named
+      at-loop .loop .inv .chained .heads p p-named
       ∙ ap (λ (q : ℕ). latest (λ d. eqb (vertex start d) q) (at-loop .loop .c)) (c .wide .ensures)
 
 -- ---- the half-edges before c are looked at
@@ -64,7 +71,13 @@ read c = c .before .before .before
 
 -- ---- the answers, in the order of the code
 loop-holds : tie.Need-loop-holds Inv-loop μ-loop
-loop-holds c = (omega arith, refl, refl, chained-start _ _ _ (c .before .before .before .pre .1), any-start _)
+loop-holds c = record {
+  within = omega arith;
+  heads-kept = refl;
+  links-kept = refl;
+  chained = chained-start _ _ _ (c .before .before .before .pre .1);
+  apart = any-start _;
+}
 
 mul-wide : tie.Need-mul-wide Inv-loop μ-loop
 mul-wide c = omega arith
@@ -84,13 +97,13 @@ slice-read-start c = let h = p-named (c .before) in omega arith
 occurs-before-requires : tie.Need-occurs-before-requires Inv-loop μ-loop
 occurs-before-requires c κs =
     let w = c .before .before in
-    ((start w .pre .0 .0, omega arith, omega arith), (head-is w, at-loop w .loop .inv .3 .links))
+    ((start w .pre .0 .indices, omega arith, omega arith), (head-is w, at-loop w .loop .inv .chained .links))
 
 same-length : tie.Need-same-length Inv-loop μ-loop
-same-length c = at-loop (read (c .before)) .loop .inv .1
+same-length c = at-loop (read (c .before)) .loop .inv .heads-kept
 
 same-length-2 : tie.Need-same-length-2 Inv-loop μ-loop
-same-length-2 c = at-loop (read (c .before)) .loop .inv .2
+same-length-2 c = at-loop (read (c .before)) .loop .inv .links-kept
 
 returns : tie.Need-returns Inv-loop μ-loop
 returns c =
@@ -126,26 +139,28 @@ loop-again : tie.Need-loop-again Inv-loop μ-loop
 loop-again c =
     let o = c .before in
     let w = read o in
-    let l = at-loop w .loop in (
-      add-one-le (passing w .loop-test .taken),
-      length-set (l .head) (p w) _ ∙ l .inv .1,
-      length-set (l .link) (l .c) _ ∙ l .inv .2,
-      chained-more _ (l .c) (p w) _ _ (l .inv .3) (w .wide .ensures) _ _ refl refl (p-named w) (slice-write-head c) (slice-write-link c),
-      any-more _ _ _ (l .inv .4) (o .occurs-before .ensures) (c .if1 .left),
-    )
+    let l = at-loop w .loop in
+    record {
+      within = add-one-le (passing w .loop-test .taken);
+      heads-kept = length-set (l .head) (p w) _ ∙ l .inv .heads-kept;
+      links-kept = length-set (l .link) (l .c) _ ∙ l .inv .links-kept;
+      chained =
+          chained-more _ (l .c) (p w) _ _ (l .inv .chained) (w .wide .ensures) _ _ refl refl (p-named w) (slice-write-head c) (slice-write-link c);
+      apart = any-more _ _ _ (l .inv .apart) (o .occurs-before .ensures) (c .if1 .left);
+    }
 
 same-length-3 : tie.Need-same-length-3 Inv-loop μ-loop
-same-length-3 c = c .before .loop .inv .1
+same-length-3 c = c .before .loop .inv .heads-kept
 
 same-length-4 : tie.Need-same-length-4 Inv-loop μ-loop
-same-length-4 c = c .before .loop .inv .2
+same-length-4 c = c .before .loop .inv .links-kept
 
 returns-2 : tie.Need-returns-2 Inv-loop μ-loop
 returns-2 c =
     let l = c .before .loop in
-    let all = le-antisymm (l .inv .0) (c .loop-test .left) in (
-      any-not _ _ _ (l .inv .4) (c .loop-test .left) ∙ sym (doubled-earlier _ _),
-      λ e. subst (λ (k : ℕ). Chained (vertex (entry (c .before))) k (l .head) (l .link)) all (l .inv .3),
+    let all = le-antisymm (l .inv .within) (c .loop-test .left) in (
+      any-not _ _ _ (l .inv .apart) (c .loop-test .left) ∙ sym (doubled-earlier _ _),
+      λ e. subst (λ (k : ℕ). Chained (vertex (entry (c .before))) k (l .head) (l .link)) all (l .inv .chained),
     )
 
 pub link-corners-spec : {M : Type 1} → statement M

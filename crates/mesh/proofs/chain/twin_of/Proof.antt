@@ -30,13 +30,13 @@ module _ (s : tie.Start) where
   opposite = runs vertex end origin
 
   abbrev indices : Indices (s .args .faces .now) (s .args .n)
-  indices = s .pre .0 .0
+  indices = s .pre .0 .room .indices
 
   chains : Chained vertex (s .args .n) (s .args .head .now) (s .args .link .now)
-  chains = s .pre .1 .0
+  chains = s .pre .0 .chained
 
   end-named : end < maxVertices
-  end-named = indices .named (next (s .args .c)) (next-below (indices-corners indices) (s .args .c) (s .pre .0 .1))
+  end-named = indices .named (next (s .args .c)) (next-below (indices-corners indices) (s .args .c) (s .pre .1))
 
 -- ---- p is read: it is the end of c, which has a place in the table of heads
 abbrev entry : tie.After-shared-slice-known3 → tie.Start
@@ -97,7 +97,7 @@ find-requires : tie.Need-find-requires
 find-requires c κs =
     let w = c .before .before in
     let s = start w in
-    ((indices s, le-refl (s .args .n), s .pre .0 .3), (chains s .heads (w .wide .result) (p-named w), chains s .links))
+    ((indices s, le-refl (s .args .n), s .pre .0 .room .links-listed), (chains s .heads (w .wide .result) (p-named w), chains s .links))
 
 returns : tie.Need-returns
 returns c = twin-none _ _ _ _ (u-is (c .before)) (c .if1 .taken)
@@ -106,7 +106,7 @@ sub-result : tie.Need-sub-result
 sub-result c = omega arith
 
 returns-2 : tie.Need-returns-2
-returns-2 c = twin-found _ _ _ _ (u-is (c .before)) (found-start (c .before) .pre .1 .1) (c .if1 .left)
+returns-2 c = twin-found _ _ _ _ (u-is (c .before)) (found-start (c .before) .pre .0 .simple) (c .if1 .left)
 
 pub twin-of-spec : {M : Type 1} → statement M
 twin-of-spec =

@@ -50,7 +50,7 @@ module _ (c : tie.After-valence-off Inv-loop μ-loop) where
   told =
       c .valence-off .ensures
       ∙ ap (valenceBad (onBoundary (vertex passing) (begun .args .n) (p passing)))
-      (c .before .wide .ensures ∙ begun .pre .1 .0 .1 (p passing) (p-named passing))
+      (c .before .wide .ensures ∙ begun .pre .1 .0 .are (p passing) (p-named passing))
 
 -- ---- the answers, in the order of the code
 loop-holds : tie.Need-loop-holds Inv-loop μ-loop

@@ -35,7 +35,7 @@ returns c =
     let m = c .before .before in
     let f = m .before in
     let s = start f in
-    let valence-is = c .wide .ensures ∙ s .pre .1 .1 (s .args .p) (s .pre .0 .1) in
+    let valence-is = c .wide .ensures ∙ s .pre .1 .are (s .args .p) (s .pre .0 .1) in
     ap not
     (ap (eqb (m .circulate .result)) valence-is
     ∙ fan-told (s .pre .0 .0 .twinned) (f .corner-at .result) (s .args .p) (f .corner-at .ensures .1) (m .circulate .result) (m .circulate .ensures))

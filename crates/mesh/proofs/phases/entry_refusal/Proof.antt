@@ -70,7 +70,7 @@ link-corners-requires c κs =
     let e = c .before .before in
     let room = start e .pre .1 in
     let z = start e .pre .0 in
-    ((indices e, room .heads-listed, omega (arith, room .links-listed)), room .heads-are)
+    (record { indices = indices e; heads-listed = room .heads-listed; links-listed = omega (arith, room .links-listed) }, room .heads-are)
 
 same-length : tie.Need-same-length
 same-length c = linked (c .before) .link-corners .kept .1 .1 .0

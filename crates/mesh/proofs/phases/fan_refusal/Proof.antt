@@ -86,7 +86,7 @@ slice-aggregate-count-corners : tie.Need-slice-aggregate-count-corners
 slice-aggregate-count-corners c = search needs
 
 count-corners-requires : tie.Need-count-corners-requires
-count-corners-requires c κs = ((entry (c .before) .pre .0 .twinned .indices, omega arith), λ p l. getD-replicate maxVertices p 0 0 l)
+count-corners-requires c κs = (entry (c .before) .pre .0 .twinned .indices, omega arith, λ p l. getD-replicate maxVertices p 0 0 l)
 
 slice-aggregate-any-unused : tie.Need-slice-aggregate-any-unused
 slice-aggregate-any-unused c = search needs
@@ -105,7 +105,7 @@ any-fan-broken-requires c κs =
     let e = c .before in
     let s = start₈ e in
     let some = unused-false (vertex s) (n s) (s .args .v) (used e) in
-    (s .pre, ((omega arith, counted (e .before) .count-corners .ensures), some))
+    (s .pre, (record { listed = omega arith; are = counted (e .before) .count-corners .ensures }, some))
 
 returns-2 : tie.Need-returns-2
 returns-2 c = row-met (after-8 (c .before .before .before)) (sym (c .before .any-fan-broken .ensures) ∙ c .if2 .taken)
@@ -118,7 +118,7 @@ any-valence-off-requires c κs =
     let e = c .before in
     let s = start₉ e in
     let fans = fan-false (vertex s) (n s) (s .args .v) (whole e) in
-    (s .pre, ((omega arith, counted (passed-8 e .before) .count-corners .ensures), fans))
+    (s .pre, (record { listed = omega arith; are = counted (passed-8 e .before) .count-corners .ensures }, fans))
 
 returns-3 : tie.Need-returns-3
 returns-3 c = let k = c .before in row-met (after-9 (k .before .before)) (sym (k .any-valence-off .ensures) ∙ c .if3 .taken)

@@ -47,11 +47,11 @@ module _ (c : tie.After-wide Inv-loop μ-loop) where
   p = c .wide .result
 
   p-named : p < maxVertices
-  p-named = rw (c .wide .ensures) (start .pre .0 .0 .named (at-loop .loop .c) (passing .loop-test .taken))
+  p-named = rw (c .wide .ensures) (start .pre .0 .named (at-loop .loop .c) (passing .loop-test .taken))
 
 -- ---- the answers, in the order of the code
 loop-holds : tie.Need-loop-holds Inv-loop μ-loop
-loop-holds c = (omega arith, refl, gathered-none 0 _+_ _ _ _ (c .before .before .args .valences .now) (c .before .before .pre .1))
+loop-holds c = (omega arith, refl, gathered-none 0 _+_ _ _ _ (c .before .before .args .valences .now) (c .before .before .pre .2))
 
 mul-wide : tie.Need-mul-wide Inv-loop μ-loop
 mul-wide c = omega arith
