@@ -2,7 +2,7 @@
 use mathlib.Core.Path.{_≡_, sym, ap, ap₂, _∙_}
 use mathlib.Core.List.{List, [], _∷_}
 use mathlib.Core.Option.{Option, none, some}
-use Prim.Native.Nat.{ℕ, zero, suc, _+_, _*_, _/_, _%_, _^_, _≤_, _<_}
+use Prim.Native.Nat.{ℕ, _+_, _*_, _/_, _%_, _^_, _≤_, _<_}
 use native.Mathlib.Omega.{arith}
 use lib.IntN.{ℤ, pos}
 use lib.ListN.{length, getD}
@@ -23,6 +23,7 @@ use Rattle.sample.proofs.BlendLaws.{same-point}
 use Rattle.sample.proofs.RefusalLaws.{allowed}
 use Rattle.sample.proofs.CurveLaws.{curve-bound, curve-numerator}
 use Rattle.line.specs.Points.{Curved, along, curveIn}
+use Rattle.line.proofs.LineLaws.{each-three}
 
 -- ---- the causes of a line: those of its sample at a = 0, then 17
 module _ (patches : List ℤ) (f n b : ℕ) (line : List ℤ) where
@@ -70,10 +71,7 @@ module _ (patches : List ℤ) (f n b : ℕ) (line : List ℤ) (a : ℕ) (l : a �
 -- ---- the curves that a line is made from
 module _ {patches : List ℤ} {f n b : ℕ} {r : Curves} (gave : CurvesGiven patches f n b r) (met : curveRefusal patches f n b ≡ none) where
   pub given-at : (k : ℕ) → k < 3 → curveIn r k ≡ curveAt patches f n b k
-  given-at zero l = gave .x-is ∙ rw met
-  given-at (suc zero) l = gave .y-is ∙ rw met
-  given-at (suc (suc zero)) l = gave .z-is ∙ rw met
-  given-at (suc (suc (suc k))) l = absurd (omega arith)
+  given-at = each-three (λ k. curveIn r k ≡ curveAt patches f n b k) (gave .x-is ∙ rw met) (gave .y-is ∙ rw met) (gave .z-is ∙ rw met)
 
   pub curved : (k : ℕ) → k < 3 → Curved n (r .divisor) (curveIn r k)
   curved k below =

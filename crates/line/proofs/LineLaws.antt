@@ -1,25 +1,43 @@
--- A line, point by point: the sums that a coordinate comes from, and three numbers stored.
+-- A line, point by point: the sums that a coordinate comes from, three numbers stored, and the loop over the points. What holds of a coordinate is
+-- said once, for coordinate k.
 use mathlib.Core.Path.{_≡_, ap, ap₂, _∙_}
 use mathlib.Core.List.{List}
-use Prim.Native.Nat.{ℕ, _+_, _*_, _/_, _%_, _^_, _≤_, _<_}
+use Prim.Native.Nat.{ℕ, zero, suc, _+_, _*_, _/_, _%_, _^_, _≤_, _<_}
 use native.Mathlib.Nat.{mul-comm, mul-assoc, one-le-pow}
 use native.Mathlib.Omega.{arith}
 use lib.IntN.{ℤ, pos, natAbs}
 use lib.ListN.{length, getD, set}
 use lib.Pow.{pow-add}
+use lib.Signed.{mag}
+use mir.Syntax.{w32}
+use mir.Val.{toZ, ofZ}
 use Rattle.integer.specs.Nearest.{nearest}
+use Rattle.integer.proofs.Laws.{read-back}
 use Rattle.finite.specs.Filled.{filled}
-use Rattle.finite.proofs.FilledLaws.{filled-more}
+use Rattle.finite.proofs.FilledLaws.{filled-start, filled-more, length-filled}
 use Rattle.sample.specs.Refusal.{maxControl, maxSteps}
 use Rattle.sample.proofs.BernsteinLaws.{cube-small, sixth-small}
 use Rattle.sample.proofs.SampleLaws.{curve-weighted}
 use Rattle.sample.specs.declared.model.Curves.{Curves}
 use Rattle.line.specs.Differences.{differencesAt, nextOf, Fine, Tame, cubic}
+use Rattle.line.specs.Line.{lineLength}
 use Rattle.line.specs.Points.{Mean, Curved, along, curveIn}
 use Rattle.line.proofs.SizedLaws.{read, sized}
 use Rattle.line.proofs.DifferenceLaws.{cubic-next, cubic-tame, cubic-weighed}
 
--- number i of the line along three curves
+-- ---- three things, by their numbers
+abbrev pub ofThree : {A : Type 0} → A → A → A → ℕ → A
+ofThree x y z zero = x
+ofThree x y z (suc zero) = y
+ofThree x y z (suc (suc k)) = z
+
+pub each-three : (P : ℕ → Type 0) → P 0 → P 1 → P 2 → (k : ℕ) → k < 3 → P k
+each-three P x y z zero l = x
+each-three P x y z (suc zero) l = y
+each-three P x y z (suc (suc zero)) l = z
+each-three P x y z (suc (suc (suc k))) l = absurd (omega arith)
+
+-- ---- number i of the line along three curves
 abbrev pub lineOf : ℕ → Curves → ℕ → ℤ
 lineOf n curves i = along n (curveIn curves (i % 3)) (i / 3)
 
@@ -64,7 +82,7 @@ module _ {n d : ℕ} {curve : List ℤ} (c : Curved n d curve) {a : ℕ} (at : a
   sums-next e = e ∙ ap nextOf hx ∙ cubic-next h n a
 
 -- one point more in a list that is filled from the front
-pub filled-point : {A : Type 0} (f : ℕ → A) (a : ℕ) {x y z : A} (d m : List A) → 3 * (a + 1) ≤ length d → m ≡ filled f (3 * a) d
+filled-point : {A : Type 0} (f : ℕ → A) (a : ℕ) {x y z : A} (d m : List A) → 3 * (a + 1) ≤ length d → m ≡ filled f (3 * a) d
     → x ≡ f (3 * a + 0) → y ≡ f (3 * a + 1) → z ≡ f (3 * a + 2)
     → set (set (set m (3 * a) x) (3 * a + 1) y) (3 * a + 2) z ≡ filled f (3 * (a + 1)) d
 filled-point f a {x} {y} {z} d m long e p q r =
@@ -72,3 +90,49 @@ filled-point f a {x} {y} {z} d m long e p q r =
     let second = filled-more f (3 * a + 1) y d _ (omega arith) first q in
     let third = filled-more f (3 * a + 2) z d _ (omega arith) (second ∙ ap (λ (i : ℕ). filled f i d) (omega arith)) r in
     third ∙ ap (λ (i : ℕ). filled f i d) (omega arith)
+
+-- ---- a loop over the points
+--   Drawn curves n before after x y z a   the list has the points before a at its front, and x, y and z are the sums of the three curves at a
+pub record Drawn (curves : Curves) (n : ℕ) (before after x y z : List ℤ) (a : ℕ) : Type 0 where
+  pub within : a ≤ n + 1
+  pub points : after ≡ filled (lineOf n curves) (3 * a) before
+  pub sums : (k : ℕ) → k < 3 → ofThree x y z k ≡ sumsOf n (curveIn curves k) a
+
+pub drawn-start : (curves : Curves) (n : ℕ) (d : List ℤ) {x y z : List ℤ} → x ≡ sumsOf n (curves .x) 0 → y ≡ sumsOf n (curves .y) 0
+    → z ≡ sumsOf n (curves .z) 0 → Drawn curves n d d x y z 0
+drawn-start curves n d {x} {y} {z} hx hy hz = record {
+  within = omega arith;
+  points = filled-start (lineOf n curves) d;
+  sums = each-three (λ k. ofThree x y z k ≡ sumsOf n (curveIn curves k) 0) hx hy hz;
+}
+
+module _ {curves : Curves} {n : ℕ} {before after x y z : List ℤ} {a : ℕ} (g : Drawn curves n before after x y z a) where
+  pub drawn-length : lineLength n ≤ length before → length after ≡ length before
+  drawn-length long = ap length (g .points) ∙ length-filled (lineOf n curves) (3 * a) before (omega (arith, g .within))
+
+  -- at a place of the line, coordinate k: what its sums are asked for and give
+  module _ (curved : (k : ℕ) → k < 3 → Curved n (curves .divisor) (curveIn curves k)) (at : a ≤ n) where
+    abbrev sum : ℕ → ℤ
+    sum k = read (getD (ofThree x y z k) 0 (pos 0))
+
+    pub drawn-asked : (k : ℕ) → k < 3 → Mean (sum k) (curves .divisor)
+    drawn-asked k l = sum-asked (curved k l) at (g .sums k l)
+
+    pub drawn-tame : (k : ℕ) → k < 3 → Tame (ofThree x y z k)
+    drawn-tame k l = sums-tame (curved k l) at (g .sums k l)
+
+    -- the number that is stored, as the machine reads what was rounded
+    pub drawn-told : (k : ℕ) → k < 3 → (r : ℤ) → mag r < 2 ^ 31 → r ≡ nearest (sum k) (curves .divisor)
+        → toZ w32 (ofZ w32 r) ≡ lineOf n curves (3 * a + k)
+    drawn-told k l r ok e = read-back w32 ok (sum-told (curved k l) at (g .sums k l) e ∙ line-at n curves a k l)
+
+    -- one point more, with its three numbers stored and the sums one place further
+    pub drawn-more : {p q r : ℤ} {x' y' z' : List ℤ} → lineLength n ≤ length before
+        → p ≡ lineOf n curves (3 * a + 0) → q ≡ lineOf n curves (3 * a + 1) → r ≡ lineOf n curves (3 * a + 2)
+        → x' ≡ nextOf x → y' ≡ nextOf y → z' ≡ nextOf z
+        → Drawn curves n before (set (set (set after (3 * a) p) (3 * a + 1) q) (3 * a + 2) r) x' y' z' (a + 1)
+    drawn-more {x' = x'} {y' = y'} {z' = z'} long hp hq hr hx hy hz = record {
+      within = omega arith;
+      points = filled-point (lineOf n curves) a before after (omega arith) (g .points) hp hq hr;
+      sums = λ k l. sums-next (curved k l) at (g .sums k l) (each-three (λ k. ofThree x' y' z' k ≡ nextOf (ofThree x y z k)) hx hy hz k l);
+    }

@@ -3,9 +3,10 @@ use crate::differences::first_sums;
 use crate::differences::stepped;
 use sample::model::Curves;
 ghost use mathlib.Core.Path.{_≡_};
-ghost use Prim.Native.Nat.{ℕ, _/_, _%_, _≤_, _<_};
-ghost use lib.ListN.{length};
+ghost use Prim.Native.Nat.{ℕ, _+_, _*_, _/_, _%_, _≤_, _<_};
+ghost use lib.ListN.{length, set};
 ghost use Rattle.integer.specs.Nearest.{nearest};
+ghost use Rattle.sample.specs.Refusal.{maxSteps};
 ghost use Rattle.finite.specs.Filled.{filled};
 ghost use Rattle.line.specs.Line.{lineLength};
 ghost use Rattle.line.specs.Points.{Mean, Curved, along, curveIn};
@@ -17,6 +18,16 @@ fn quotient(sum: i64, divisor: u32) -> i32
 {
     let rounded = integer::round(sum, divisor);
     rounded.value as i32
+}
+
+// Stores point a of a line: its three coordinates.
+fn store_point(line: &mut [i32], a: usize, x: i32, y: i32, z: i32)
+    requires { ⌜ (a ≤ maxSteps) × (lineLength a ≤ length (now line)) ⌝ }
+    ensures { λ _. ⌜ now (line .exit) ≡ set (set (set (now (line .entry)) (3 * a) x) (3 * a + 1) y) (3 * a + 2) z ⌝ }
+{
+    line[3 * a] = x;
+    line[3 * a + 1] = y;
+    line[3 * a + 2] = z;
 }
 
 // Writes the points along the three curves, a from 0 to n, three coordinates each.
@@ -34,9 +45,7 @@ pub(crate) fn write_points(curves: Curves, n: usize, line: &mut [i32])
         let p = quotient(x[0], curves.divisor);
         let q = quotient(y[0], curves.divisor);
         let r = quotient(z[0], curves.divisor);
-        line[3 * a] = p;
-        line[3 * a + 1] = q;
-        line[3 * a + 2] = r;
+        store_point(line, a, p, q, r);
         x = stepped(x);
         y = stepped(y);
         z = stepped(z);

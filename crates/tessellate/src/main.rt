@@ -22,8 +22,9 @@ fn main() {
         return;
     }
     let mut patches = [0i32; printing::PATCH_PLACES];
-    let printed = printing::print(&input[..n], &mut patches);
-    if !printed.whole {
-        complain(b"tessellate: write failed, the listing is incomplete\n");
-    }
+    printing::print(
+        &input[..n],
+        &mut patches,
+        b"tessellate: write failed, the listing is incomplete\n",
+    );
 }

@@ -7,13 +7,13 @@ fn print_text(text: &[u8]) {
     io::write_all(STDOUT_FILENO, text);
 }
 
-// The lines of an open file, which is closed.
+// The lines of an open file, which is closed. Of a write that fails nothing is said.
 fn print_file(fd: i32) {
     let mut input = [0u8; printing::FILE_PLACES];
     let n = io::read_full(fd, &mut input);
     libc::close(fd);
     let mut patches = [0i32; printing::PATCH_PLACES];
-    printing::print(&input[..n], &mut patches);
+    printing::print(&input[..n], &mut patches, b"");
 }
 
 // The name and the lines of the vector that argument i names.

@@ -12,10 +12,10 @@ use Rattle.printing.proofs.write_stretches.Statement.{statement}
 use Rattle.printing.proofs.write_stretches.Tie as tie
 
 abbrev Inv-loop : tie.InvT-loop
-Inv-loop answer patches out₀ lines line₀ out line = (line ≤ lines) × (length out ≡ length out₀)
+Inv-loop answer patches complaint out₀ lines line₀ out line = (line ≤ lines) × (length out ≡ length out₀)
 
 abbrev μ-loop : tie.MeasureT-loop
-μ-loop answer patches out₀ lines line₀ out line = lines - line
+μ-loop answer patches complaint out₀ lines line₀ out line = lines - line
 
 -- ---- in the loop: a line is left, and the buffer has room for it
 module _ (c : tie.In-loop Inv-loop μ-loop) where
@@ -26,7 +26,7 @@ module _ (c : tie.In-loop Inv-loop μ-loop) where
   counted = at-loop .before
 
   abbrev start : tie.Start Inv-loop μ-loop
-  start = counted .before .before
+  start = counted .before .before .before
 
   more : at-loop .loop .line < handedCount (opened (start .args .answer))
   more = omega (arith, c .loop-test .taken, counted .line-count .ensures)
@@ -77,8 +77,11 @@ slice-aggregate-write-all c = simp length-take (omega (arith, ends (called (c .b
 write-all-requires : tie.Need-write-all-requires Inv-loop μ-loop
 write-all-requires c κs = tt
 
+write-all-requires-2 : tie.Need-write-all-requires-2 Inv-loop μ-loop
+write-all-requires-2 c κs = tt
+
 same-length : tie.Need-same-length Inv-loop μ-loop
-same-length c = as-long (passed (c .before))
+same-length c = as-long (passed (c .before .before))
 
 returns : tie.Need-returns Inv-loop μ-loop
 returns c = search needs
@@ -107,6 +110,7 @@ write-stretches-spec =
     slice-reshare-prefix-write-all
     slice-aggregate-write-all
     write-all-requires
+    write-all-requires-2
     same-length
     returns
     loop-less
