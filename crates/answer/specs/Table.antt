@@ -7,6 +7,7 @@
 --   writtenBy met before after   a lent list afterwards: as it was before after a refusal, else what was written
 --   refusalOf r          a refusal as private functions hand it on: its number, 0 for none
 --   outcome r            the answer of a call without a result, for each case of the code's enum `Outcome`
+--   outcomeOf a          the case of the enum that an answer is
 use mathlib.Core.Bool.{Bool, cond}
 use mathlib.Core.List.{List, [], _∷_}
 use mathlib.Core.Option.{Option, none, some}
@@ -45,3 +46,7 @@ refusalOf (suc k) = some (suc k)
 abbrev pub outcome : Outcome → Answer Unit
 outcome Done = result tt
 outcome (Refused k) = refusal k
+
+abbrev pub outcomeOf : Answer Unit → Outcome
+outcomeOf (result done) = Done
+outcomeOf (refusal k) = Refused k
