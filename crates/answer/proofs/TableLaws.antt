@@ -14,7 +14,7 @@ use Prim.Native.Nat.{ℕ, zero, suc}
 use native.Mathlib.Nat.{suc-ne-zero}
 use native.Mathlib.Omega.{arith}
 use borrow.Author.Tests.{ne-eqb}
-use Rattle.answer.specs.Table.{Row, row, firstMet, Answer, result, refusal, answerBy, refusalOf, metOr}
+use Rattle.answer.specs.Table.{Row, row, firstMet, Answer, result, refusal, answerBy, refusalOf, metOr, outcome, outcomeOf}
 
 -- ---- one row
 module _ (k : ℕ) (m : Option ℕ) {b : Bool} where
@@ -75,6 +75,11 @@ result-none (some k) e = let z : _≡_ {A = ℕ} 0 1 = cc in absurd (omega arith
 pub refusal-met : {A : Type 0} (x : A) {k : ℕ} (met : Option ℕ) → refusal k ≡ answerBy met x → met ≡ some k
 refusal-met x none e = let z : _≡_ {A = ℕ} 0 1 = cc in absurd (omega arith)
 refusal-met x (some j) e = cc
+
+-- the code's enum has a case for each answer
+pub outcome-of : (a : Answer Unit) → outcome (outcomeOf a) ≡ a
+outcome-of (result done) = refl
+outcome-of (refusal k) = refl
 
 -- another result, by the same causes
 abbrev pub over : {A B : Type 0} → (A → B) → Answer A → Answer B

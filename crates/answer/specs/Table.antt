@@ -8,6 +8,7 @@
 --   refusalOf r          a refusal as functions hand it on: its number, 0 for none
 --   metOr met cause number   the number of the first cause met after one more row, where `met` says which of the rows before it was
 --   outcome r            the answer of a call without a result, for each case of the code's enum `Outcome`
+--   outcomeOf a          the case of the enum that an answer is
 use mathlib.Core.Bool.{Bool, cond}
 use mathlib.Core.List.{List, [], _∷_}
 use mathlib.Core.Option.{Option, none, some}
@@ -50,3 +51,7 @@ metOr met cause number = cond (eqb met 0) (cond cause number 0) met
 abbrev pub outcome : Outcome → Answer Unit
 outcome Done = result tt
 outcome (Refused k) = refusal k
+
+abbrev pub outcomeOf : Answer Unit → Outcome
+outcomeOf (result done) = Done
+outcomeOf (refusal k) = Refused k

@@ -7,9 +7,8 @@ use Prim.Native.Nat.{ℕ}
 use lib.IntN.{pos}
 use lib.ListN.{replicate}
 use Rattle.finite.specs.Fold.{foldBelow}
-use Rattle.answer.specs.Table.{Answer, result, refusal, writtenBy, outcome}
-use Rattle.answer.specs.declared.model.Outcome.{Outcome}
-use Rattle.answer.specs.declared.model.Outcome.the-variants.{Done, Refused}
+use Rattle.answer.specs.Table.{Answer, result, refusal, writtenBy, outcomeOf}
+use Rattle.answer.proofs.TableLaws.{outcome-of}
 use Rattle.limits.specs.Range.{sizesOff}
 use Rattle.limits.specs.declared.model.Mesh.{Mesh}
 use Rattle.limits.specs.declared.model.Checked.{Checked}
@@ -34,14 +33,6 @@ use Rattle.surface.specs.declared.model.SamplePlace.{SamplePlace}
 use Rattle.surface.specs.declared.model.Evaluation.{Evaluation}
 
 -- ---- the answers, as cases of the code's enums
-abbrev outcomeOf : Answer Unit → Outcome
-outcomeOf (result done) = Done
-outcomeOf (refusal k) = Refused k
-
-outcome-of : (a : Answer Unit) → outcome (outcomeOf a) ≡ a
-outcome-of (result done) = refl
-outcome-of (refusal k) = refl
-
 abbrev checkedOf : Answer Mesh → Checked
 checkedOf (result m) = AcceptedMesh m
 checkedOf (refusal k) = RefusedMesh k

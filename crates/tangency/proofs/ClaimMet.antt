@@ -9,9 +9,8 @@ use native.Mathlib.Omega.{arith}
 use lib.IntN.{ℤ, pos}
 use lib.ListN.{replicate}
 use Rattle.finite.specs.Fold.{foldBelow}
-use Rattle.answer.specs.Table.{Answer, result, refusal, outcome}
-use Rattle.answer.specs.declared.model.Outcome.{Outcome}
-use Rattle.answer.specs.declared.model.Outcome.the-variants.{Done, Refused}
+use Rattle.answer.specs.Table.{outcomeOf}
+use Rattle.answer.proofs.TableLaws.{outcome-of}
 use Rattle.limits.specs.Range.{sizesOff}
 use Rattle.mesh.specs.IndexedMesh.{IndexedMesh, indexed}
 use Rattle.mesh.specs.HalfEdge.{isTwin, twin, boundary, sameWay, doubled}
@@ -19,14 +18,6 @@ use Rattle.mesh.specs.Fan.{valence, onBoundary, around, iterate, fanBy, fan}
 use Rattle.mesh.specs.Refusal.{coordinateOff, tagOff, vertexOff, vertexTwice, halfEdgeTwice, vertexUnused, fanBroken, valenceOff, innerTagged, Accepted}
 use Rattle.tangent.specs.Answer.{faceOpen, tangentAnswer, tangentsAfter, TangentsGiven}
 use Rattle.tangency.specs.Claim.{Edge}
-
-abbrev outcomeOf : Answer Unit → Outcome
-outcomeOf (result done) = Done
-outcomeOf (refusal k) = Refused k
-
-outcome-of : (a : Answer Unit) → outcome (outcomeOf a) ≡ a
-outcome-of (result done) = refl
-outcome-of (refusal k) = refl
 
 pub tangents-met : (M : IndexedMesh) (g : ℕ) (d : List ℤ) → TangentsGiven M g d (outcomeOf (tangentAnswer M g d)) (tangentsAfter M g d)
 tangents-met M g d = record { answer-is = outcome-of (tangentAnswer M g d); list-is = refl }

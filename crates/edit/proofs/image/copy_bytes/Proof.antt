@@ -1,22 +1,21 @@
 -- `copy_bytes` meets its contract: the places passed hold their bytes, and the others what they held.
-use mathlib.Core.Path.{_≡_, refl}
-use Prim.Native.Nat.{_-_, _≤_}
+use mathlib.Core.Path.{refl}
+use Prim.Native.Nat.{_-_}
 use native.Mathlib.Omega.{arith}
-use lib.ListN.{length, getD}
+use lib.ListN.{getD}
 use borrow.Author.Needs.{needs}
-use Rattle.finite.specs.Filled.{filled}
-use Rattle.finite.proofs.FilledLaws.{filled-start, filled-more, filled-all}
+use Rattle.edit.proofs.FillingLaws.{Filling, filling-start, filling-more, filling-all}
 use Rattle.edit.proofs.image.copy_bytes.Statement.{statement}
 use Rattle.edit.proofs.image.copy_bytes.Tie as tie
 
 abbrev Inv-loop : tie.InvT-loop
-Inv-loop bytes out₀ i₀ i-end out i = (i ≤ i-end) × (length out ≡ length out₀) × (out ≡ filled (λ j. getD bytes j 0) i out₀)
+Inv-loop bytes out₀ i₀ i-end out i = Filling (λ j. getD bytes j 0) i-end out₀ out i
 
 abbrev μ-loop : tie.MeasureT-loop
 μ-loop bytes out₀ i₀ i-end out i = i-end - i
 
 loop-holds : tie.Need-loop-holds Inv-loop μ-loop
-loop-holds c = (omega arith, refl, filled-start _ _)
+loop-holds c = filling-start _ _ _
 
 shared-slice-read-out : tie.Need-shared-slice-read-out Inv-loop μ-loop
 shared-slice-read-out c = omega arith
@@ -31,13 +30,13 @@ loop-less : tie.Need-loop-less Inv-loop μ-loop
 loop-less c = omega arith
 
 loop-again : tie.Need-loop-again Inv-loop μ-loop
-loop-again c = (omega arith, search needs, filled-more _ _ _ _ _ (omega arith) (c .before .before .loop .inv .2) refl)
+loop-again c = filling-more _ _ _ (c .before .before .loop .inv) _ (omega arith) (omega arith) refl
 
 same-length : tie.Need-same-length Inv-loop μ-loop
 same-length c = search needs
 
 returns : tie.Need-returns Inv-loop μ-loop
-returns c = filled-all _ _ _ _ _ (c .before .loop .inv .0) (c .loop-test .left) (c .before .loop .inv .2)
+returns c = filling-all _ _ _ (c .before .loop .inv) (c .loop-test .left)
 
 pub copy-bytes-spec : {M : Type 1} → statement M
 copy-bytes-spec =

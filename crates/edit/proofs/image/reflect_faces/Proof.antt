@@ -1,12 +1,11 @@
 -- `reflect_faces` meets its contract: the places passed hold the vertices of their reflected corners, and the others what they held.
-use mathlib.Core.Path.{_≡_, refl, ap}
-use Prim.Native.Nat.{ℕ, _-_, _%_, _≤_, _<_}
+use mathlib.Core.Path.{_≡_, ap}
+use Prim.Native.Nat.{ℕ, _-_, _%_, _<_}
 use native.Mathlib.Omega.{arith}
-use lib.ListN.{length, getD}
+use lib.ListN.{getD}
 use borrow.Author.Needs.{needs}
-use Rattle.finite.specs.Filled.{filled}
-use Rattle.finite.proofs.FilledLaws.{filled-start, filled-more, filled-all}
 use Rattle.edit.specs.Mirror.{reflectedCorner}
+use Rattle.edit.proofs.FillingLaws.{Filling, filling-start, filling-more, filling-all}
 use Rattle.edit.proofs.image.reflect_faces.Statement.{statement}
 use Rattle.edit.proofs.image.reflect_faces.Tie as tie
 
@@ -15,13 +14,13 @@ reflected-inside : (n c : ℕ) → n % 4 ≡ 0 → c < n → reflectedCorner c <
 reflected-inside n c w l = omega arith
 
 abbrev Inv-loop : tie.InvT-loop
-Inv-loop faces out₀ c₀ c-end out c = (c ≤ c-end) × (length out ≡ length out₀) × (out ≡ filled (λ d. getD faces (reflectedCorner d) 0) c out₀)
+Inv-loop faces out₀ c₀ c-end out c = Filling (λ d. getD faces (reflectedCorner d) 0) c-end out₀ out c
 
 abbrev μ-loop : tie.MeasureT-loop
 μ-loop faces out₀ c₀ c-end out c = c-end - c
 
 loop-holds : tie.Need-loop-holds Inv-loop μ-loop
-loop-holds c = (omega arith, refl, filled-start _ _)
+loop-holds c = filling-start _ _ _
 
 reflected-corner-requires : tie.Need-reflected-corner-requires Inv-loop μ-loop
 reflected-corner-requires c κs = tt
@@ -48,13 +47,13 @@ loop-again : tie.Need-loop-again Inv-loop μ-loop
 loop-again c =
     let k = c .before .before .before in
     let stored = ap (λ (d : ℕ). getD (k .before .before .before .args .faces .now) d 0) (c .before .reflected-corner .ensures) in
-    (omega arith, search needs, filled-more _ _ _ _ _ (omega arith) (k .loop .inv .2) stored)
+    filling-more _ _ _ (k .loop .inv) _ (omega arith) (omega arith) stored
 
 same-length : tie.Need-same-length Inv-loop μ-loop
 same-length c = search needs
 
 returns : tie.Need-returns Inv-loop μ-loop
-returns c = filled-all _ _ _ _ _ (c .before .loop .inv .0) (c .loop-test .left) (c .before .loop .inv .2)
+returns c = filling-all _ _ _ (c .before .loop .inv) (c .loop-test .left)
 
 pub reflect-faces-spec : {M : Type 1} → statement M
 reflect-faces-spec =

@@ -1,23 +1,21 @@
 -- `reflect_positions` meets its contract: the places passed hold their coordinates reflected, and the others what they held.
-use mathlib.Core.Path.{_≡_, refl, ap, _∙_}
-use Prim.Native.Nat.{_-_, _%_, _≤_}
+use mathlib.Core.Path.{ap, _∙_}
+use Prim.Native.Nat.{_-_, _%_}
 use native.Mathlib.Omega.{arith}
 use lib.IntN.{ℤ, pos}
-use lib.ListN.{length, getD}
+use lib.ListN.{getD}
 use mir.Syntax.{w32}
 use mir.Val.{SFits}
 use mir.Facts.{toZ-ofZ}
 use borrow.Author.Needs.{needs}
 use Rattle.integer.proofs.Laws.{read-back}
-use Rattle.finite.specs.Filled.{filled}
-use Rattle.finite.proofs.FilledLaws.{filled-start, filled-more, filled-all}
 use Rattle.edit.specs.Mirror.{reflected}
+use Rattle.edit.proofs.FillingLaws.{Filling, filling-start, filling-more, filling-all}
 use Rattle.edit.proofs.image.reflect_positions.Statement.{statement}
 use Rattle.edit.proofs.image.reflect_positions.Tie as tie
 
 abbrev Inv-loop : tie.InvT-loop
-Inv-loop positions out₀ i₀ i-end out i =
-    (i ≤ i-end) × (length out ≡ length out₀) × (out ≡ filled (λ j. reflected (j % 3) (getD positions j (pos 0))) i out₀)
+Inv-loop positions out₀ i₀ i-end out i = Filling (λ j. reflected (j % 3) (getD positions j (pos 0))) i-end out₀ out i
 
 abbrev μ-loop : tie.MeasureT-loop
 μ-loop positions out₀ i₀ i-end out i = i-end - i
@@ -34,7 +32,7 @@ module _ (c : tie.After-reflected-coordinate-arg Inv-loop μ-loop) where
   fits = record { sfits = c .reflected-coordinate-arg .given }
 
 loop-holds : tie.Need-loop-holds Inv-loop μ-loop
-loop-holds c = (omega arith, refl, filled-start _ _)
+loop-holds c = filling-start _ _ _
 
 mul-reflected-coordinate : tie.Need-mul-reflected-coordinate Inv-loop μ-loop
 mul-reflected-coordinate c = search needs
@@ -62,13 +60,13 @@ loop-again c =
     let r = c .before in
     let k = at-loop r in
     let stored = read-back w32 (c .reflected-coordinate .ok) (c .reflected-coordinate .ensures ∙ ap (reflected (k .loop .i % 3)) (toZ-ofZ (fits r))) in
-    (omega arith, search needs, filled-more _ _ _ _ _ (omega arith) (k .loop .inv .2) stored)
+    filling-more _ _ _ (k .loop .inv) _ (omega arith) (omega arith) stored
 
 same-length : tie.Need-same-length Inv-loop μ-loop
 same-length c = search needs
 
 returns : tie.Need-returns Inv-loop μ-loop
-returns c = filled-all _ _ _ _ _ (c .before .loop .inv .0) (c .loop-test .left) (c .before .loop .inv .2)
+returns c = filling-all _ _ _ (c .before .loop .inv) (c .loop-test .left)
 
 pub reflect-positions-spec : {M : Type 1} → statement M
 reflect-positions-spec =
