@@ -21,7 +21,7 @@ ghost use Rattle.meshfile.specs.Tessellated.{Tessellated};
 fn steps_refusal(v: usize, f: usize, positions: &[i32], tags: &[u8], faces: &[u16]) -> u8
     ensures { λ r. ⌜ meshRefusal (indexed v f (now (positions .entry)) (now (tags .entry)) (now (faces .entry))) [] (row true 14 ∷ []) ≡ some r ⌝ }
 {
-    match mesh::check_alone(v, f, positions, tags, faces) {
+    match mesh::check_alone(0, v, f, positions, tags, faces) {
         Checked::Accepted(_) => 14,
         Checked::Refused(k) => k,
     }

@@ -31,11 +31,13 @@ enum-known-k : tie.Need-enum-known-k
 enum-known-k c = search needs
 
 returns : tie.Need-returns
+unfolding meshRefusal
 returns c =
     let k = c .before .before in
     with-steps k (result-none (meshRefusal (mesh k) [] []) (sym (ap checked (c .enum-told .given .1)) ∙ k .check-alone .ensures) .0)
 
 returns-2 : tie.Need-returns-2
+unfolding meshRefusal
 returns-2 c =
     let k = c .before .before .before in
     let told = sym (ap checked (c .before .k .given .1)) ∙ k .check-alone .ensures in
