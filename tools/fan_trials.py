@@ -30,7 +30,7 @@ def place(answer, centre, start):
     c, steps = answer.corners[centre][-1], 0
     while answer.sides[c][1] != start:
         # Back to the corner behind the twin.
-        twin = answer.mates[c]
+        twin = answer.twins[c]
         c, steps = twin - twin % 4 + (twin + 1) % 4, steps + 1
     return steps
 

@@ -18,7 +18,7 @@ COORDINATES = range(-1048576, 1048576 + 1)
 TAGS = range(0, 1 + 1)
 INNER_VALENCES = range(3, 16 + 1)
 BOUNDARY_FACES = range(1, 8 + 1)
-NO_MATE = 65535
+NO_TWIN = 65535
 CONTROL = 268435456
 CONTROLS = range(-CONTROL, CONTROL + 1)
 STEPS = range(1, 32 + 1)
@@ -70,23 +70,23 @@ class MeshReading:
     def __init__(self, mesh):
         self.mesh = mesh
         self.quads = [mesh.faces[c : c + 4] for c in range(0, len(mesh.faces) - 3, 4)]
-        # The two ends of side 4f + s, and the mate of each side.
+        # The two ends of half-edge 4f + s, and the twin of each.
         self.sides = [(quad[s], quad[(s + 1) % 4]) for quad in self.quads for s in range(4)]
         number = {ends: c for c, ends in enumerate(self.sides)}
-        self.mates = [number.get((b, a)) for a, b in self.sides]
-        # The corners at each vertex, and whether every side that leaves it has a mate.
+        self.twins = [number.get((b, a)) for a, b in self.sides]
+        # The corners at each vertex, and whether every half-edge that leaves it has a twin.
         self.corners = {}
         for c, (p, _) in enumerate(self.sides):
             self.corners.setdefault(p, []).append(c)
         self.fans = {p: self.parted(corners) for p, corners in self.corners.items()}
-        self.inner = {p: all(self.mates[c] is not None for c in corners) for p, corners in self.corners.items()}
+        self.inner = {p: all(self.twins[c] is not None for c in corners) for p, corners in self.corners.items()}
 
     def parted(self, corners):
         """The corners at a vertex, parted into sets that turning about the vertex joins."""
         fans = [{c} for c in corners]
         for c in corners:
             # On to the corner that begins the twin of the entering half-edge.
-            after = self.mates[c - c % 4 + (c + 3) % 4]
+            after = self.twins[c - c % 4 + (c + 3) % 4]
             joined = [fan for fan in fans if c in fan or after in fan]
             fans = [fan for fan in fans if fan not in joined] + [set().union(*joined)]
         return fans
@@ -125,7 +125,7 @@ class MeshReading:
     def counts(self):
         """V, F, E and B of an accepted mesh."""
         t = self.mesh
-        edges, boundary = len({frozenset(ends) for ends in self.sides}), self.mates.count(None)
+        edges, boundary = len({frozenset(ends) for ends in self.sides}), self.twins.count(None)
         assert 4 * t.f + boundary == 2 * edges
         return [t.v, t.f, edges, boundary]
 
@@ -165,7 +165,7 @@ class PatchReading(MeshReading):
     def samples(self):
         samples = [rounded(exact) for exact in self.exact]
         if samples:
-            assert_seams(samples, self.mates, self.mesh.n)
+            assert_seams(samples, self.twins, self.mesh.n)
         return samples
 
     @cached_property

@@ -98,8 +98,8 @@ def lasts():
     """A closed last, and one with an opening that has tags."""
     yield "last-1-step", placed(*last(RANDOM), 1)
     opened = placed(*last(RANDOM, opened=True), 2)
-    rim = [p for p, inner in PatchReading(opened).inner.items() if not inner]
-    yield "last-with-an-opening-tagged", tagged(opened, *rim[::3])
+    boundary = [p for p, inner in PatchReading(opened).inner.items() if not inner]
+    yield "last-with-an-opening-tagged", tagged(opened, *boundary[::3])
 
 
 def renumbered():

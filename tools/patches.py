@@ -33,14 +33,14 @@ class Surface:
                 self.joined.setdefault(p, set()).add(q)
                 self.joined.setdefault(q, set()).add(p)
 
-    def rim_neighbours(self, p):
-        """The far ends of the rim sides at p; none where p is inner."""
+    def boundary_neighbours(self, p):
+        """The far ends of the boundary half-edges at p; none where p is inner."""
         return {q for q in self.joined[p] if len(self.beside[frozenset((p, q))]) == 1}
 
     def weight(self, p):
-        """The weight w of rule B4: the number of faces; on the rim twice that, or 4 where there is one."""
+        """The weight w of rule B4: the number of faces; on the boundary twice that, or 4 where there is one."""
         n = len(self.about[p])
-        if not self.rim_neighbours(p):
+        if not self.boundary_neighbours(p):
             return n
         return 4 if n == 1 else 2 * n
 
@@ -71,12 +71,12 @@ class Surface:
         return self.mask(2 * w + 10, (2 * w, [p]), (4, [q]), (2, others), (1, [self.across(face, p) for face in faces]))
 
     def corner_point(self, p):
-        n, rim = len(self.about[p]), self.rim_neighbours(p)
-        if not rim:
+        n, boundary = len(self.about[p]), self.boundary_neighbours(p)
+        if not boundary:
             return self.mask(n * (n + 5), (n * n, [p]), (4, self.joined[p]), (1, [self.across(face, p) for face in self.about[p]]))
         if self.tags[p] == 1 or n == 1:
             return self.mask(1, (1, [p]))
-        return self.mask(6, (4, [p]), (1, rim))
+        return self.mask(6, (4, [p]), (1, boundary))
 
     def point(self, face, i, j):
         """Point b(i,j) of the face's patch, near the corner that is nearest: q0 at (0,0), q1 at (3,0), q2 at (3,3), q3 at (0,3)."""
@@ -139,12 +139,12 @@ def side_place(s, t, n):
     return ((t, 0), (n, t), (n - t, n), (0, n - t))[s]
 
 
-def assert_seams(samples, mates, n):
-    """That the samples of each face, as a list, are the same along each side and its mate."""
-    for side, mate in enumerate(mates):
-        for t in range(n + 1 if mate is not None else 0):
-            there = samples[mate // 4][side_place(mate % 4, n - t, n)]
-            assert samples[side // 4][side_place(side % 4, t, n)] == there, (side, mate, t)
+def assert_seams(samples, twins, n):
+    """That the samples of each face, as a list, are the same along each half-edge and its twin."""
+    for side, twin in enumerate(twins):
+        for t in range(n + 1 if twin is not None else 0):
+            there = samples[twin // 4][side_place(twin % 4, n - t, n)]
+            assert samples[side // 4][side_place(side % 4, t, n)] == there, (side, twin, t)
 
 
 # ---- Renumbering.

@@ -10,7 +10,7 @@ weight_trials.py, that of the tangent call in tangent_trials.py.
 import struct
 from dataclasses import dataclass
 
-from meshes import MESH_FAULTS, NO_MATE, Mesh, MeshReading, PatchReading, changed, mirrored, numbered, spoiled
+from meshes import MESH_FAULTS, NO_TWIN, Mesh, MeshReading, PatchReading, changed, mirrored, numbered, spoiled
 from patches import PATCH, POINTS, mirrored_marks, mirrored_patch, mirrored_samples, mirrored_side, points, rounded, sample_marks, shuffled
 from shapes import Shape, cube, notched, square
 
@@ -244,15 +244,15 @@ class MeshAnswer(MeshReading):
     def lent_short(self):
         return self.mesh.twins < 4 * self.mesh.f
 
-    def twins(self):
+    def twins_after(self):
         """The lent list after the call."""
         refusal = min(self.causes(), default=None)
         if refusal in range(1, 8):
             written = []
         elif refusal in range(8, 12):
-            written = [NO_MATE] * (4 * self.mesh.f)
+            written = [NO_TWIN] * (4 * self.mesh.f)
         else:
-            written = [NO_MATE if mate is None else mate for mate in self.mates]
+            written = [NO_TWIN if twin is None else twin for twin in self.twins]
         return filled(written, self.mesh.twins)
 
     def words(self):
@@ -262,7 +262,7 @@ class MeshAnswer(MeshReading):
 
     def line(self):
         """What the program prints after the trial's name."""
-        twins, n = self.twins(), 4 * self.mesh.f
+        twins, n = self.twins_after(), 4 * self.mesh.f
         shown = [str(twins[i]) if 0 <= i < len(twins) else "-" for i in (0, n - 1, n, len(twins) - 1)]
         return spaced(self.words(), ["twins"], shown)
 
@@ -277,7 +277,7 @@ class PatchAnswer(MeshAnswer, PatchReading):
     def lists(self):
         """The three lent lists after the call."""
         t = self.mesh
-        return self.twins(), filled(joined(self.patches), t.patches), filled(joined(self.marks), t.marks)
+        return self.twins_after(), filled(joined(self.patches), t.patches), filled(joined(self.marks), t.marks)
 
     def line(self):
         """What the program prints after the trial's name."""
@@ -299,8 +299,8 @@ class MirrorAnswer(PatchReading):
     def image_lines(self):
         """The lines of the patch call on the image."""
         t = self.mesh
-        mates = [self.mates[mirrored_side(side)] for side in range(4 * t.f)]
-        twins = [NO_MATE if mate is None else mirrored_side(mate) for mate in mates]
+        turned = [self.twins[mirrored_side(side)] for side in range(4 * t.f)]
+        twins = [NO_TWIN if twin is None else mirrored_side(twin) for twin in turned]
         patches, marks = [mirrored_patch(patch) for patch in self.patches], [mirrored_marks(marks) for marks in self.marks]
         exact = [mirrored_samples(exact) for exact in self.exact]
         marked = [sample_marks(*face) for face in zip(marks, exact)]

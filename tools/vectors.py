@@ -171,11 +171,11 @@ def lasts():
     yield "last-renumbered-1-step", file(placed(Shape(change.faces(shown.faces)), change.moved(shown.points)), 1)
     opened = placed(*last(RANDOM, opened=True))
     shown = PatchReading(opened)
-    rim = {len(corners): p for p, corners in shown.corners.items() if not shown.inner[p]}
-    assert rim.keys() == {1, 2, 3}
+    boundary = {len(corners): p for p, corners in shown.corners.items() if not shown.inner[p]}
+    assert boundary.keys() == {1, 2, 3}
     yield "last-with-an-opening-1-step", file(opened, 1)
     yield "last-with-an-opening-2-steps", file(opened, 2)
-    yield "last-with-an-opening-tagged-2-steps", file(tagged(opened, *rim.values()), 2)
+    yield "last-with-an-opening-tagged-2-steps", file(tagged(opened, *boundary.values()), 2)
 
 
 def short():

@@ -51,11 +51,11 @@ class Level:
 
     def vertex_rule(self, p, inner, boundary):
         """A rule for inner vertices, by n, and one for boundary vertices, by the weight of p; a vertex with one face stays."""
-        rim, n = self.neighbours(p, True), len(self.about[p])
-        if rim and n == 1:
+        ends, n = self.neighbours(p, True), len(self.about[p])
+        if ends and n == 1:
             return self.points[p]
-        if rim:
-            return mixed(boundary + 2, (boundary, self.at([p])), (1, rim))
+        if ends:
+            return mixed(boundary + 2, (boundary, self.at([p])), (1, ends))
         own, edges, faces = inner(n)
         return mixed(own + n * (edges + faces), (own, self.at([p])), (edges, self.neighbours(p, False)), (faces, self.across(p)))
 

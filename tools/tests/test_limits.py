@@ -76,7 +76,7 @@ class Limits(unittest.TestCase):
         coordinate = self.limits["MAX_COORDINATE"]
         self.assertEqual(found["COORDINATES"], f"range(-{coordinate}, {coordinate} + 1)")
         self.assertEqual(found["TAGS"], f"range(0, {self.limits['CORNER_TAG']} + 1)")
-        self.assertEqual((found["NO_MATE"], found["CONTROL"]), (str(self.limits["NO_TWIN"]), str(self.limits["MAX_CONTROL"])))
+        self.assertEqual((found["NO_TWIN"], found["CONTROL"]), (str(self.limits["NO_TWIN"]), str(self.limits["MAX_CONTROL"])))
 
     def test_benchmark(self):
         found = dict(re.findall(r"pub const (\w+): [\w<>]+ = (.*);", text("rust/examples/benchmark/limits.rs")))

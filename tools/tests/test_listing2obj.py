@@ -235,13 +235,13 @@ class RoundTrip(Converting):
         for n in (1, 4):
             read, listing, model = self.through(EXAMPLES / "last-open.obj", n, "--corners", EXAMPLES / "last-open.corners")
             self.assertTrue(listing.startswith(b"161 153 313 14\n"))
-            # a tagged vertex is a sample itself, and another of the rim is not
+            # a tagged vertex is a sample itself, and another on the boundary is not
             points = {tuple(1000 * x for x in vertex.point) for vertex in model.vertices}
             tagged = {tuple(point) for point, tag in zip(read.reading.points, read.reading.mesh.tags) if tag}
             self.assertEqual(len(tagged), 6)
             self.assertLessEqual(tagged, points)
-            rim = {tuple(read.reading.points[p]) for p, inner in read.reading.inner.items() if not inner}
-            self.assertEqual(rim & points, tagged)
+            boundary = {tuple(read.reading.points[p]) for p, inner in read.reading.inner.items() if not inner}
+            self.assertEqual(boundary & points, tagged)
             if n == 1:
                 self.again(listing)
 

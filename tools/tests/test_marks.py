@@ -54,8 +54,8 @@ def random_meshes():
     rng = random.Random(SEED)
     for shape, n in product((*SHAPES, *FANS, *OTHERS), (1, 2, 3, 4, 6)):
         trial = coarse(rng, shape, n) if rng.random() < 0.8 else scattered(rng, shape, n)
-        rim = [p for p, inner in trial.answer().inner.items() if not inner]
-        trial = tagged(trial, *[p for p in rim if rng.random() < 0.2])
+        boundary = [p for p, inner in trial.answer().inner.items() if not inner]
+        trial = tagged(trial, *[p for p in boundary if rng.random() < 0.2])
         assert trial.answer().causes() == []
         yield rng, trial
 

@@ -41,7 +41,7 @@ def random_meshes(size):
         yield rng, random_points(rng, shape.vertices, size), faces
 
 
-def mates(faces):
+def twins(faces):
     """For each edge the face and the side that have it, and those that have it the other way."""
     place = {(face[s], face[(s + 1) % 4]): (f, s) for f, face in enumerate(faces) for s in range(4)}
     return [(place[p, q], place[q, p]) for p, q in place if (q, p) in place]
@@ -89,7 +89,7 @@ class Worked(unittest.TestCase):
             3: ((4069, -4208, -447741952), (-853, -1621, -7784628224), (5124, -5198, -223346688)),
         }
         about = surface(*boxes())
-        for (f, s), (g, t) in mates(about.faces):
+        for (f, s), (g, t) in twins(about.faces):
             if f == 2:
                 own, other = about.tangents(f), about.tangents(g)
                 c0, c1 = (about.cosine_at(about.faces[f][(s + end) % 4]) for end in (0, 1))
@@ -159,7 +159,7 @@ class Laws(unittest.TestCase):
             for _, points, faces in random_meshes(size):
                 about = surface(points, faces)
                 lists = [about.tangents(f) for f in range(len(faces))]
-                for (f, s), (g, t) in mates(faces):
+                for (f, s), (g, t) in twins(faces):
                     c0, c1 = (about.cosine_at(faces[f][(s + end) % 4]) for end in (0, 1))
                     off = [abs(x) for end in across(lists[f], lists[g], s, t, c0, c1) for x in end]
                     farthest = max(farthest, *off)
