@@ -56,6 +56,10 @@ rule-boundary tag n = at-most (eqb tag cornerTag || eqb n 1)
     at-most true = omega arith
     at-most false = omega arith
 
+pub rule-most : (inside : Bool) (tag n : ℕ) → cornerRule inside tag n ≤ maxSharpness + n
+rule-most true tag n = rw (rule-inside tag n) (omega arith)
+rule-most false tag n = omega (arith, rule-boundary tag n)
+
 pub smooth-rule : (n : ℕ) (p ring sharp : ℤ) → 0 < n → Scaled (smoothCornerMask n p ring) (cornerMask (maxSharpness + n) p ring sharp)
 unfolding smoothCornerMask cornerMask
 smooth-rule n p ring sharp l =

@@ -6,15 +6,15 @@ use crate::model::Fraction;
 use limits::model::Mesh;
 ghost use mathlib.Core.Path.{_≡_};
 ghost use mathlib.Core.Bool.{_||_};
-ghost use Prim.Native.Nat.{_≤_, _<_};
+ghost use Prim.Native.Nat.{_≤_};
 ghost use lib.Dec.{eqb};
 ghost use lib.IntN.{pos, _+ℤ_, _*ℤ_};
-ghost use Rattle.limits.specs.Limits.{cornerTag, maxValence};
-ghost use Rattle.mask.specs.Mask.{cornerWeight, innerMask, edgeMask, boundaryEdgeMask, smoothCornerMask, sharpCornerMask, maxSharpness, cornerRule};
+ghost use Rattle.limits.specs.Limits.{cornerTag};
+ghost use Rattle.mask.specs.Mask.{cornerWeight, innerMask, edgeMask, boundaryEdgeMask, smoothCornerMask, sharpCornerMask, maxSharpness, cornerRule, cornerMask};
 ghost use Rattle.mask.specs.FractionOf.{fractionOf};
 
 // The sharpness at which the corner point of a boundary vertex is the vertex itself; a rule above it is that of an inner vertex.
-pub const MAX_SHARPNESS: u8 = 16;
+const MAX_SHARPNESS: u8 = 16;
 
 // The inner point at a corner of weight w. Writes: nothing. Refuses: nothing.
 pub fn inner_mask(w: u16, a: FaceValues) -> Fraction
@@ -53,8 +53,8 @@ pub fn boundary_edge_mask(p: i32, q: i32) -> Fraction
     }
 }
 
-// The corner point of an inner vertex with n faces, from its ring sum s. Writes: nothing. Refuses: nothing.
-pub fn smooth_corner(n: u8, p: i32, s: i32) -> Fraction
+// The corner point of an inner vertex with n faces, from its ring sum s.
+fn smooth_corner(n: u8, p: i32, s: i32) -> Fraction
     ensures { λ r. ⌜ fractionOf r ≡ smoothCornerMask n p s ⌝ }
 {
     let m = n as u32;
@@ -64,8 +64,8 @@ pub fn smooth_corner(n: u8, p: i32, s: i32) -> Fraction
     }
 }
 
-// The corner point of a boundary vertex of sharpness g, from the sum s of its two boundary neighbours. Writes: nothing. Refuses: nothing.
-pub fn boundary_corner(g: u8, p: i32, s: i32) -> Fraction
+// The corner point of a boundary vertex of sharpness g, from the sum s of its two boundary neighbours.
+fn boundary_corner(g: u8, p: i32, s: i32) -> Fraction
     requires { ⌜ g ≤ maxSharpness ⌝ }
     ensures { λ r. ⌜ fractionOf r ≡ sharpCornerMask g p s ⌝ }
 {
@@ -73,6 +73,17 @@ pub fn boundary_corner(g: u8, p: i32, s: i32) -> Fraction
         num: (64 + 2 * g) as i64 * p as i64 + (MAX_SHARPNESS - g) as i64 * s as i64,
         den: 96,
     }
+}
+
+// The corner point of a vertex of coordinate p by its rule, from its ring sum and the sum of its boundary neighbours.
+// Writes: nothing. Refuses: nothing.
+pub fn corner_mask(rule: u8, p: i32, ring: i32, sharp: i32) -> Fraction
+    ensures { λ r. ⌜ fractionOf r ≡ cornerMask rule p ring sharp ⌝ }
+{
+    if MAX_SHARPNESS < rule {
+        return smooth_corner(rule - MAX_SHARPNESS, p, ring);
+    }
+    boundary_corner(rule, p, sharp)
 }
 
 // Whether the corner point of a boundary vertex with so many faces is the vertex itself.
@@ -86,15 +97,14 @@ fn fixed(tag: u8, faces: u16) -> bool
 }
 
 // How the corner point of a vertex, inside or not, with so many faces is made. Writes: nothing. Refuses: nothing.
-pub fn corner_rule(inside: bool, tag: u8, faces: u16) -> u8
-    requires { ⌜ faces ≤ maxValence ⌝ }
+pub fn corner_rule(inside: bool, tag: u8, faces: u16) -> u32
     ensures { λ r. ⌜ r ≡ cornerRule inside tag faces ⌝ }
 {
     if inside {
-        return MAX_SHARPNESS + faces as u8;
+        return MAX_SHARPNESS as u32 + faces as u32;
     }
     if fixed(tag, faces) {
-        return MAX_SHARPNESS;
+        return MAX_SHARPNESS as u32;
     }
     0
 }

@@ -7,7 +7,7 @@ use Prim.Native.Nat.{ℕ, _+_, _-_, _*_, _≤_, _<_}
 use native.Mathlib.Nat.{lt-of-lt-of-le}
 use native.Mathlib.Omega.{arith}
 use lib.Dec.{eqb}
-use lib.IntN.{ℤ, pos, _*ℤ_}
+use lib.IntN.{ℤ, pos, natAbs, _*ℤ_}
 use lib.ListN.{length, getD}
 use Rattle.integer.specs.Nearest.{nearest, whole}
 use Rattle.integer.proofs.Difference.{int, nat, _⊛_, prove-eq}
@@ -17,7 +17,7 @@ use Rattle.finite.specs.Fold.{indicator}
 use Rattle.finite.specs.Filled.{filled}
 use Rattle.finite.proofs.FoldLaws.{bool-cases, fold-ext}
 use Rattle.finite.proofs.FilledLaws.{filled-at}
-use Rattle.limits.specs.Limits.{maxVertices}
+use Rattle.limits.specs.Limits.{maxVertices, maxValence, maxCoordinate}
 use Rattle.mesh.specs.IndexedMesh.{IndexedMesh, tag}
 use Rattle.mesh.specs.WellFormed.{WellFormed}
 use Rattle.mesh.proofs.AcceptedLaws.{accepted-corners}
@@ -27,7 +27,7 @@ use Rattle.patch.specs.Point.{faces, inside, weight, sharpSum, ringSum, 
 use Rattle.patch.specs.Patch.{shape, view, units, exactly}
 use Rattle.patch.specs.Lists.{shapeOf, seen, Twins, sharpSumBy}
 use Rattle.patch.specs.PatchTables.{Counts, rule, tagged, Rendered, Allowed, ruledPoint, CornerSource, CornerPoints, Tables}
-use Rattle.patch.proofs.TableLaws.{ring-seen, sharp-seen, accepted-whole, accepted-indices, faces-range, accepted-coordinates, ring-size, sharp-size}
+use Rattle.patch.proofs.TableLaws.{ring-seen, sharp-seen, accepted-whole, accepted-indices, faces-range, accepted-coordinates, ring-size, sharp-most, sharp-size}
 
 -- ---- a fraction with both parts multiplied has the same value and the same mark
 module _ {q q' : Fraction} (s : Scaled q q') where
@@ -63,6 +63,8 @@ module _ {M : IndexedMesh} (a : WellFormed M) where
   unfolding rule
   rule-allowed k p r axis l e =
       let range = faces-range a p l in
+      let ring : natAbs (ringSum (view M k) p) ≤ 5 * maxCoordinate * maxValence = omega (arith, ring-size a k axis p, range .1) in
+      let sharp : natAbs (sharpSum (view M k) p) ≤ 5 * maxCoordinate * maxValence = omega (arith, sharp-most a k axis p, range .1) in
       let value = a .coordinates (3 * p + k) (omega arith) in
       let n : ℕ = faces (shape M) p in
       let rule-at : (i : Bool) → inside (shape M) p ≡ i → r ≡ cornerRule i (tag M p) n = λ i t. e ∙ ap (λ (j : Bool). cornerRule j (tag M p) n) t in
@@ -71,14 +73,16 @@ module _ {M : IndexedMesh} (a : WellFormed M) where
       let less : r - maxSharpness ≡ n = omega arith in
       record {
         value-small = value;
-        faces-few = omega (arith, range .1);
+        ring-fits = ring;
+        sharp-fits = sharp;
         ring-small = λ _. rw less (ring-size a k axis p);
-        sharp-small = λ h. absurd (omega (arith, range .0));
+        sharp-small = λ h. absurd (omega arith);
       })
       (λ t. let low : r ≤ maxSharpness = rw (rule-at false t) (rule-boundary (tag M p) n) in
       record {
         value-small = value;
-        faces-few = omega arith;
+        ring-fits = ring;
+        sharp-fits = sharp;
         ring-small = λ h. absurd (omega arith);
         sharp-small = λ _. sharp-size a k axis p l t;
       })

@@ -46,10 +46,10 @@ module _ (S : View) (k : Corners (S .shape .n)) (small : (c : ℕ) → c < S .sh
       let g = x S (across c) in
       ring (bounds maxCoordinate) {e = e} {f = f} {g = g} {e' = e} {f' = f} {g' = g} (turn-size 1 c l) (turn-size 3 c l) (turn-size 2 c l)
 
-  pub sharp-term-size : (twins : List ℕ) (c : ℕ) → c < S .shape .n → natAbs (sharpTermBy S twins c) ≤ 5 * maxCoordinate
-  sharp-term-size twins c l =
-      let leaves = sharpIn twins c in
-      let enters = boundaryIn twins (prev c) in
+  -- whichever of the two neighbours count
+  pub sharp-term-size : (leaves enters : Bool) (c : ℕ) → c < S .shape .n
+      → natAbs (cond leaves (x S (next c)) (pos 0) +ℤ cond enters (x S (prev c)) (pos 0)) ≤ 5 * maxCoordinate
+  sharp-term-size leaves enters c l =
       omega (
         arith,
         abs-+ (cond leaves (x S (next c)) (pos 0)) (cond enters (x S (prev c)) (pos 0)),
@@ -106,6 +106,12 @@ module _ {M : IndexedMesh} (a : WellFormed M) where
     pub ring-size : (p : ℕ) → natAbs (ringSum (view M k) p) ≤ 5 * maxCoordinate * faces (shape M) p
     unfolding ringSum
     ring-size p = gather-size (at M) p (5 * maxCoordinate) _ (corners M) (ring-term-size (view M k) (accepted-corners a) corner-small)
+
+    pub sharp-most : (p : ℕ) → natAbs (sharpSum (view M k) p) ≤ 5 * maxCoordinate * faces (shape M) p
+    unfolding sharpSum
+    sharp-most p =
+        gather-size (at M) p (5 * maxCoordinate) _ (corners M)
+        (λ c. sharp-term-size (view M k) (accepted-corners a) corner-small (sharp (shape M) c) (boundary (at M) (corners M) (prev c)) c)
 
     -- two half-edges at a boundary vertex are boundary
     pub sharp-size : (p : ℕ) → p < M .vertices → inside (shape M) p ≡ false → natAbs (sharpSum (view M k) p) ≤ 2 * maxCoordinate

@@ -5,7 +5,8 @@
 --   Counts G valences leaving   the faces of each vertex, and whether it is inside: no boundary half-edge leaves it
 --   Rendered G v rules weights   the rule of each of v vertices, and the weight of each corner: all that is kept of the tags and of the counts
 --   Sums S twins ring sharp   the two sums at each vertex
---   Allowed r p ring sharp   by the rule r, the coordinate p and the two sums make a corner point within the range of the coordinates
+--   Allowed r p ring sharp   by the rule r, the coordinate p and the two sums make a corner point within the range of the coordinates: the sum that r
+--                      takes is small enough, and both fit 32 bits
 --   ruledPoint S twins rules p   the corner point of vertex p by its rule
 --   CornerSource v positions faces twins rules   all that the corner points of v vertices are made from
 --   Coordinate q v k ..   coordinate k of the corner points q below v is written: each in units at place 3p + k, with the other places of `points` as they
@@ -51,9 +52,10 @@ pub record Sums (S : View) (twins : List ℕ) (ring sharp : List ℤ) : Type 0 w
 
 pub record Allowed (r : ℕ) (p ring sharp : ℤ) : Type 0 where
   pub value-small : natAbs p ≤ maxCoordinate
-  pub faces-few : r ≤ maxSharpness + maxValence
+  pub ring-fits : natAbs ring ≤ 5 * maxCoordinate * maxValence
+  pub sharp-fits : natAbs sharp ≤ 5 * maxCoordinate * maxValence
   pub ring-small : maxSharpness < r → natAbs ring ≤ 5 * maxCoordinate * (r - maxSharpness)
-  pub sharp-small : r ≤ maxSharpness → natAbs sharp ≤ 2 * maxCoordinate
+  pub sharp-small : r < maxSharpness → natAbs sharp ≤ 2 * maxCoordinate
 
 unfoldable pub ruledPoint : View → List ℕ → List ℕ → ℕ → Fraction
 ruledPoint S twins rules p = cornerMask (getD rules p 0) (S .value p) (ringSum S p) (sharpSumBy S twins p)

@@ -9,8 +9,5 @@ pub(crate) fn corner_point(rule: u8, p: i32, ring: i64, sharp: i64) -> Fraction
     requires { ⌜ Allowed rule p ring sharp ⌝ }
     ensures { λ r. ⌜ Made (cornerMask rule p ring sharp) r ⌝ }
 {
-    if mask::MAX_SHARPNESS < rule {
-        return mask::smooth_corner(rule - mask::MAX_SHARPNESS, p, ring as i32);
-    }
-    mask::boundary_corner(rule, p, sharp as i32)
+    mask::corner_mask(rule, p, ring as i32, sharp as i32)
 }

@@ -69,7 +69,7 @@ fn fill_rules(tags: &[u8], valences: &[u16], leaving: &[u16], rules: &mut [u8])
         (length (now (tags .entry))) (now (rules .entry)) ⌝ }
 {
     for p in 0..tags.len() {
-        rules[p] = mask::corner_rule(leaving[p] == 0, tags[p], valences[p]);
+        rules[p] = mask::corner_rule(leaving[p] == 0, tags[p], valences[p]) as u8;
     }
 }
 

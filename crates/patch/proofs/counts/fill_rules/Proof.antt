@@ -9,6 +9,7 @@ use borrow.Author.Needs.{needs}
 use Rattle.finite.specs.Filled.{filled}
 use Rattle.finite.proofs.FilledLaws.{filled-start, filled-more, filled-all}
 use Rattle.mask.specs.Mask.{cornerRule}
+use Rattle.mask.proofs.RuleLaws.{rule-most}
 use Rattle.patch.proofs.counts.fill_rules.Statement.{statement}
 use Rattle.patch.proofs.counts.fill_rules.Tie as tie
 
@@ -42,11 +43,20 @@ shared-slice-read-corner-rule-3 : tie.Need-shared-slice-read-corner-rule-3 Inv-l
 shared-slice-read-corner-rule-3 c = omega arith
 
 corner-rule-requires : tie.Need-corner-rule-requires Inv-loop μ-loop
-corner-rule-requires c κs = let t = c .before .before .before in entry (t .before .before) .pre .1 (t .before .loop .p) (t .loop-test .taken)
+corner-rule-requires c κs = tt
 
 -- the end of a turn
 abbrev turn : tie.After-corner-rule Inv-loop μ-loop → tie.In-loop Inv-loop μ-loop
 turn c = c .before .before .before .before
+
+-- a rule is at most 16 more than a valence
+cast-rules : tie.Need-cast-rules Inv-loop μ-loop
+cast-rules c =
+    let t = turn c in
+    let q = t .before .loop .p in
+    let s = entry (t .before .before) in
+    rw (c .corner-rule .ensures)
+    (omega (arith, rule-most (eqb (getD (s .args .leaving .now) q 0) 0) (getD (s .args .tags .now) q 0) (getD (s .args .valences .now) q 0), s .pre .1 q (t .loop-test .taken)))
 
 slice-write-rules : tie.Need-slice-write-rules Inv-loop μ-loop
 slice-write-rules c = omega arith
@@ -86,6 +96,7 @@ fill-rules-spec =
     mul-corner-rule-2
     shared-slice-read-corner-rule-3
     corner-rule-requires
+    cast-rules
     slice-write-rules
     add-p
     loop-less

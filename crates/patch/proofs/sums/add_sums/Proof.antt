@@ -13,9 +13,10 @@ use Rattle.finite.specs.Fold.{gather}
 use Rattle.finite.proofs.Gather.{Gathered, gathered-none, gathered-more}
 use Rattle.finite.proofs.IntegerSum.{sumℤ-monoid}
 use Rattle.limits.specs.Limits.{maxVertices, maxCoordinate}
+use Rattle.corner.specs.Corner.{prev}
 use Rattle.mesh.specs.Tables.{vertexOf}
 use Rattle.patch.specs.Point.{View, ringTerm, ringSum}
-use Rattle.patch.specs.Lists.{seen, sharpTermBy, sharpSumBy}
+use Rattle.patch.specs.Lists.{seen, boundaryIn, sharpIn, sharpTermBy, sharpSumBy}
 use Rattle.patch.proofs.SumLaws.{gather-bound}
 use Rattle.patch.proofs.TableLaws.{ring-term-size, sharp-term-size}
 use Rattle.patch.proofs.sums.add_sums.Statement.{statement}
@@ -42,7 +43,7 @@ module _ (s : tie.Start Inv-loop μ-loop) where
   ring-term-small = let k = s .pre .0 .2 in ring-term-size S (k .corners) (k .small)
 
   sharp-term-small : (c : ℕ) → c < length (s .args .faces .now) → natAbs (sharpTermBy S (s .args .twins .now) c) ≤ 5 * maxCoordinate
-  sharp-term-small = let k = s .pre .0 .2 in sharp-term-size S (k .corners) (k .small) (s .args .twins .now)
+  sharp-term-small c = let k = s .pre .0 .2 in sharp-term-size S (k .corners) (k .small) (sharpIn (s .args .twins .now) c) (boundaryIn (s .args .twins .now) (prev c)) c
 
 -- the vertex of corner c has a place in the tables, and the sums so far are small
 module _ (w : tie.After-wide Inv-loop μ-loop) where
