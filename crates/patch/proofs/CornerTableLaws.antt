@@ -19,10 +19,10 @@ use Rattle.patch.specs.Lists.{sharpSumBy}
 use Rattle.patch.specs.PatchTables.{ruledPoint, Coordinate, CornerPoints}
 
 -- the corner point, from the entries of the tables
-pub ruled-entries : (S : View) (twins rules : List ℕ) (p : ℕ) (z r s : ℤ) → z ≡ S .value p → r ≡ ringSum S p → s ≡ sharpSumBy S twins p
-    → cornerMask (getD rules p 0) z r s ≡ ruledPoint S twins rules p
+pub ruled-entries : (S : View) (ends rules : List ℕ) (p : ℕ) (z r s : ℤ) → z ≡ S .value p → r ≡ ringSum S p → s ≡ sharpSumBy S ends p
+    → cornerMask (getD rules p 0) z r s ≡ ruledPoint S ends rules p
 unfolding ruledPoint
-ruled-entries S twins rules p z r s hz hr hs = rw (hz, hr, hs)
+ruled-entries S ends rules p z r s hz hr hs = rw (hz, hr, hs)
 
 -- ---- one coordinate of the points, with 3 numbers a point: one store
 module _ (k i : ℕ) (v : ℤ) (points : List ℤ) (axis : k < 3) where

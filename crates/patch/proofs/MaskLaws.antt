@@ -2,7 +2,7 @@
 --
 --   Sized q        the divisor of q is above 0, and q within the range of the coordinates: `bounds` of `LinearLaws`, for a mask
 use mathlib.Core.Path.{_≡_, refl, sym, ap₂, _∙_, subst}
-use Prim.Native.Nat.{ℕ, _-_, _*_, _≤_, _<_}
+use Prim.Native.Nat.{ℕ, _-_, _*_, _≤_}
 use native.Mathlib.Omega.{arith}
 use lib.Dec.{eqb, ltb}
 use lib.IntN.{ℤ, pos, natAbs, _*ℤ_}

@@ -1,6 +1,6 @@
 -- The rules and the weights of an accepted mesh: the counts make them, the corner points are made from them, and these are the ones of the definitions,
 -- in value and in mark.
-use mathlib.Core.Path.{_≡_, ap, ap₂, _∙_}
+use mathlib.Core.Path.{_≡_, refl, ap, ap₂, _∙_}
 use mathlib.Core.Bool.{Bool, true, false, _&&_}
 use mathlib.Core.List.{List}
 use Prim.Native.Nat.{ℕ, _+_, _-_, _*_, _≤_, _<_}
@@ -17,16 +17,20 @@ use Rattle.finite.specs.Fold.{indicator}
 use Rattle.finite.specs.Filled.{filled}
 use Rattle.finite.proofs.FoldLaws.{bool-cases, fold-ext}
 use Rattle.finite.proofs.FilledLaws.{filled-at}
-use Rattle.limits.specs.Limits.{maxVertices, maxValence, maxCoordinate}
-use Rattle.mesh.specs.IndexedMesh.{IndexedMesh, tag}
+use Rattle.limits.specs.Limits.{maxValence, maxCoordinate}
+use Rattle.corner.specs.Corner.{prev}
+use Rattle.mesh.specs.IndexedMesh.{IndexedMesh, corners, tag}
+use Rattle.mesh.specs.Tables.{Holds}
 use Rattle.mesh.specs.WellFormed.{WellFormed}
-use Rattle.mesh.proofs.AcceptedLaws.{accepted-corners}
+use Rattle.mesh.proofs.CornerLaws.{prev-below}
+use Rattle.mesh.proofs.SizeLaws.{indices-corners}
 use Rattle.mask.specs.Mask.{Fraction, maxSharpness, cornerRule}
 use Rattle.mask.proofs.RuleLaws.{Scaled, rule-inside, rule-boundary, rule-scaled}
-use Rattle.patch.specs.Point.{faces, inside, weight, sharpSum, ringSum, fixed, cornerPoint}
+use Rattle.patch.specs.Point.{faces, inside, weight, sharp, sharpSum, ringSum, fixed, cornerPoint}
 use Rattle.patch.specs.Patch.{shape, view, units, exactly}
-use Rattle.patch.specs.Lists.{shapeOf, seen, Twins, sharpSumBy}
-use Rattle.patch.specs.PatchTables.{Counts, rule, tagged, Rendered, Allowed, ruledPoint, CornerSource, CornerPoints, Tables}
+use Rattle.patch.specs.Lists.{shapeOf, seen, endsIn, sharpSumBy}
+use Rattle.patch.specs.PatchTables.{Counts, rule, tagged, endsOf, Renderable, Roomy, Rendered, Allowed, ruledPoint, CornerSource, CornerPoints, Tables}
+use Rattle.patch.proofs.FacePointLaws.{boundary-in, sharp-in}
 use Rattle.patch.proofs.TableLaws.{ring-seen, sharp-seen, accepted-whole, accepted-indices, faces-range, accepted-coordinates, ring-size, sharp-most, sharp-size}
 
 -- ---- a fraction with both parts multiplied has the same value and the same mark
@@ -42,19 +46,28 @@ module _ {q q' : Fraction} (s : Scaled q q') where
   exactly-scaled : exactly q' ≡ exactly q
   exactly-scaled = ap₂ whole scaled-num (s .den-is) ∙ whole-scaled (pos 256 *ℤ q .num) (q .den) (s .by) (s .divided) (s .above)
 
--- ---- the rules and the weights, from the tables of counts
-pub rendered-counts : (tags faces valences leaving rules weights rules₀ weights₀ : List ℕ) → length tags ≤ maxVertices
-    → Counts (shapeOf faces) valences leaving
-    → rules ≡ filled (λ p. cornerRule (eqb (getD leaving p 0) 0) (getD tags p 0) (getD valences p 0)) (length tags) rules₀
-    → weights ≡ filled (weight (shapeOf faces)) (length faces) weights₀
-    → Rendered (tagged tags faces) (length tags) rules weights
-unfolding rule weight
-rendered-counts tags faces valences leaving rules weights rules₀ weights₀ l t r w = record {
-  rules-are = λ p h.
-      ap (λ (d : List ℕ). getD d p 0) r ∙ filled-at _ (length tags) p rules₀ 0 h
-      ∙ rw (t .inside-are p (lt-of-lt-of-le h l), t .valences-are p (lt-of-lt-of-le h l));
-  weights-are = λ c h. ap (λ (d : List ℕ). getD d c 0) w ∙ filled-at _ (length faces) c weights₀ 0 h;
-}
+-- ---- the three tables, as the pass fills them
+held : (f g : ℕ → ℕ) (n : ℕ) (d table : List ℕ) → ((i : ℕ) → i < n → f i ≡ g i) → table ≡ filled f n d → Holds 0 table n g
+held f g n d table h e i l = ap (λ (t : List ℕ). getD t i 0) e ∙ filled-at f n i d 0 l ∙ h i l
+
+module _ {tags faces twins : List ℕ} (t : Renderable tags faces twins) where
+  pub rendered-rules : (valences leaving rules₀ rules : List ℕ) → Counts (shapeOf faces) valences leaving
+      → rules ≡ filled (λ p. cornerRule (eqb (getD leaving p 0) 0) (getD tags p 0) (getD valences p 0)) (length tags) rules₀
+      → Holds 0 rules (length tags) (rule (tagged tags faces))
+  unfolding rule
+  rendered-rules valences leaving rules₀ rules k =
+      held _ _ (length tags) rules₀ rules (λ p l. let b = lt-of-lt-of-le l (t .few) in rw (k .inside-are p b, k .valences-are p b))
+
+  pub rendered-weights : (weights₀ weights : List ℕ) → weights ≡ filled (weight (shapeOf faces)) (length faces) weights₀
+      → Holds 0 weights (length faces) (weight (tagged tags faces))
+  unfolding weight
+  rendered-weights weights₀ weights = held _ _ (length faces) weights₀ weights (λ c l. refl)
+
+  pub rendered-ends : (ends₀ ends : List ℕ) → ends ≡ filled (endsIn twins) (length faces) ends₀ → Holds 0 ends (length faces) (endsOf (tagged tags faces))
+  unfolding endsOf sharp
+  rendered-ends ends₀ ends =
+      held _ _ (length faces) ends₀ ends
+      (λ c l. rw (sharp-in (t .twinned) c l, boundary-in (t .twinned) (prev c) (prev-below (indices-corners (t .indices)) c l)))
 
 -- ---- what they give
 module _ {M : IndexedMesh} (a : WellFormed M) where
@@ -87,34 +100,34 @@ module _ {M : IndexedMesh} (a : WellFormed M) where
         sharp-small = λ _. sharp-size a k axis p l t;
       })
 
-module _ {M : IndexedMesh} (a : WellFormed M) {rules weights : List ℕ} where
-  pub rendered-mesh : Rendered (tagged (M .tags) (M .indices)) (length (M .tags)) rules weights → Rendered (shape M) (M .vertices) rules weights
+module _ {M : IndexedMesh} (a : WellFormed M) {rules weights ends : List ℕ} where
+  pub rendered-mesh : Rendered (tagged (M .tags) (M .indices)) (length (M .tags)) rules weights ends → Rendered (shape M) (M .vertices) rules weights ends
   rendered-mesh r = rw (accepted-whole a, a .sized .tags-are) at r
 
-  module _ {twins : List ℕ} (twinned : Twins (M .indices) twins) (r : Rendered (shape M) (M .vertices) rules weights) where
-    sharp-told : (k p : ℕ) → sharpSumBy (seen (M .positions) (M .indices) k) twins p ≡ sharpSum (view M k) p
-    sharp-told k p = sharp-seen M (accepted-whole a) twinned (rw (accepted-whole a) (accepted-corners a)) k p
+  module _ (r : Rendered (shape M) (M .vertices) rules weights ends) where
+    sharp-told : (k p : ℕ) → sharpSumBy (seen (M .positions) (M .indices) k) ends p ≡ sharpSum (view M k) p
+    sharp-told = sharp-seen M (accepted-whole a) ends (r .ends-are)
 
-    pub corner-source : M .vertices ≤ length rules → CornerSource (M .vertices) (M .positions) (M .indices) twins rules
-    corner-source listed = record {
+    pub corner-source : Roomy (M .vertices) (corners M) rules weights ends → CornerSource (M .vertices) (M .positions) (M .indices) ends rules
+    corner-source room = record {
       few = a .sized .vertices-high;
       positions-listed = omega (arith, a .sized .positions-are);
-      rules-listed = listed;
+      rules-listed = room .rules-listed;
       indices = accepted-indices a;
-      twins-listed = twinned .listed;
+      ends-listed = omega (arith, accepted-whole a, room .ends-listed);
       placed = accepted-coordinates a;
       allowed = λ k p axis l.
           rw (ring-seen M (accepted-whole a) k p, sharp-told k p) (rule-allowed a k p (getD rules p 0) axis l (r .rules-are p l));
     }
 
-    ruled-scaled : (k p : ℕ) → p < M .vertices → Scaled (cornerPoint (view M k) p) (ruledPoint (seen (M .positions) (M .indices) k) twins rules p)
+    ruled-scaled : (k p : ℕ) → p < M .vertices → Scaled (cornerPoint (view M k) p) (ruledPoint (seen (M .positions) (M .indices) k) ends rules p)
     unfolding cornerPoint fixed ruledPoint rule
     ruled-scaled k p l =
         rw (r .rules-are p l, ring-seen M (accepted-whole a) k p, sharp-told k p)
         (rule-scaled (inside (shape M) p) (tag M p) (faces (shape M) p) (view M k .value p) (ringSum (view M k) p) (sharpSum (view M k) p) (a .used p l))
 
     pub ruled-tables : {points : List ℤ} {marks : List ℕ}
-        → CornerPoints (λ k. ruledPoint (seen (M .positions) (M .indices) k) twins rules) (M .vertices) 3 points marks → Tables M weights points marks
+        → CornerPoints (λ k. ruledPoint (seen (M .positions) (M .indices) k) ends rules) (M .vertices) 3 points marks → Tables M weights points marks
     ruled-tables c = record {
       weights-are = r .weights-are;
       corners-are = record {

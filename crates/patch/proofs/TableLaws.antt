@@ -1,12 +1,12 @@
 -- The tables of an accepted mesh: what their entries are made of, and the sizes of these.
-use mathlib.Core.Path.{_≡_, _∙_}
+use mathlib.Core.Path.{_≡_, refl}
 use mathlib.Core.Bool.{Bool, true, false, cond}
 use mathlib.Core.List.{List}
-use Prim.Native.Nat.{ℕ, _+_, _-_, _*_, _≤_, _<_}
+use Prim.Native.Nat.{ℕ, _+_, _*_, _≤_, _<_}
 use native.Mathlib.Omega.{arith}
 use lib.Dec.{eqb}
 use lib.IntN.{pos, natAbs, _+ℤ_}
-use lib.ListN.{length, replicate, getD-replicate}
+use lib.ListN.{length, getD, replicate, length-replicate, getD-replicate}
 use borrow.Author.Tests.{not-false}
 use Rattle.integer.proofs.Laws.{abs-+}
 use Rattle.finite.proofs.FoldLaws.{bool-cases}
@@ -16,23 +16,45 @@ use Rattle.mesh.specs.HalfEdge.{boundary}
 use Rattle.mesh.specs.Fan.{onBoundary}
 use Rattle.mesh.specs.IndexedMesh.{IndexedMesh, corners, at}
 use Rattle.mesh.specs.WellFormed.{WellFormed}
-use Rattle.mesh.proofs.CornerLaws.{turn-below, prev-below}
+use Rattle.mesh.proofs.CornerLaws.{turn-below}
 use Rattle.mesh.proofs.BoundaryLaws.{boundary-vertex}
 use Rattle.mesh.proofs.SizeLaws.{sized-indices}
 use Rattle.mesh.proofs.AcceptedLaws.{accepted-corners}
-use Rattle.mesh.specs.Tables.{Corners, Holds, Indices, vertexOf}
+use Rattle.mesh.specs.Tables.{Corners, Holds, Indices}
 use Rattle.mask.specs.Mask.{cornerWeight}
 use Rattle.mask.proofs.LinearLaws.{bounds, ring}
 use Rattle.patch.specs.Point.{Shape, View, x, ringTerm, sharpTerm, faces, inside, weight, sharp, sharpSum, ringSum}
 use Rattle.patch.specs.Patch.{shape, view}
-use Rattle.patch.specs.Lists.{shapeOf, seen, Coordinates, boundaryIn, sharpIn, Twins, sharpTermBy, sharpSumBy}
+use Rattle.patch.specs.Lists.{shapeOf, seen, Coordinates, endsByte, nextCounts, prevCounts, sharpTermBy, sharpSumBy}
+use Rattle.patch.specs.PatchTables.{Blank, endsOf}
 use Rattle.patch.proofs.NeighbourLaws.{sharp-neighbours}
 use Rattle.patch.proofs.SumLaws.{cond-size, gather-size, gather-ext}
-use Rattle.patch.proofs.FacePointLaws.{boundary-in, sharp-in}
+
+-- ---- the byte of a corner
+next-counts : (next prev : Bool) → nextCounts (endsByte next prev) ≡ next
+unfolding endsByte
+next-counts true true = refl
+next-counts true false = refl
+next-counts false true = refl
+next-counts false false = refl
+
+prev-counts : (next prev : Bool) → prevCounts (endsByte next prev) ≡ prev
+unfolding endsByte
+prev-counts true true = refl
+prev-counts true false = refl
+prev-counts false true = refl
+prev-counts false false = refl
+
+-- by the byte 0 neither neighbour counts
+pub term-none : (S : View) (ends : List ℕ) (c : ℕ) → getD ends c 0 ≡ 0 → sharpTermBy S ends c ≡ pos 0
+term-none S ends c e = rw e
 
 -- a table as it is made: the same number at each vertex
 pub same-all : {A : Type 0} (d z : A) → Holds d (replicate maxVertices z) maxVertices (λ p. z)
 same-all d z p l = getD-replicate maxVertices p z d l
+
+pub blank : {A : Type 0} (z : A) → Blank z (replicate maxVertices z)
+blank z = record { listed = rw length-replicate (omega arith); holds = same-all z z }
 
 -- ---- the terms of the two sums
 module _ (S : View) (k : Corners (S .shape .n)) (small : (c : ℕ) → c < S .shape .n → natAbs (x S c) ≤ maxCoordinate) where
@@ -70,13 +92,12 @@ module _ (M : IndexedMesh) (whole : length (M .indices) ≡ corners M) where
   unfolding ringSum
   ring-seen k p = rw whole
 
-  pub sharp-seen : {twins : List ℕ} → Twins (M .indices) twins → Corners (length (M .indices))
-      → (k p : ℕ) → sharpSumBy (seen (M .positions) (M .indices) k) twins p ≡ sharpSum (view M k) p
-  unfolding sharpSumBy sharpSum sharp
-  sharp-seen t corners k p =
-      gather-ext (vertexOf (M .indices)) p (pos 0) _+ℤ_ {g = sharpTerm (seen (M .positions) (M .indices) k)} (length (M .indices))
-      (λ c l. rw (sharp-in t c l, boundary-in t (prev c) (prev-below corners c l)))
-      ∙ rw whole
+  pub sharp-seen : (ends : List ℕ) → Holds 0 ends (corners M) (endsOf (shape M))
+      → (k p : ℕ) → sharpSumBy (seen (M .positions) (M .indices) k) ends p ≡ sharpSum (view M k) p
+  unfolding sharpSumBy sharpSum endsOf
+  sharp-seen ends h k p =
+      rw whole
+      (gather-ext (at M) p (pos 0) _+ℤ_ {g = sharpTerm (view M k)} (corners M) (λ c l. rw (h c l, next-counts, prev-counts)))
 
 module _ {M : IndexedMesh} (a : WellFormed M) where
   pub accepted-whole : length (M .indices) ≡ corners M

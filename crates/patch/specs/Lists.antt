@@ -6,14 +6,18 @@
 --   Twins faces twins  the twins of all the half-edges are listed
 --   Linked faces twins   every half-edge has an entry, which is a half-edge or none
 --   innerBy S weights c, edgeBy S weights c d, alongBy S twins weights c, beforeBy S twins weights c   the points that corner c owns, as those tables tell
---   sharpTermBy S twins c, sharpSumBy S twins p   what corner c adds to the sharp sum, and the sharp sum, as the table of twins tells
+--   endsByte next prev   which neighbours of a corner count as far ends of sharp edges, as a byte: 1 the next vertex, 2 the previous one, 3 both, 0 none
+--   endsIn twins c     that byte of corner c: the next vertex where half-edge c is sharp, the previous one where the half-edge before c has no twin
+--   nextCounts e, prevCounts e   the next vertex counts, and the previous one, by the byte e
+--   sharpTermBy S ends c, sharpSumBy S ends p   what corner c adds to the sharp sum, and the sharp sum, as the table of these bytes tells
 use mathlib.Core.Path.{_≡_}
 use mathlib.Core.Bool.{Bool, false, cond}
 use mathlib.Core.List.{List}
-use Prim.Native.Nat.{ℕ, _+_, _*_, _≤_, _<_}
-use lib.Dec.{eqb}
+use Prim.Native.Nat.{ℕ, _+_, _*_, _%_, _≤_, _<_}
+use lib.Dec.{eqb, ltb}
 use lib.IntN.{ℤ, pos, natAbs, _+ℤ_}
 use lib.ListN.{length, getD}
+use Rattle.finite.specs.Fold.{indicator}
 use Rattle.limits.specs.Limits.{maxCoordinate, noTwin}
 use Rattle.corner.specs.Corner.{next, across, prev}
 use Rattle.mesh.specs.HalfEdge.{twin}
@@ -59,8 +63,20 @@ unfoldable pub beforeBy : View → List ℕ → List ℕ → ℕ → Fraction
 beforeBy S twins weights c =
     cond (sharpIn twins (prev c)) (boundaryEdgeMask (x S c) (x S (prev c))) (edgeBy S weights (twinOf twins (prev c)) (prev c))
 
+unfoldable pub endsByte : Bool → Bool → ℕ
+endsByte next prev = indicator next + 2 * indicator prev
+
+abbrev pub endsIn : List ℕ → ℕ → ℕ
+endsIn twins c = endsByte (sharpIn twins c) (boundaryIn twins (prev c))
+
+abbrev pub nextCounts : ℕ → Bool
+nextCounts e = eqb (e % 2) 1
+
+abbrev pub prevCounts : ℕ → Bool
+prevCounts e = ltb 1 e
+
 abbrev pub sharpTermBy : View → List ℕ → ℕ → ℤ
-sharpTermBy S twins c = cond (sharpIn twins c) (x S (next c)) (pos 0) +ℤ cond (boundaryIn twins (prev c)) (x S (prev c)) (pos 0)
+sharpTermBy S ends c = cond (nextCounts (getD ends c 0)) (x S (next c)) (pos 0) +ℤ cond (prevCounts (getD ends c 0)) (x S (prev c)) (pos 0)
 
 unfoldable pub sharpSumBy : View → List ℕ → ℕ → ℤ
-sharpSumBy S twins p = sumAt (S .shape) p (sharpTermBy S twins)
+sharpSumBy S ends p = sumAt (S .shape) p (sharpTermBy S ends)

@@ -3,12 +3,18 @@
 --   rule G p           how the corner point of vertex p is made, as one number
 --   tagged tags faces  the shape of a mesh with its tags, by its lists
 --   Counts G valences leaving   the faces of each vertex, and whether it is inside: no boundary half-edge leaves it
---   Rendered G v rules weights   the rule of each of v vertices, and the weight of each corner: all that is kept of the tags and of the counts
---   Sums S twins ring sharp   the two sums at each vertex
+--   endsOf G c         which neighbours of corner c count as far ends of sharp edges, as a byte
+--   Blank z table      a table with a place for each vertex, with z at each
+--   Renderable tags faces twins, Roomy v n rules weights ends   what the three tables are read from, and room for v vertices and n corners in them
+--   Rendered G v rules weights ends   the rule of each of v vertices, and of each corner its weight and its far ends of sharp edges: all that is kept
+--                      of the tags and of the counts
+--   Termed positions faces ends k c   what the terms of corner c in the two sums are read from
+--   Summable positions faces ends k ring sharp   what the two sums are made from, and where
+--   Sums S ends ring sharp   the two sums at each vertex
 --   Allowed r p ring sharp   by the rule r, the coordinate p and the two sums make a corner point within the range of the coordinates: the sum that r
 --                      takes is small enough, and both fit 32 bits
---   ruledPoint S twins rules p   the corner point of vertex p by its rule
---   CornerSource v positions faces twins rules   all that the corner points of v vertices are made from
+--   ruledPoint S ends rules p   the corner point of vertex p by its rule
+--   CornerSource v positions faces ends rules   all that the corner points of v vertices are made from
 --   Coordinate q v k ..   coordinate k of the corner points q below v is written: each in units at place 3p + k, with the other places of `points` as they
 --                      were; their marks are kept where nothing is left, and become 0 elsewhere, with the marks from v on as they were
 --   CornerPoints q v n points marks   of v vertices, the coordinates below n of the corner points, and whether nothing is left in any of these
@@ -23,12 +29,15 @@ use lib.IntN.{ℤ, pos, natAbs}
 use lib.ListN.{length, getD}
 use Rattle.finite.specs.Fold.{allBelow, indicator}
 use Rattle.limits.specs.Limits.{maxVertices, maxValence, maxCoordinate}
+use Rattle.corner.specs.Corner.{prev}
+use Rattle.mesh.specs.HalfEdge.{boundary}
+use Rattle.mesh.specs.Fan.{valence}
 use Rattle.mesh.specs.IndexedMesh.{IndexedMesh, corners}
 use Rattle.mesh.specs.Tables.{Holds, Indices, vertexOf}
 use Rattle.mask.specs.Mask.{Fraction, maxSharpness, cornerRule, cornerMask}
-use Rattle.patch.specs.Point.{Shape, View, faces, inside, weight, ringSum, cornerPoint}
+use Rattle.patch.specs.Point.{Shape, View, faces, inside, weight, sharp, ringSum, cornerPoint}
 use Rattle.patch.specs.Patch.{shape, view, units, exactly}
-use Rattle.patch.specs.Lists.{shapeOf, seen, Coordinates, sharpSumBy}
+use Rattle.patch.specs.Lists.{shapeOf, seen, Coordinates, Twins, endsByte, sharpSumBy}
 
 unfoldable pub rule : Shape → ℕ → ℕ
 rule G p = cornerRule (inside G p) (G .tag p) (faces G p)
@@ -42,13 +51,44 @@ pub record Counts (G : Shape) (valences leaving : List ℕ) : Type 0 where
   pub leaving-listed : maxVertices ≤ length leaving
   pub inside-are : (p : ℕ) → p < maxVertices → eqb (getD leaving p 0) 0 ≡ inside G p
 
-pub record Rendered (G : Shape) (v : ℕ) (rules weights : List ℕ) : Type 0 where
+unfoldable pub endsOf : Shape → ℕ → ℕ
+endsOf G c = endsByte (sharp G c) (boundary (G .at) (G .n) (prev c))
+
+pub record Renderable (tags faces twins : List ℕ) : Type 0 where
+  pub few : length tags ≤ maxVertices
+  pub indices : Indices faces (length faces)
+  pub twinned : Twins faces twins
+  pub valences-few : (p : ℕ) → p < length tags → valence (vertexOf faces) (length faces) p ≤ maxValence
+
+pub record Roomy (v n : ℕ) (rules weights ends : List ℕ) : Type 0 where
+  pub rules-listed : v ≤ length rules
+  pub weights-listed : n ≤ length weights
+  pub ends-listed : n ≤ length ends
+
+pub record Rendered (G : Shape) (v : ℕ) (rules weights ends : List ℕ) : Type 0 where
   pub rules-are : Holds 0 rules v (rule G)
   pub weights-are : Holds 0 weights (G .n) (weight G)
+  pub ends-are : Holds 0 ends (G .n) (endsOf G)
 
-pub record Sums (S : View) (twins : List ℕ) (ring sharp : List ℤ) : Type 0 where
+pub record Blank {A : Type 0} (z : A) (table : List A) : Type 0 where
+  pub listed : maxVertices ≤ length table
+  pub holds : Holds z table maxVertices (λ p. z)
+
+pub record Termed (positions : List ℤ) (faces ends : List ℕ) (k c : ℕ) : Type 0 where
+  pub placed : Coordinates positions faces k
+  pub ends-listed : length faces ≤ length ends
+  pub below : c < length faces
+
+pub record Summable (positions : List ℤ) (faces ends : List ℕ) (k : ℕ) (ring sharp : List ℤ) : Type 0 where
+  pub indices : Indices faces (length faces)
+  pub ends-listed : length faces ≤ length ends
+  pub placed : Coordinates positions faces k
+  pub ring-blank : Blank (pos 0) ring
+  pub sharp-blank : Blank (pos 0) sharp
+
+pub record Sums (S : View) (ends : List ℕ) (ring sharp : List ℤ) : Type 0 where
   pub ring-are : Holds (pos 0) ring maxVertices (ringSum S)
-  pub sharp-are : Holds (pos 0) sharp maxVertices (sharpSumBy S twins)
+  pub sharp-are : Holds (pos 0) sharp maxVertices (sharpSumBy S ends)
 
 pub record Allowed (r : ℕ) (p ring sharp : ℤ) : Type 0 where
   pub value-small : natAbs p ≤ maxCoordinate
@@ -58,17 +98,17 @@ pub record Allowed (r : ℕ) (p ring sharp : ℤ) : Type 0 where
   pub sharp-small : r < maxSharpness → natAbs sharp ≤ 2 * maxCoordinate
 
 unfoldable pub ruledPoint : View → List ℕ → List ℕ → ℕ → Fraction
-ruledPoint S twins rules p = cornerMask (getD rules p 0) (S .value p) (ringSum S p) (sharpSumBy S twins p)
+ruledPoint S ends rules p = cornerMask (getD rules p 0) (S .value p) (ringSum S p) (sharpSumBy S ends p)
 
-pub record CornerSource (v : ℕ) (positions : List ℤ) (faces twins rules : List ℕ) : Type 0 where
+pub record CornerSource (v : ℕ) (positions : List ℤ) (faces ends rules : List ℕ) : Type 0 where
   pub few : v ≤ maxVertices
   pub positions-listed : 3 * v ≤ length positions
   pub rules-listed : v ≤ length rules
   pub indices : Indices faces (length faces)
-  pub twins-listed : length faces ≤ length twins
+  pub ends-listed : length faces ≤ length ends
   pub placed : (k : ℕ) → k < 3 → Coordinates positions faces k
   pub allowed : (k p : ℕ) → k < 3 → p < v
-      → Allowed (getD rules p 0) (seen positions faces k .value p) (ringSum (seen positions faces k) p) (sharpSumBy (seen positions faces k) twins p)
+      → Allowed (getD rules p 0) (seen positions faces k .value p) (ringSum (seen positions faces k) p) (sharpSumBy (seen positions faces k) ends p)
 
 pub record Coordinate (q : ℕ → Fraction) (v k : ℕ) (points points' : List ℤ) (marks marks' : List ℕ) : Type 0 where
   pub written : (p : ℕ) → p < v → getD points' (3 * p + k) (pos 0) ≡ units (q p)

@@ -1,5 +1,8 @@
-// What is read from the tags, the faces and the twins of an accepted mesh, once: the rule of each vertex and the weight of each corner.
+// What is read from the tags, the faces and the twins of an accepted mesh, once: the rule of each vertex, and of each corner its weight and which
+// of its neighbours are far ends of sharp edges.
 use crate::values::is_boundary;
+use crate::values::is_sharp;
+use crate::values::turned;
 use corner::wide;
 use limits::model::Mesh;
 ghost use mathlib.Core.Path.{_≡_};
@@ -10,11 +13,10 @@ ghost use Rattle.finite.specs.Fold.{indicator};
 ghost use Rattle.finite.specs.Filled.{filled};
 ghost use Rattle.limits.specs.Limits.{maxVertices, maxValence};
 ghost use Rattle.mask.specs.Mask.{cornerRule};
-ghost use Rattle.mesh.specs.Fan.{valence};
-ghost use Rattle.mesh.specs.Tables.{Holds, Indices, vertexOf};
+ghost use Rattle.mesh.specs.Tables.{Corners, Holds, Indices};
 ghost use Rattle.patch.specs.Point.{weight};
-ghost use Rattle.patch.specs.Lists.{shapeOf, Twins};
-ghost use Rattle.patch.specs.PatchTables.{Counts, Rendered, tagged};
+ghost use Rattle.patch.specs.Lists.{shapeOf, Twins, endsByte, endsIn};
+ghost use Rattle.patch.specs.PatchTables.{Counts, Renderable, Roomy, Rendered, tagged};
 
 // 1 for true, 0 for false.
 fn one_if(b: bool) -> u16
@@ -73,22 +75,42 @@ fn fill_rules(tags: &[u8], valences: &[u16], leaving: &[u16], rules: &mut [u8])
     }
 }
 
-// Writes the rule of each vertex and the weight of each corner: all that is kept of the tags.
+// The byte of a corner whose next and previous vertices count or not: 1 for the next one, 2 for the previous one, 3 for both.
+fn ends_byte(next: bool, prev: bool) -> u8
+    ensures { λ r. ⌜ r ≡ endsByte next prev ⌝ }
+{
+    (one_if(next) + 2 * one_if(prev)) as u8
+}
+
+// Writes which neighbours of each of n corners are far ends of sharp edges: the next vertex where the half-edge is sharp, the previous one where
+// the half-edge before has no twin that would count it.
+fn fill_ends(twins: &[u16], n: usize, ends: &mut [u8])
+    requires { ⌜ Corners n × (n ≤ length (now twins)) × (n ≤ length (now ends)) ⌝ }
+    ensures { λ _. ⌜ now (ends .exit) ≡ filled (endsIn (now (twins .entry))) n (now (ends .entry)) ⌝ }
+{
+    for c in 0..n {
+        ends[c] = ends_byte(is_sharp(twins, c), is_boundary(twins, turned(3, c)));
+    }
+}
+
+// Writes the rule of each vertex, and of each corner its weight and its far ends of sharp edges: all that is kept of the tags and the counts.
 pub(crate) fn render(
     tags: &[u8],
     faces: &[u16],
     twins: &[u16],
     rules: &mut [u8],
     weights: &mut [u16],
+    ends: &mut [u8],
 )
-    requires { ⌜ Indices (now faces) (length (now faces)) × Twins (now faces) (now twins) × (length (now tags) ≤ maxVertices) ⌝ }
-    requires { ⌜ ((p : ℕ) → p < length (now tags) → valence (vertexOf (now faces)) (length (now faces)) p ≤ maxValence) ⌝ }
-    requires { ⌜ (length (now tags) ≤ length (now rules)) × (length (now faces) ≤ length (now weights)) ⌝ }
-    ensures { λ _. ⌜ Rendered (tagged (now (tags .entry)) (now (faces .entry))) (length (now (tags .entry))) (now (rules .exit)) (now (weights .exit)) ⌝ }
+    requires { ⌜ Renderable (now tags) (now faces) (now twins) ⌝ }
+    requires { ⌜ Roomy (length (now tags)) (length (now faces)) (now rules) (now weights) (now ends) ⌝ }
+    ensures { λ _. ⌜ Rendered (tagged (now (tags .entry)) (now (faces .entry))) (length (now (tags .entry)))
+        (now (rules .exit)) (now (weights .exit)) (now (ends .exit)) ⌝ }
 {
     let mut valences = [0u16; Mesh::MAX_VERTICES];
     let mut leaving = [0u16; Mesh::MAX_VERTICES];
     count_faces(faces, twins, &mut valences, &mut leaving);
     fill_weights(faces, &valences, &leaving, weights);
     fill_rules(tags, &valences, &leaving, rules);
+    fill_ends(twins, faces.len(), ends);
 }

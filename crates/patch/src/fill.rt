@@ -69,10 +69,11 @@ pub(crate) fn fill_patches(
 {
     let mut rules = [0u8; Mesh::MAX_VERTICES];
     let mut weights = [0u16; 4 * Mesh::MAX_FACES];
-    render(tags, faces, twins, &mut rules, &mut weights);
+    let mut ends = [0u8; 4 * Mesh::MAX_FACES];
+    render(tags, faces, twins, &mut rules, &mut weights, &mut ends);
     let mut points = [0i32; 3 * Mesh::MAX_VERTICES];
     let mut marks = [1u8; Mesh::MAX_VERTICES];
-    fill_corners(v, positions, faces, twins, &rules, &mut points, &mut marks);
+    fill_corners(v, positions, faces, &ends, &rules, &mut points, &mut marks);
     write_patches(
         f,
         positions,

@@ -1,19 +1,15 @@
 // The two sums over the corners at each vertex, of one coordinate: over its ring, and over its sharp edges.
 use crate::values::face_values;
-use crate::values::is_boundary;
-use crate::values::is_sharp;
-use crate::values::turned;
 use corner::wide;
 ghost use mathlib.Core.Path.{_≡_};
 ghost use mathlib.Core.Bool.{cond};
 ghost use Prim.Native.Nat.{_+_, _*_, _≤_, _<_};
 ghost use lib.IntN.{pos, natAbs, _+ℤ_};
 ghost use lib.ListN.{length, getD, set};
-ghost use Rattle.limits.specs.Limits.{maxVertices, maxCoordinate};
-ghost use Rattle.mesh.specs.Tables.{Holds, Indices};
+ghost use Rattle.limits.specs.Limits.{maxCoordinate};
 ghost use Rattle.patch.specs.Point.{ringTerm};
 ghost use Rattle.patch.specs.Lists.{seen, Coordinates, sharpTermBy};
-ghost use Rattle.patch.specs.PatchTables.{Sums};
+ghost use Rattle.patch.specs.PatchTables.{Termed, Summable, Sums};
 
 // The sum of two numbers.
 fn plus(a: i64, b: i64) -> i64
@@ -50,33 +46,52 @@ fn value_if(b: bool, x: i32) -> i64
 }
 
 // The term of corner c in the sharp sum, of coordinate k.
-fn sharp_term(positions: &[i32], faces: &[u16], twins: &[u16], k: usize, c: usize) -> i64
-    requires { ⌜ Coordinates (now positions) (now faces) k × (length (now faces) ≤ length (now twins)) × (c < length (now faces)) ⌝ }
-    ensures { λ r. ⌜ r ≡ sharpTermBy (seen (now (positions .entry)) (now (faces .entry)) k) (now (twins .entry)) c ⌝ }
+fn sharp_term(positions: &[i32], faces: &[u16], ends: &[u8], k: usize, c: usize) -> i64
+    requires { ⌜ Termed (now positions) (now faces) (now ends) k c ⌝ }
+    ensures { λ r. ⌜ r ≡ sharpTermBy (seen (now (positions .entry)) (now (faces .entry)) k) (now (ends .entry)) c ⌝ }
 {
     let a = face_values(positions, faces, k, c);
-    let leaving = value_if(is_sharp(twins, c), a.next);
-    let entering = value_if(is_boundary(twins, turned(3, c)), a.prev);
-    plus(leaving, entering)
+    let next = value_if(ends[c] % 2 == 1, a.next);
+    let prev = value_if(1 < ends[c], a.prev);
+    plus(next, prev)
+}
+
+// Adds the term of corner c to the sharp sum at place p, of coordinate k: nothing where no neighbour counts.
+fn add_sharp(
+    positions: &[i32],
+    faces: &[u16],
+    ends: &[u8],
+    k: usize,
+    c: usize,
+    p: usize,
+    sharp: &mut [i64],
+)
+    requires { ⌜ Termed (now positions) (now faces) (now ends) k c ⌝ }
+    requires { ⌜ (p < length (now sharp)) × (natAbs (getD (now sharp) p (pos 0)) ≤ 5120 * maxCoordinate) ⌝ }
+    ensures { λ _. ⌜ now (sharp .exit) ≡ set (now (sharp .entry)) p
+        (getD (now (sharp .entry)) p (pos 0) +ℤ sharpTermBy (seen (now (positions .entry)) (now (faces .entry)) k) (now (ends .entry)) c) ⌝ }
+{
+    if ends[c] == 0 {
+        return;
+    }
+    add_at(sharp, p, sharp_term(positions, faces, ends, k, c));
 }
 
 // Adds the two terms of each corner at its vertex, of coordinate k, over tables of zeros.
 pub(crate) fn add_sums(
     positions: &[i32],
     faces: &[u16],
-    twins: &[u16],
+    ends: &[u8],
     k: usize,
     ring: &mut [i64],
     sharp: &mut [i64],
 )
-    requires { ⌜ Indices (now faces) (length (now faces)) × (length (now faces) ≤ length (now twins)) × Coordinates (now positions) (now faces) k ⌝ }
-    requires { ⌜ (maxVertices ≤ length (now ring)) × (maxVertices ≤ length (now sharp)) ⌝ }
-    requires { ⌜ Holds (pos 0) (now ring) maxVertices (λ p. pos 0) × Holds (pos 0) (now sharp) maxVertices (λ p. pos 0) ⌝ }
-    ensures { λ _. ⌜ Sums (seen (now (positions .entry)) (now (faces .entry)) k) (now (twins .entry)) (now (ring .exit)) (now (sharp .exit)) ⌝ }
+    requires { ⌜ Summable (now positions) (now faces) (now ends) k (now ring) (now sharp) ⌝ }
+    ensures { λ _. ⌜ Sums (seen (now (positions .entry)) (now (faces .entry)) k) (now (ends .entry)) (now (ring .exit)) (now (sharp .exit)) ⌝ }
 {
     for c in 0..faces.len() {
         let p = wide(faces[c]);
         add_at(ring, p, ring_term(positions, faces, k, c));
-        add_at(sharp, p, sharp_term(positions, faces, twins, k, c));
+        add_sharp(positions, faces, ends, k, c, p, sharp);
     }
 }

@@ -27,20 +27,20 @@ fn fill_coordinate(
     v: usize,
     positions: &[i32],
     faces: &[u16],
-    twins: &[u16],
+    ends: &[u8],
     rules: &[u8],
     k: usize,
     points: &mut [i32],
     marks: &mut [u8],
 )
-    requires { ⌜ CornerSource v (now positions) (now faces) (now twins) (now rules) × (k < 3) ⌝ }
+    requires { ⌜ CornerSource v (now positions) (now faces) (now ends) (now rules) × (k < 3) ⌝ }
     requires { ⌜ (3 * v ≤ length (now points)) × (v ≤ length (now marks)) ⌝ }
-    ensures { λ _. ⌜ Coordinate (ruledPoint (seen (now (positions .entry)) (now (faces .entry)) k) (now (twins .entry)) (now (rules .entry))) v k
+    ensures { λ _. ⌜ Coordinate (ruledPoint (seen (now (positions .entry)) (now (faces .entry)) k) (now (ends .entry)) (now (rules .entry))) v k
         (now (points .entry)) (now (points .exit)) (now (marks .entry)) (now (marks .exit)) ⌝ }
 {
     let mut ring = [0i64; Mesh::MAX_VERTICES];
     let mut sharp = [0i64; Mesh::MAX_VERTICES];
-    add_sums(positions, faces, twins, k, &mut ring, &mut sharp);
+    add_sums(positions, faces, ends, k, &mut ring, &mut sharp);
     for p in 0..v {
         let i = 3 * p + k;
         let x = coordinate(positions, i);
@@ -56,17 +56,17 @@ pub(crate) fn fill_corners(
     v: usize,
     positions: &[i32],
     faces: &[u16],
-    twins: &[u16],
+    ends: &[u8],
     rules: &[u8],
     points: &mut [i32],
     marks: &mut [u8],
 )
-    requires { ⌜ CornerSource v (now positions) (now faces) (now twins) (now rules) ⌝ }
+    requires { ⌜ CornerSource v (now positions) (now faces) (now ends) (now rules) ⌝ }
     requires { ⌜ (3 * v ≤ length (now points)) × (v ≤ length (now marks)) × Holds 0 (now marks) v (λ p. 1) ⌝ }
-    ensures { λ _. ⌜ CornerPoints (λ k. ruledPoint (seen (now (positions .entry)) (now (faces .entry)) k) (now (twins .entry)) (now (rules .entry))) v 3
+    ensures { λ _. ⌜ CornerPoints (λ k. ruledPoint (seen (now (positions .entry)) (now (faces .entry)) k) (now (ends .entry)) (now (rules .entry))) v 3
         (now (points .exit)) (now (marks .exit)) ⌝ }
 {
     for k in 0..3 {
-        fill_coordinate(v, positions, faces, twins, rules, k, points, marks);
+        fill_coordinate(v, positions, faces, ends, rules, k, points, marks);
     }
 }

@@ -1,11 +1,10 @@
 -- `fill_rules` meets its contract: each rule is made of what the three lists have at the place of its vertex.
 use mathlib.Core.Path.{_≡_, refl, _∙_}
-use Prim.Native.Nat.{ℕ, _-_, _<_, _≤_}
+use Prim.Native.Nat.{_-_, _≤_}
 use native.Mathlib.Numerals.{add-one-le, add-one-dec}
 use native.Mathlib.Omega.{arith}
 use lib.Dec.{eqb}
 use lib.ListN.{length, getD, length-set}
-use borrow.Author.Needs.{needs}
 use Rattle.finite.specs.Filled.{filled}
 use Rattle.finite.proofs.FilledLaws.{filled-start, filled-more, filled-all}
 use Rattle.mask.specs.Mask.{cornerRule}
@@ -56,7 +55,11 @@ cast-rules c =
     let q = t .before .loop .p in
     let s = entry (t .before .before) in
     rw (c .corner-rule .ensures)
-    (omega (arith, rule-most (eqb (getD (s .args .leaving .now) q 0) 0) (getD (s .args .tags .now) q 0) (getD (s .args .valences .now) q 0), s .pre .1 q (t .loop-test .taken)))
+    (omega (
+      arith,
+      rule-most (eqb (getD (s .args .leaving .now) q 0) 0) (getD (s .args .tags .now) q 0) (getD (s .args .valences .now) q 0),
+      s .pre .1 q (t .loop-test .taken),
+    ))
 
 slice-write-rules : tie.Need-slice-write-rules Inv-loop μ-loop
 slice-write-rules c = omega arith

@@ -1,26 +1,19 @@
--- `render` meets its contract: the counts of each vertex and its tag make its rule, and the counts the weight of each of its corners.
+-- `render` meets its contract: the counts of each vertex and its tag make its rule, the counts the weight of each of its corners, and the twins the far
+-- ends of sharp edges.
+use mathlib.Core.List.{List}
+use Prim.Native.Nat.{ℕ}
 use native.Mathlib.Nat.{lt-of-lt-of-le}
 use native.Mathlib.Omega.{arith}
 use borrow.Author.Needs.{needs}
+use Rattle.mesh.proofs.SizeLaws.{indices-corners}
 use Rattle.patch.proofs.TableLaws.{same-all}
-use Rattle.patch.proofs.RuledLaws.{rendered-counts}
+use Rattle.patch.proofs.RuledLaws.{rendered-rules, rendered-weights, rendered-ends}
 use Rattle.patch.proofs.counts.render.Statement.{statement}
 use Rattle.patch.proofs.counts.render.Tie as tie
 
--- the function's entry, from the tables of counts
+-- ---- the counts: the function's entry, from their tables
 abbrev made : tie.After-leaving → tie.Start
-made c = let k = c .before .before .before in k .before .before .before .before
-
--- before the weights are written, and before the rules are
-module _ (c : tie.After-fill-weights-arg) where
-  abbrev counted : tie.After-count-faces
-  counted = let lent = c .before .before in lent .before .before .before
-
-  abbrev start : tie.Start
-  start = made (counted .before)
-
-abbrev weighed : tie.After-fill-rules-arg → tie.After-fill-weights
-weighed c = let lent = c .before .before in lent .before .before .before
+made c = let k = c .before .before .before .before in k .before .before .before .before
 
 slice-aggregate-count-faces : tie.Need-slice-aggregate-count-faces
 slice-aggregate-count-faces c = search needs
@@ -30,8 +23,22 @@ slice-aggregate-count-faces-2 c = search needs
 
 count-faces-requires : tie.Need-count-faces-requires
 count-faces-requires c κs =
-    let s = made c in
-    ((s .pre .0 .0, s .pre .0 .1), ((omega arith, omega arith), (same-all 0 0, same-all 0 0)))
+    let t = made c .pre .0 in
+    ((t .indices, t .twinned), ((omega arith, omega arith), (same-all 0 0, same-all 0 0)))
+
+-- ---- the weights
+module _ (c : tie.After-fill-weights-arg) where
+  abbrev counted : tie.After-count-faces
+  counted = let lent = c .before .before .before in lent .before .before
+
+  abbrev start : tie.Start
+  start = made (counted .before)
+
+  abbrev valences : List ℕ
+  valences = counted .count-faces .last .1 .1 .0
+
+  abbrev leaving : List ℕ
+  leaving = counted .count-faces .last .1 .1 .1 .0
 
 slice-aggregate-fill-weights : tie.Need-slice-aggregate-fill-weights
 slice-aggregate-fill-weights c = search needs
@@ -40,7 +47,15 @@ slice-aggregate-fill-weights-2 : tie.Need-slice-aggregate-fill-weights-2
 slice-aggregate-fill-weights-2 c = search needs
 
 fill-weights-requires : tie.Need-fill-weights-requires
-fill-weights-requires c κs = search needs
+fill-weights-requires c κs = ((start c .pre .0 .indices, counted c .count-faces .ensures), start c .pre .1 .weights-listed)
+
+-- ---- the rules
+module _ (c : tie.After-fill-rules-arg) where
+  abbrev weighed : tie.After-fill-weights
+  weighed = let lent = c .before .before in lent .before .before .before
+
+  abbrev weights : List ℕ
+  weights = weighed .fill-weights .last .1 .1 .1 .0
 
 slice-aggregate-fill-rules : tie.Need-slice-aggregate-fill-rules
 slice-aggregate-fill-rules c = search needs
@@ -51,27 +66,52 @@ slice-aggregate-fill-rules-2 c = search needs
 fill-rules-requires : tie.Need-fill-rules-requires
 fill-rules-requires c κs =
     let b = weighed c .before in
-    let s = start b in
+    let t = start b .pre .0 in
     let counts = counted b .count-faces .ensures in (
-      (omega (arith, s .pre .0 .2, counts .valences-listed), omega (arith, s .pre .0 .2, counts .leaving-listed), s .pre .1 .1 .0),
-      λ p h. rw (counts .valences-are p (lt-of-lt-of-le h (s .pre .0 .2))) (s .pre .1 .0 p h),
+      (omega (arith, t .few, counts .valences-listed), omega (arith, t .few, counts .leaving-listed), start b .pre .1 .rules-listed),
+      λ p h. rw (counts .valences-are p (lt-of-lt-of-le h (t .few))) (t .valences-few p h),
     )
 
+-- ---- the far ends of sharp edges
+module _ (c : tie.After-fill-ends-arg) where
+  abbrev ruled : tie.After-fill-rules
+  ruled = c .before .before .before
+
+  abbrev rules : List ℕ
+  rules = ruled .fill-rules .last .1 .1 .1 .0
+
+  abbrev begun : tie.After-fill-weights-arg
+  begun = weighed (ruled .before) .before
+
+fill-ends-requires : tie.Need-fill-ends-requires
+fill-ends-requires c κs =
+    let s = start (begun c) in
+    (indices-corners (s .pre .0 .indices), s .pre .0 .twinned .listed, s .pre .1 .ends-listed)
+
+-- ---- the end
 same-length : tie.Need-same-length
 same-length c = search needs
 
 same-length-2 : tie.Need-same-length-2
 same-length-2 c = search needs
 
+same-length-3 : tie.Need-same-length-3
+same-length-3 c = search needs
+
 returns : tie.Need-returns
 returns c =
-    let r = c .before .before in
+    let e : tie.After-fill-ends = c .before .before in
+    let r = ruled (e .before) in
     let w = weighed (r .before) in
-    let s = start (w .before) in
-    let counts = counted (w .before) .count-faces in
-    rendered-counts (s .args .tags .now) (s .args .faces .now) (counts .last .1 .1 .0) (counts .last .1 .1 .1 .0)
-    (r .fill-rules .last .1 .1 .1 .0) (w .fill-weights .last .1 .1 .1 .0) (s .args .rules .now) (s .args .weights .now)
-    (s .pre .0 .2) (counts .ensures) (r .fill-rules .ensures) (w .fill-weights .ensures)
+    let b = w .before in
+    let s = start b in
+    record {
+      rules-are =
+          rendered-rules (s .pre .0) (valences b) (leaving b) (s .args .rules .now) (rules (e .before))
+          (counted b .count-faces .ensures) (r .fill-rules .ensures);
+      weights-are = rendered-weights (s .pre .0) (s .args .weights .now) (weights (r .before)) (w .fill-weights .ensures);
+      ends-are = rendered-ends (s .pre .0) (s .args .ends .now) (e .fill-ends .last .1 .1 .0) (e .fill-ends .ensures);
+    }
 
 pub render-spec : {M : Type 1} → statement M
 render-spec =
@@ -86,6 +126,8 @@ render-spec =
     slice-aggregate-fill-rules
     slice-aggregate-fill-rules-2
     fill-rules-requires
+    fill-ends-requires
     same-length
     same-length-2
+    same-length-3
     returns)

@@ -1,14 +1,16 @@
 -- `fill_patches` meets its contract: the rules and weights of the mesh make its corner points, and all these tables its patches.
-use mathlib.Core.Path.{_≡_, refl, _∙_}
-use Prim.Native.Nat.{_≤_}
+use mathlib.Core.Path.{refl, _∙_}
+use mathlib.Core.List.{List}
+use Prim.Native.Nat.{ℕ, _*_, _≤_}
 use native.Mathlib.Nat.{lt-of-lt-of-le}
 use native.Mathlib.Omega.{arith}
 use lib.ListN.{length}
 use borrow.Author.Needs.{needs}
 use Rattle.finite.proofs.FilledLaws.{filled-ext}
+use Rattle.limits.specs.Limits.{maxVertices, maxFaces}
 use Rattle.mesh.specs.IndexedMesh.{IndexedMesh, indexed}
 use Rattle.mesh.specs.WellFormed.{WellFormed}
-use Rattle.patch.specs.PatchTables.{Rendered, Tables}
+use Rattle.patch.specs.PatchTables.{Roomy, Rendered, Tables}
 use Rattle.patch.specs.Patch.{shape}
 use Rattle.patch.proofs.TableLaws.{same-all, faces-seen, accepted-whole, accepted-indices, faces-range}
 use Rattle.patch.proofs.RuledLaws.{rendered-mesh, corner-source, ruled-tables}
@@ -21,22 +23,40 @@ abbrev mesh : tie.Start → IndexedMesh
 mesh s = indexed (s .args .v) (s .args .f) (s .args .positions .now) (s .args .tags .now) (s .args .faces .now)
 
 -- the function's entry, from the tables as they are made
-abbrev made : tie.After-weights → tie.Start
-made c = let k = c .before .before .before in k .before .before .before
+abbrev made : tie.After-ends → tie.Start
+made c = let k = c .before .before .before in k .before .before .before .before
 
--- before the corner points are written: the rules and the weights
+-- before the corner points are written: the rules, the weights and the far ends of sharp edges
 module _ (c : tie.After-marks) where
   abbrev read : tie.After-render
-  read = let k = c .before .before in k .before .before .before
+  read = let k = c .before .before .before .before in k .before .before .before
 
   abbrev start : tie.Start
   start = made (read .before)
 
+  abbrev rules : List ℕ
+  rules = read .render .last .1 .1 .1 .0
+
+  abbrev weights : List ℕ
+  weights = read .render .last .1 .1 .1 .1 .0
+
+  abbrev ends : List ℕ
+  ends = read .render .last .1 .1 .1 .1 .1 .0
+
   accepted : WellFormed (mesh start)
   accepted = start .pre .0 .0
 
-  rendered : Rendered (shape (mesh start)) (start .args .v) (read .render .last .1 .1 .1 .0) (read .render .last .1 .1 .1 .1 .0)
+  rendered : Rendered (shape (mesh start)) (start .args .v) rules weights ends
   rendered = rendered-mesh accepted (read .render .ensures)
+
+  room : Roomy (start .args .v) (4 * start .args .f) rules weights ends
+  room =
+      let size = accepted .sized in
+      record {
+        rules-listed = omega (arith, size .vertices-high, read .render .kept .1 .1 .1 .0);
+        weights-listed = omega (arith, size .faces-high, read .render .kept .1 .1 .1 .1 .0);
+        ends-listed = omega (arith, size .faces-high, read .render .kept .1 .1 .1 .1 .1 .0);
+      }
 
 -- before the patches are written: all tables
 module _ (c : tie.After-write-patches-arg2) where
@@ -46,14 +66,12 @@ module _ (c : tie.After-write-patches-arg2) where
   abbrev begun : tie.After-marks
   begun = cornered .before
 
-  tables : Tables (mesh (start begun)) (read begun .render .last .1 .1 .1 .1 .0)
+  tables : Tables (mesh (start begun)) (weights begun)
       (cornered .fill-corners .last .1 .1 .1 .1 .1 .0) (cornered .fill-corners .last .1 .1 .1 .1 .1 .1 .0)
-  tables = ruled-tables (accepted begun) (start begun .pre .1) (rendered begun) (cornered .fill-corners .ensures)
+  tables = ruled-tables (accepted begun) (rendered begun) (cornered .fill-corners .ensures)
 
-  weights-listed : length (start begun .args .faces .now) ≤ length (read begun .render .last .1 .1 .1 .1 .0)
-  weights-listed =
-      let size = accepted begun .sized in
-      omega (arith, size .indices-are, size .faces-high, read begun .render .kept .1 .1 .1 .1 .0)
+  weights-listed : length (start begun .args .faces .now) ≤ length (weights begun)
+  weights-listed = omega (arith, accepted begun .sized .indices-are, room begun .weights-listed)
 
 slice-aggregate-render : tie.Need-slice-aggregate-render
 slice-aggregate-render c = refl
@@ -61,32 +79,41 @@ slice-aggregate-render c = refl
 slice-aggregate-render-2 : tie.Need-slice-aggregate-render-2
 slice-aggregate-render-2 c = refl
 
+slice-aggregate-render-3 : tie.Need-slice-aggregate-render-3
+slice-aggregate-render-3 c = refl
+
 render-requires : tie.Need-render-requires
 render-requires c κs =
     let s = made c in
     let a = s .pre .0 .0 in
-    let few = a .sized .tags-are in (
-      (accepted-indices a, s .pre .1, omega (arith, few, a .sized .vertices-high)),
-      (
-        (λ p l. rw (faces-seen (mesh s) (accepted-whole a) p) (faces-range a p (rw few at l) .1)),
-        (omega (arith, few, a .sized .vertices-high), omega (arith, a .sized .indices-are, a .sized .faces-high)),
-      ),
+    let few = a .sized .tags-are in
+    let short : length (s .args .tags .now) ≤ maxVertices = omega (arith, few, a .sized .vertices-high) in
+    let low : length (s .args .faces .now) ≤ 4 * maxFaces = omega (arith, a .sized .indices-are, a .sized .faces-high) in (
+      record {
+        few = short;
+        indices = accepted-indices a;
+        twinned = s .pre .1;
+        valences-few = λ p l. rw (faces-seen (mesh s) (accepted-whole a) p) (faces-range a p (rw few at l) .1);
+      },
+      record { rules-listed = short; weights-listed = low; ends-listed = low },
     )
 
 slice-aggregate-fill-corners : tie.Need-slice-aggregate-fill-corners
 slice-aggregate-fill-corners c = search needs
 
 slice-aggregate-fill-corners-2 : tie.Need-slice-aggregate-fill-corners-2
-slice-aggregate-fill-corners-2 c = refl
+slice-aggregate-fill-corners-2 c = search needs
 
 slice-aggregate-fill-corners-3 : tie.Need-slice-aggregate-fill-corners-3
 slice-aggregate-fill-corners-3 c = refl
 
+slice-aggregate-fill-corners-4 : tie.Need-slice-aggregate-fill-corners-4
+slice-aggregate-fill-corners-4 c = refl
+
 fill-corners-requires : tie.Need-fill-corners-requires
 fill-corners-requires c κs =
-    let s = start c in
     let few = accepted c .sized .vertices-high in (
-      corner-source (accepted c) (s .pre .1) (rendered c) (omega (arith, few, read c .render .kept .1 .1 .1 .0)),
+      corner-source (accepted c) (rendered c) (room c),
       (omega (arith, few), few, λ p l. same-all 0 1 p (lt-of-lt-of-le l few)),
     )
 
@@ -138,10 +165,12 @@ fill-patches-spec =
     (tie.spec
     slice-aggregate-render
     slice-aggregate-render-2
+    slice-aggregate-render-3
     render-requires
     slice-aggregate-fill-corners
     slice-aggregate-fill-corners-2
     slice-aggregate-fill-corners-3
+    slice-aggregate-fill-corners-4
     fill-corners-requires
     slice-aggregate-write-patches
     slice-aggregate-write-patches-2

@@ -18,18 +18,18 @@ use Rattle.patch.specs.Lists.{seen, sharpSumBy}
 use Rattle.patch.specs.Values.{valueOf}
 use Rattle.patch.specs.PatchTables.{CornerSource, Coordinate, ruledPoint}
 use Rattle.patch.specs.declared.fraction.Value.{Value}
-use Rattle.patch.proofs.TableLaws.{same-all}
+use Rattle.patch.proofs.TableLaws.{blank}
 use Rattle.patch.proofs.CornerTableLaws.{ruled-entries, coordinate-none, coordinate-more}
 use Rattle.patch.proofs.tables.fill_coordinate.Statement.{statement}
 use Rattle.patch.proofs.tables.fill_coordinate.Tie as tie
 
 abbrev Inv-loop : tie.InvT-loop
-Inv-loop v positions faces twins rules k points₀ marks₀ ring sharp p₀ points marks p =
+Inv-loop v positions faces ends rules k points₀ marks₀ ring sharp p₀ points marks p =
     (p ≤ v) × (length points ≡ length points₀) × (length marks ≡ length marks₀)
-    × Coordinate (ruledPoint (seen positions faces k) twins rules) p k points₀ points marks₀ marks
+    × Coordinate (ruledPoint (seen positions faces k) ends rules) p k points₀ points marks₀ marks
 
 abbrev μ-loop : tie.MeasureT-loop
-μ-loop v positions faces twins rules k points₀ marks₀ ring sharp p₀ points marks p = v - p
+μ-loop v positions faces ends rules k points₀ marks₀ ring sharp p₀ points marks p = v - p
 
 -- the function's entry, from the first table of sums
 abbrev made : tie.After-ring Inv-loop μ-loop → tie.Start Inv-loop μ-loop
@@ -43,14 +43,14 @@ module _ (l : tie.At-loop Inv-loop μ-loop) where
   abbrev start : tie.Start Inv-loop μ-loop
   start = made (summed .before .before)
 
-  abbrev source : CornerSource (start .args .v) (start .args .positions .now) (start .args .faces .now) (start .args .twins .now) (start .args .rules .now)
+  abbrev source : CornerSource (start .args .v) (start .args .positions .now) (start .args .faces .now) (start .args .ends .now) (start .args .rules .now)
   source = start .pre .0 .0
 
   abbrev S : View
   S = seen (start .args .positions .now) (start .args .faces .now) (start .args .k)
 
   abbrev point : ℕ → Fraction
-  point = ruledPoint S (start .args .twins .now) (start .args .rules .now)
+  point = ruledPoint S (start .args .ends .now) (start .args .rules .now)
 
   abbrev p : ℕ
   p = l .loop .p
@@ -80,7 +80,7 @@ module _ (c : tie.After-corner-point-arg2 Inv-loop μ-loop) where
   ring-read : toZ w64 (ofZ w64 (getD (summed head .add-sums .last .1 .1 .1 .1 .0) (p head) (pos 0))) ≡ ringSum (S head) (p head)
   ring-read = read-back w64 (c .before .corner-point-arg .given) (summed head .add-sums .ensures .ring-are (p head) (few turn))
 
-  sharp-read : toZ w64 (ofZ w64 (getD (summed head .add-sums .last .1 .1 .1 .1 .1 .0) (p head) (pos 0))) ≡ sharpSumBy (S head) (start head .args .twins .now) (p head)
+  sharp-read : toZ w64 (ofZ w64 (getD (summed head .add-sums .last .1 .1 .1 .1 .1 .0) (p head) (pos 0))) ≡ sharpSumBy (S head) (start head .args .ends .now) (p head)
   sharp-read = read-back w64 (c .corner-point-arg2 .given) (summed head .add-sums .ensures .sharp-are (p head) (few turn))
 
 slice-aggregate-add-sums : tie.Need-slice-aggregate-add-sums Inv-loop μ-loop
@@ -93,8 +93,13 @@ add-sums-requires : tie.Need-add-sums-requires Inv-loop μ-loop
 add-sums-requires c κs =
     let s = made (c .before) in
     let t = s .pre .0 .0 in
-    let zeros = same-all (pos 0) (pos 0) in
-    ((t .indices, t .twins-listed, t .placed (s .args .k) (s .pre .0 .1)), ((omega arith, omega arith), (zeros, zeros)))
+    record {
+      indices = t .indices;
+      ends-listed = t .ends-listed;
+      placed = t .placed (s .args .k) (s .pre .0 .1);
+      ring-blank = blank (pos 0);
+      sharp-blank = blank (pos 0);
+    }
 
 loop-holds : tie.Need-loop-holds Inv-loop μ-loop
 loop-holds c = (omega arith, refl, refl, coordinate-none _ _ _ _)
@@ -143,7 +148,7 @@ module _ (c : tie.After-struct-told Inv-loop μ-loop) where
   value-is =
       c .before .in-units .ensures
       ∙ ap valueOf (c .before .before .corner-point .ensures .is
-      ∙ ruled-entries (S at) (start at .args .twins .now) (start at .args .rules .now) (p at) _ _ _ (value-read asked) (ring-read asked) (sharp-read asked))
+      ∙ ruled-entries (S at) (start at .args .ends .now) (start at .args .rules .now) (p at) _ _ _ (value-read asked) (ring-read asked) (sharp-read asked))
 
   written : toZ w32 (ofZ w32 (c .before .in-units .result .units)) ≡ units (point at (p at))
   written = read-back w32 (c .struct-told .given .0 .1) (ap (λ (v : Value). v .units) value-is)

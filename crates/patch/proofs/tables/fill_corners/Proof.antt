@@ -1,6 +1,6 @@
 -- `fill_corners` meets its contract: each pass writes one coordinate of the corner points, and takes marks away.
 use mathlib.Core.Path.{_≡_, refl, _∙_}
-use Prim.Native.Nat.{ℕ, _-_, _<_, _≤_}
+use Prim.Native.Nat.{_-_, _≤_}
 use native.Mathlib.Nat.{not-suc-le-zero, le-antisymm}
 use native.Mathlib.Numerals.{add-one-le, add-one-dec}
 use native.Mathlib.Omega.{arith}
@@ -13,12 +13,12 @@ use Rattle.patch.proofs.tables.fill_corners.Statement.{statement}
 use Rattle.patch.proofs.tables.fill_corners.Tie as tie
 
 abbrev Inv-loop : tie.InvT-loop
-Inv-loop v positions faces twins rules points₀ marks₀ k₀ points marks k =
+Inv-loop v positions faces ends rules points₀ marks₀ k₀ points marks k =
     (k ≤ 3) × (length points ≡ length points₀) × (length marks ≡ length marks₀)
-    × CornerPoints (λ j. ruledPoint (seen positions faces j) twins rules) v k points marks
+    × CornerPoints (λ j. ruledPoint (seen positions faces j) ends rules) v k points marks
 
 abbrev μ-loop : tie.MeasureT-loop
-μ-loop v positions faces twins rules points₀ marks₀ k₀ points marks k = 3 - k
+μ-loop v positions faces ends rules points₀ marks₀ k₀ points marks k = 3 - k
 
 -- the function's entry, from the loop's head
 abbrev start : tie.At-loop Inv-loop μ-loop → tie.Start Inv-loop μ-loop
@@ -59,7 +59,7 @@ loop-again c =
       add-one-le below,
       one .kept .1 .1 .1 .1 .1 .1 .0 ∙ l .loop .inv .1,
       one .kept .1 .1 .1 .1 .1 .1 .1 .0 ∙ l .loop .inv .2,
-      corners-more (λ j. ruledPoint (seen (s .args .positions .now) (s .args .faces .now) j) (s .args .twins .now) (s .args .rules .now)) (s .args .v) (l .loop .k)
+      corners-more (λ j. ruledPoint (seen (s .args .positions .now) (s .args .faces .now) j) (s .args .ends .now) (s .args .rules .now)) (s .args .v) (l .loop .k)
           below (l .loop .inv .3) (one .ensures),
     )
 

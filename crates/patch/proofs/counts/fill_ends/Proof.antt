@@ -1,0 +1,109 @@
+-- `fill_ends` meets its contract: each byte is made of what the twins tell of half-edge c and of the one before it.
+use mathlib.Core.Path.{_≡_, refl, ap, ap₂, _∙_}
+use Prim.Native.Nat.{_-_, _<_, _≤_}
+use native.Mathlib.Numerals.{add-one-le, add-one-dec}
+use native.Mathlib.Omega.{arith}
+use lib.ListN.{length, length-set}
+use Rattle.finite.specs.Filled.{filled}
+use Rattle.finite.proofs.FilledLaws.{filled-start, filled-more, filled-all}
+use Rattle.corner.specs.Corner.{prev}
+use Rattle.mesh.proofs.CornerLaws.{prev-below}
+use Rattle.patch.specs.Lists.{boundaryIn, endsByte, endsIn}
+use Rattle.patch.proofs.counts.fill_ends.Statement.{statement}
+use Rattle.patch.proofs.counts.fill_ends.Tie as tie
+
+abbrev Inv-loop : tie.InvT-loop
+Inv-loop twins n ends₀ c₀ ends c = (c ≤ n) × (length ends ≡ length ends₀) × (ends ≡ filled (endsIn twins) c ends₀)
+
+abbrev μ-loop : tie.MeasureT-loop
+μ-loop twins n ends₀ c₀ ends c = n - c
+
+-- ---- a turn: half-edge c and the one before it are listed
+module _ (c : tie.In-loop Inv-loop μ-loop) where
+  abbrev head : tie.At-loop Inv-loop μ-loop
+  head = c .before
+
+  abbrev start : tie.Start Inv-loop μ-loop
+  start = head .before .before .before
+
+  below : head .loop .c < start .args .n
+  below = c .loop-test .taken
+
+  before-below : prev (head .loop .c) < start .args .n
+  before-below = prev-below (start .pre .0) (head .loop .c) below
+
+loop-holds : tie.Need-loop-holds Inv-loop μ-loop
+loop-holds c = (omega arith, refl, filled-start _ _)
+
+is-sharp-requires : tie.Need-is-sharp-requires Inv-loop μ-loop
+is-sharp-requires c κs = omega (arith, below c, start c .pre .1)
+
+turned-requires : tie.Need-turned-requires Inv-loop μ-loop
+turned-requires c κs = omega arith
+
+is-boundary-requires : tie.Need-is-boundary-requires Inv-loop μ-loop
+is-boundary-requires c κs =
+    let t = c .before .before in
+    rw (c .turned .ensures) (omega (arith, before-below t, start t .pre .1))
+
+ends-byte-requires : tie.Need-ends-byte-requires Inv-loop μ-loop
+ends-byte-requires c κs = tt
+
+-- ---- the end of a turn: the byte
+module _ (c : tie.After-ends-byte Inv-loop μ-loop) where
+  abbrev turned : tie.After-turned Inv-loop μ-loop
+  turned = c .before .before
+
+  abbrev turn : tie.In-loop Inv-loop μ-loop
+  turn = turned .before .before
+
+  byte : c .ends-byte .result ≡ endsIn (start turn .args .twins .now) (head turn .loop .c)
+  byte =
+      c .ends-byte .ensures
+      ∙ ap₂ endsByte (turned .before .is-sharp .ensures)
+      (c .before .is-boundary .ensures ∙ ap (boundaryIn (start turn .args .twins .now)) (turned .turned .ensures))
+
+  room : head turn .loop .c < length (head turn .loop .ends)
+  room = omega (arith, below turn, start turn .pre .2, head turn .loop .inv .1)
+
+slice-write-ends : tie.Need-slice-write-ends Inv-loop μ-loop
+slice-write-ends c = room c
+
+add-c : tie.Need-add-c Inv-loop μ-loop
+add-c c = omega (arith, below (turn c), start (turn c) .fits .n)
+
+loop-less : tie.Need-loop-less Inv-loop μ-loop
+loop-less c = add-one-dec _ _ (below (turn c))
+
+loop-again : tie.Need-loop-again Inv-loop μ-loop
+loop-again c =
+    let l = head (turn c) .loop in
+    let s = start (turn c) in (
+      add-one-le (below (turn c)),
+      length-set (l .ends) (l .c) _ ∙ l .inv .1,
+      filled-more _ (l .c) _ (s .args .ends .now) (l .ends) (omega (arith, below (turn c), s .pre .2)) (l .inv .2) (byte c),
+    )
+
+same-length : tie.Need-same-length Inv-loop μ-loop
+same-length c = c .before .loop .inv .1
+
+returns : tie.Need-returns Inv-loop μ-loop
+returns c = let l = c .before .loop in filled-all _ _ _ _ (l .ends) (l .inv .0) (c .loop-test .left) (l .inv .2)
+
+pub fill-ends-spec : {M : Type 1} → statement M
+fill-ends-spec =
+    tie.close
+    (tie.spec
+    Inv-loop
+    μ-loop
+    loop-holds
+    is-sharp-requires
+    turned-requires
+    is-boundary-requires
+    ends-byte-requires
+    slice-write-ends
+    add-c
+    loop-less
+    loop-again
+    same-length
+    returns)
