@@ -26,7 +26,7 @@ use Rattle.patch.specs.Point.{View, weight, sharp, ringTerm, innerPoint,
 use Rattle.patch.specs.Patch.{owner, kind, units, exactly}
 use Rattle.patch.specs.Lists.{shapeOf, boundaryIn, sharpIn, Twins, innerBy, edgeBy}
 use Rattle.patch.specs.Values.{SeenFrom, Made, inUnits}
-use Rattle.patch.specs.Written.{Source, pointFrom, numberFrom}
+use Rattle.patch.specs.Written.{PatchLists, Source, pointFrom, numberFrom}
 use Rattle.patch.specs.declared.fraction.Value.{Value}
 use Rattle.patch.specs.declared.fraction.ControlPoint.{ControlPoint}
 use Rattle.patch.proofs.NeighbourLaws.{twin-below}
@@ -74,16 +74,13 @@ ring-term-seen S c a h = rw (h .next-is, h .prev-is, h .across-is)
 
 -- ---- the two tables of a patch
 -- the corner of a face that owns a point is one of its corners
-pub owner-listed : {positions points : List ℤ} {faces twins weights marks : List ℕ} → Source positions faces twins weights points marks
-    → (g m c : ℕ) → 4 * g + 4 ≤ length faces → c ≡ turn m (4 * g) → c < length faces
+pub owner-listed : {D : PatchLists} → Source D → (g m c : ℕ) → 4 * g + 4 ≤ length (D .faces) → c ≡ turn m (4 * g) → c < length (D .faces)
 owner-listed t g m c l e = rw e (turn-below (t .placed 0 (omega arith) .corners) m (4 * g) (omega arith))
 
 -- number 3m + k of a patch is coordinate k of its point m
-pub number-point : (positions : List ℤ) (faces twins weights : List ℕ) (points : List ℤ) (g m k : ℕ) → k < 3
-    → numberFrom positions faces twins weights points g (3 * m + k)
-    ≡ pointFrom positions faces twins weights points k (turn (owner m) (4 * g)) (kind m)
+pub number-point : (D : PatchLists) (g m k : ℕ) → k < 3 → numberFrom D g (3 * m + k) ≡ pointFrom D k (turn (owner m) (4 * g)) (kind m)
 unfolding numberFrom
-number-point positions faces twins weights points g m k l =
+number-point D g m k l =
     let axis : (3 * m + k) % 3 ≡ k = omega arith in
     let which : (3 * m + k) / 3 ≡ m = omega arith in
     rw (axis, which)

@@ -1,6 +1,6 @@
 -- The tables of an accepted mesh are all that its patches are written from, and what is written from them is the patch list and the marks.
 use mathlib.Core.Path.{_≡_, sym, ap, _∙_}
-use mathlib.Core.Bool.{true, false, _&&_}
+use mathlib.Core.Bool.{true, _&&_}
 use mathlib.Core.List.{List}
 use Prim.Native.Nat.{ℕ, _+_, _*_, _/_, _%_, _≤_, _<_}
 use native.Mathlib.Omega.{arith}
@@ -20,25 +20,23 @@ use Rattle.patch.specs.Point.{Kind, corner, along, before, inner, weight
 use Rattle.patch.specs.Patch.{owner, kind, patchPoint, view, units, exactly, patchNumber, pointExact, patchMark}
 use Rattle.patch.specs.Lists.{shapeOf, seen, Twins, innerBy, edgeBy, alongBy, beforeBy}
 use Rattle.patch.specs.PatchTables.{Weights, Tables}
-use Rattle.patch.specs.Written.{Source, pointFrom, exactFrom, numberFrom, markFrom, writtenNumber, writtenMark}
+use Rattle.patch.specs.Written.{PatchLists, patchLists, Source, pointFrom, exactFrom, numberFrom, markFrom, writtenNumber, writtenMark}
 use Rattle.patch.proofs.NeighbourLaws.{twin-below}
 use Rattle.patch.proofs.FacePointLaws.{sharp-in, twin-listed}
 use Rattle.patch.proofs.WrittenLaws.{indicator-one}
 use Rattle.patch.proofs.TableLaws.{weight-seen, accepted-whole, accepted-coordinates}
 
 -- number j and mark j of face g, at their places in the lists
-pub number-placed : (positions : List ℤ) (faces twins weights : List ℕ) (points : List ℤ) (g j : ℕ) → j < 48
-    → numberFrom positions faces twins weights points g j ≡ writtenNumber positions faces twins weights points (48 * g + j)
+pub number-placed : (D : PatchLists) (g j : ℕ) → j < 48 → numberFrom D g j ≡ writtenNumber D (48 * g + j)
 unfolding writtenNumber
-number-placed positions faces twins weights points g j l =
+number-placed D g j l =
     let face : (48 * g + j) / 48 ≡ g = omega arith in
     let which : (48 * g + j) % 48 ≡ j = omega arith in
     rw (face, which)
 
-pub mark-placed : (positions : List ℤ) (faces twins weights marks : List ℕ) (g j : ℕ) → j < 16
-    → markFrom positions faces twins weights marks g j ≡ writtenMark positions faces twins weights marks (16 * g + j)
+pub mark-placed : (D : PatchLists) (g j : ℕ) → j < 16 → markFrom D g j ≡ writtenMark D (16 * g + j)
 unfolding writtenMark
-mark-placed positions faces twins weights marks g j l =
+mark-placed D g j l =
     let face : (16 * g + j) / 16 ≡ g = omega arith in
     let which : (16 * g + j) % 16 ≡ j = omega arith in
     rw (face, which)
@@ -70,7 +68,10 @@ module _ {M : IndexedMesh} (a : WellFormed M) {twins weights marks : List ℕ} {
   weighed : Weights (M .indices) weights
   weighed = record { listed = listed; are = λ c l. t .weights-are c (rw whole at l) ∙ sym (weight-seen M whole c) }
 
-  pub source : 3 * M .vertices ≤ length points → M .vertices ≤ length marks → Source (M .positions) (M .indices) twins weights points marks
+  abbrev drawn : PatchLists
+  drawn = patchLists (M .positions) (M .indices) twins weights points marks
+
+  pub source : 3 * M .vertices ≤ length points → M .vertices ≤ length marks → Source drawn
   source pointed marked = record {
     placed = accepted-coordinates a;
     weighed = listed;
@@ -95,15 +96,14 @@ module _ {M : IndexedMesh} (a : WellFormed M) {twins weights marks : List ℕ} {
   unfolding innerPoint weight
   inner-from k c l = inner-by (M .positions) twinned weighed k c (rw whole l) ∙ rw whole
 
-  point-from : (k c : ℕ) (q : Kind) → k < 3 → c < corners M
-      → pointFrom (M .positions) (M .indices) twins weights points k c q ≡ units (point (view M k) c q)
+  point-from : (k c : ℕ) (q : Kind) → k < 3 → c < corners M → pointFrom drawn k c q ≡ units (point (view M k) c q)
   unfolding pointFrom point
   point-from k c corner h l = t .corners-are .points-are k (at M c) h (a .named c l)
   point-from k c along h l = ap units (along-from k c l)
   point-from k c before h l = ap units (before-from k c l)
   point-from k c inner h l = ap units (inner-from k c l)
 
-  pub number-written : (i : ℕ) → i < 48 * M .faces → writtenNumber (M .positions) (M .indices) twins weights points i ≡ patchNumber M i
+  pub number-written : (i : ℕ) → i < 48 * M .faces → writtenNumber drawn i ≡ patchNumber M i
   unfolding writtenNumber numberFrom patchNumber patchPoint
   number-written i l =
       let axis : i % 48 % 3 ≡ i % 3 = omega arith in
@@ -112,15 +112,14 @@ module _ {M : IndexedMesh} (a : WellFormed M) {twins weights marks : List ℕ} {
       (turn-below (accepted-corners a) (owner (i % 48 / 3)) (4 * (i / 48)) (omega arith)))
 
   -- a mark from the tables is the mark of the mesh
-  exact-from : (c : ℕ) (q : Kind) → c < corners M
-      → exactFrom (M .positions) (M .indices) twins weights marks c q ≡ allBelow (λ k. exactly (point (view M k) c q)) 3
+  exact-from : (c : ℕ) (q : Kind) → c < corners M → exactFrom drawn c q ≡ allBelow (λ k. exactly (point (view M k) c q)) 3
   unfolding exactFrom point
   exact-from c corner l = ap (λ (m : ℕ). eqb m 1) (t .corners-are .marks-are (at M c) (a .named c l)) ∙ indicator-one _
   exact-from c along l = fold-ext true _&&_ 3 (λ k _. ap exactly (along-from k c l))
   exact-from c before l = fold-ext true _&&_ 3 (λ k _. ap exactly (before-from k c l))
   exact-from c inner l = fold-ext true _&&_ 3 (λ k _. ap exactly (inner-from k c l))
 
-  pub mark-written : (i : ℕ) → i < 16 * M .faces → writtenMark (M .positions) (M .indices) twins weights marks i ≡ patchMark M i
+  pub mark-written : (i : ℕ) → i < 16 * M .faces → writtenMark drawn i ≡ patchMark M i
   unfolding writtenMark markFrom patchMark pointExact patchPoint
   mark-written i l =
       ap indicator

@@ -15,10 +15,13 @@
 --                      takes is small enough, and both fit 32 bits
 --   ruledPoint S ends rules p   the corner point of vertex p by its rule
 --   CornerSource v positions faces ends rules   all that the corner points of v vertices are made from
+--   ForCorners v positions faces ends rules points marks   what is asked to write the corner points over marks of 1: they can be made, and there is room
+--   ForCoordinate v positions faces ends rules k points marks   the same for coordinate k, over any marks
 --   Coordinate q v k ..   coordinate k of the corner points q below v is written: each in units at place 3p + k, with the other places of `points` as they
 --                      were; their marks are kept where nothing is left, and become 0 elsewhere, with the marks from v on as they were
 --   CornerPoints q v n points marks   of v vertices, the coordinates below n of the corner points, and whether nothing is left in any of these
 --   Weights faces weights   the weights of all the corners are listed
+--   Ready M d          an accepted mesh with its twins, and room in the lists d for its patches and their marks
 --   Tables M weights points marks   the weight of each corner of the mesh M, the corner point of each vertex, and its mark
 use mathlib.Core.Path.{_≡_}
 use mathlib.Core.Bool.{cond}
@@ -34,9 +37,11 @@ use Rattle.mesh.specs.HalfEdge.{boundary}
 use Rattle.mesh.specs.Fan.{valence}
 use Rattle.mesh.specs.IndexedMesh.{IndexedMesh, corners}
 use Rattle.mesh.specs.Tables.{Holds, Indices, vertexOf}
+use Rattle.mesh.specs.WellFormed.{WellFormed}
 use Rattle.mask.specs.Mask.{Fraction, maxSharpness, cornerRule, cornerMask}
 use Rattle.patch.specs.Point.{Shape, View, faces, inside, weight, sharp, ringSum, cornerPoint}
 use Rattle.patch.specs.Patch.{shape, view, units, exactly}
+use Rattle.patch.specs.Answer.{Lent}
 use Rattle.patch.specs.Lists.{shapeOf, seen, Coordinates, Twins, endsByte, sharpSumBy}
 
 unfoldable pub rule : Shape → ℕ → ℕ
@@ -110,6 +115,18 @@ pub record CornerSource (v : ℕ) (positions : List ℤ) (faces ends rules : Lis
   pub allowed : (k p : ℕ) → k < 3 → p < v
       → Allowed (getD rules p 0) (seen positions faces k .value p) (ringSum (seen positions faces k) p) (sharpSumBy (seen positions faces k) ends p)
 
+pub record ForCoordinate (v : ℕ) (positions : List ℤ) (faces ends rules : List ℕ) (k : ℕ) (points : List ℤ) (marks : List ℕ) : Type 0 where
+  pub source : CornerSource v positions faces ends rules
+  pub axis : k < 3
+  pub points-room : 3 * v ≤ length points
+  pub marks-room : v ≤ length marks
+
+pub record ForCorners (v : ℕ) (positions : List ℤ) (faces ends rules : List ℕ) (points : List ℤ) (marks : List ℕ) : Type 0 where
+  pub source : CornerSource v positions faces ends rules
+  pub points-room : 3 * v ≤ length points
+  pub marks-room : v ≤ length marks
+  pub marked : Holds 0 marks v (λ p. 1)
+
 pub record Coordinate (q : ℕ → Fraction) (v k : ℕ) (points points' : List ℤ) (marks marks' : List ℕ) : Type 0 where
   pub written : (p : ℕ) → p < v → getD points' (3 * p + k) (pos 0) ≡ units (q p)
   pub others : (p j : ℕ) → j < 3 → (j ≡ k → ⊥) → getD points' (3 * p + j) (pos 0) ≡ getD points (3 * p + j) (pos 0)
@@ -123,6 +140,12 @@ pub record CornerPoints (q : ℕ → ℕ → Fraction) (v n : ℕ) (points : Lis
 pub record Weights (faces weights : List ℕ) : Type 0 where
   pub listed : length faces ≤ length weights
   pub are : Holds 0 weights (length faces) (weight (shapeOf faces))
+
+pub record Ready (M : IndexedMesh) (d : Lent) : Type 0 where
+  pub accepted : WellFormed M
+  pub twinned : Twins (M .indices) (d .twins)
+  pub patches-room : 48 * M .faces ≤ length (d .patches)
+  pub exact-room : 16 * M .faces ≤ length (d .marks)
 
 pub record Tables (M : IndexedMesh) (weights : List ℕ) (points : List ℤ) (marks : List ℕ) : Type 0 where
   pub weights-are : Holds 0 weights (corners M) (weight (shape M))

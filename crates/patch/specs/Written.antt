@@ -1,12 +1,19 @@
 -- What the writer of the patches reads, and the numbers and marks that it writes.
 --
---   Source ..          all that a patch is written from: the lists of the mesh, its twins, and the tables of weights, corner points and their marks
+--   PatchLists         the lists that a patch is written from: those of the mesh, its twins, and the tables of weights, corner points and their marks
+--   Source D           these lists serve every corner
+--   ForPoint D c point, ForNumbered D g m point, ForPatch D g patch exact, ForPatches D f patches exact   what is asked to write a point of corner c,
+--                      point m of face g, the patch of face g, those of f faces: the lists serve, and there is room
 --   kindOf q           the kind of point, for each case of the code's enum `Kind`
---   pointFrom .. k c q   coordinate k of the point of kind q at corner c, in units: a corner point is looked up in the table `points`
---   exactFrom .. c q   whether nothing is left in any coordinate of that point: for a corner point, whether the table `marks` has a 1
---   numberFrom .. g i  number i of the 48 of face g, likewise
---   markFrom .. g m    mark m of the 16 of face g, likewise
---   writtenNumber .. i, writtenMark .. i   what is written at place i of the patch list, and of the list of marks
+--   pointFrom D k c q  coordinate k of the point of kind q at corner c, in units: a corner point is looked up in the table of these
+--   exactFrom D c q    whether nothing is left in any coordinate of that point: for a corner point, whether its mark is 1
+--   pointAt D c q      that point with its mark
+--   numberFrom D g i   number i of the 48 of face g, likewise
+--   markFrom D g m     mark m of the 16 of face g, likewise
+--   writtenNumber D i, writtenMark D i   what is written at place i of the patch list, and of the list of marks
+--   PointWritten .., NumberedWritten .., PatchWritten .., PatchesWritten ..   a point of corner c, point m of face g, the patch of face g, those of f faces:
+--                      the numbers are over the first places of the list, and the mark is handed back, or the marks are over the first of theirs
+use mathlib.Core.Path.{_≡_}
 use mathlib.Core.Bool.{Bool}
 use mathlib.Core.List.{List}
 use Prim.Native.Nat.{ℕ, _+_, _*_, _/_, _%_, _≤_, _<_}
@@ -14,20 +21,58 @@ use lib.Dec.{eqb}
 use lib.IntN.{ℤ, pos}
 use lib.ListN.{length, getD}
 use Rattle.finite.specs.Fold.{allBelow, indicator}
+use Rattle.finite.specs.Filled.{filled}
 use Rattle.corner.specs.Corner.{turn}
 use Rattle.mesh.specs.Tables.{vertexOf}
 use Rattle.patch.specs.Point.{Kind, corner, along, before, inner}
 use Rattle.patch.specs.Patch.{owner, kind, units, exactly}
 use Rattle.patch.specs.Lists.{seen, Coordinates, Linked, innerBy, alongBy, beforeBy}
+use Rattle.patch.specs.Values.{pointOf}
+use Rattle.patch.specs.declared.fraction.ControlPoint.{ControlPoint}
 use Rattle.patch.specs.declared.writer.Kind as enum
 use Rattle.patch.specs.declared.writer.Kind.the-variants.{Corner, Along, Before, Inner}
 
-pub record Source (positions : List ℤ) (faces twins weights : List ℕ) (points : List ℤ) (marks : List ℕ) : Type 0 where
-  pub placed : (k : ℕ) → k < 3 → Coordinates positions faces k
-  pub weighed : length faces ≤ length weights
-  pub linked : Linked faces twins
-  pub pointed : (c k : ℕ) → c < length faces → k < 3 → 3 * vertexOf faces c + k < length points
-  pub marked : (c : ℕ) → c < length faces → vertexOf faces c < length marks
+pub record PatchLists : Type 0 where
+  pub positions : List ℤ
+  pub faces : List ℕ
+  pub twins : List ℕ
+  pub weights : List ℕ
+  pub points : List ℤ
+  pub marks : List ℕ
+
+abbrev pub patchLists : List ℤ → List ℕ → List ℕ → List ℕ → List ℤ → List ℕ → PatchLists
+patchLists positions faces twins weights points marks =
+    record { positions = positions; faces = faces; twins = twins; weights = weights; points = points; marks = marks }
+
+pub record Source (D : PatchLists) : Type 0 where
+  pub placed : (k : ℕ) → k < 3 → Coordinates (D .positions) (D .faces) k
+  pub weighed : length (D .faces) ≤ length (D .weights)
+  pub linked : Linked (D .faces) (D .twins)
+  pub pointed : (c k : ℕ) → c < length (D .faces) → k < 3 → 3 * vertexOf (D .faces) c + k < length (D .points)
+  pub marked : (c : ℕ) → c < length (D .faces) → vertexOf (D .faces) c < length (D .marks)
+
+pub record ForPoint (D : PatchLists) (c : ℕ) (point : List ℤ) : Type 0 where
+  pub source : Source D
+  pub corner : c < length (D .faces)
+  pub room : 3 ≤ length point
+
+pub record ForNumbered (D : PatchLists) (g m : ℕ) (point : List ℤ) : Type 0 where
+  pub source : Source D
+  pub face : 4 * g + 4 ≤ length (D .faces)
+  pub sixteen : m < 16
+  pub room : 3 ≤ length point
+
+pub record ForPatch (D : PatchLists) (g : ℕ) (patch : List ℤ) (exact : List ℕ) : Type 0 where
+  pub source : Source D
+  pub face : 4 * g + 4 ≤ length (D .faces)
+  pub patch-room : 48 ≤ length patch
+  pub exact-room : 16 ≤ length exact
+
+pub record ForPatches (D : PatchLists) (f : ℕ) (patches : List ℤ) (exact : List ℕ) : Type 0 where
+  pub source : Source D
+  pub listed : 4 * f ≤ length (D .faces)
+  pub patches-room : 48 * f ≤ length patches
+  pub exact-room : 16 * f ≤ length exact
 
 abbrev pub kindOf : enum.Kind → Kind
 kindOf Corner = corner
@@ -35,26 +80,45 @@ kindOf Along = along
 kindOf Before = before
 kindOf Inner = inner
 
-unfoldable pub pointFrom : List ℤ → List ℕ → List ℕ → List ℕ → List ℤ → ℕ → ℕ → Kind → ℤ
-pointFrom positions faces twins weights points k c corner = getD points (3 * vertexOf faces c + k) (pos 0)
-pointFrom positions faces twins weights points k c along = units (alongBy (seen positions faces k) twins weights c)
-pointFrom positions faces twins weights points k c before = units (beforeBy (seen positions faces k) twins weights c)
-pointFrom positions faces twins weights points k c inner = units (innerBy (seen positions faces k) weights c)
+unfoldable pub pointFrom : PatchLists → ℕ → ℕ → Kind → ℤ
+pointFrom D k c corner = getD (D .points) (3 * vertexOf (D .faces) c + k) (pos 0)
+pointFrom D k c along = units (alongBy (seen (D .positions) (D .faces) k) (D .twins) (D .weights) c)
+pointFrom D k c before = units (beforeBy (seen (D .positions) (D .faces) k) (D .twins) (D .weights) c)
+pointFrom D k c inner = units (innerBy (seen (D .positions) (D .faces) k) (D .weights) c)
 
-unfoldable pub exactFrom : List ℤ → List ℕ → List ℕ → List ℕ → List ℕ → ℕ → Kind → Bool
-exactFrom positions faces twins weights marks c corner = eqb (getD marks (vertexOf faces c) 0) 1
-exactFrom positions faces twins weights marks c along = allBelow (λ k. exactly (alongBy (seen positions faces k) twins weights c)) 3
-exactFrom positions faces twins weights marks c before = allBelow (λ k. exactly (beforeBy (seen positions faces k) twins weights c)) 3
-exactFrom positions faces twins weights marks c inner = allBelow (λ k. exactly (innerBy (seen positions faces k) weights c)) 3
+unfoldable pub exactFrom : PatchLists → ℕ → Kind → Bool
+exactFrom D c corner = eqb (getD (D .marks) (vertexOf (D .faces) c) 0) 1
+exactFrom D c along = allBelow (λ k. exactly (alongBy (seen (D .positions) (D .faces) k) (D .twins) (D .weights) c)) 3
+exactFrom D c before = allBelow (λ k. exactly (beforeBy (seen (D .positions) (D .faces) k) (D .twins) (D .weights) c)) 3
+exactFrom D c inner = allBelow (λ k. exactly (innerBy (seen (D .positions) (D .faces) k) (D .weights) c)) 3
 
-unfoldable pub numberFrom : List ℤ → List ℕ → List ℕ → List ℕ → List ℤ → ℕ → ℕ → ℤ
-numberFrom positions faces twins weights points g i = pointFrom positions faces twins weights points (i % 3) (turn (owner (i / 3)) (4 * g)) (kind (i / 3))
+abbrev pub pointAt : PatchLists → ℕ → Kind → ControlPoint
+pointAt D c q = pointOf (λ k. pointFrom D k c q) (exactFrom D c q)
 
-unfoldable pub markFrom : List ℤ → List ℕ → List ℕ → List ℕ → List ℕ → ℕ → ℕ → ℕ
-markFrom positions faces twins weights marks g m = indicator (exactFrom positions faces twins weights marks (turn (owner m) (4 * g)) (kind m))
+unfoldable pub numberFrom : PatchLists → ℕ → ℕ → ℤ
+numberFrom D g i = pointFrom D (i % 3) (turn (owner (i / 3)) (4 * g)) (kind (i / 3))
 
-unfoldable pub writtenNumber : List ℤ → List ℕ → List ℕ → List ℕ → List ℤ → ℕ → ℤ
-writtenNumber positions faces twins weights points i = numberFrom positions faces twins weights points (i / 48) (i % 48)
+unfoldable pub markFrom : PatchLists → ℕ → ℕ → ℕ
+markFrom D g m = indicator (exactFrom D (turn (owner m) (4 * g)) (kind m))
 
-unfoldable pub writtenMark : List ℤ → List ℕ → List ℕ → List ℕ → List ℕ → ℕ → ℕ
-writtenMark positions faces twins weights marks i = markFrom positions faces twins weights marks (i / 16) (i % 16)
+unfoldable pub writtenNumber : PatchLists → ℕ → ℤ
+writtenNumber D i = numberFrom D (i / 48) (i % 48)
+
+unfoldable pub writtenMark : PatchLists → ℕ → ℕ
+writtenMark D i = markFrom D (i / 16) (i % 16)
+
+pub record PointWritten (D : PatchLists) (c : ℕ) (q : Kind) (point : List ℤ) (mark : ℕ) (point' : List ℤ) : Type 0 where
+  pub numbers-are : point' ≡ filled (λ k. pointFrom D k c q) 3 point
+  pub mark-is : mark ≡ indicator (exactFrom D c q)
+
+pub record NumberedWritten (D : PatchLists) (g m : ℕ) (point : List ℤ) (mark : ℕ) (point' : List ℤ) : Type 0 where
+  pub numbers-are : point' ≡ filled (λ k. numberFrom D g (3 * m + k)) 3 point
+  pub mark-is : mark ≡ markFrom D g m
+
+pub record PatchWritten (D : PatchLists) (g : ℕ) (patch : List ℤ) (exact : List ℕ) (patch' : List ℤ) (exact' : List ℕ) : Type 0 where
+  pub numbers-are : patch' ≡ filled (numberFrom D g) 48 patch
+  pub marks-are : exact' ≡ filled (markFrom D g) 16 exact
+
+pub record PatchesWritten (D : PatchLists) (f : ℕ) (patches : List ℤ) (exact : List ℕ) (patches' : List ℤ) (exact' : List ℕ) : Type 0 where
+  pub numbers-are : patches' ≡ filled (writtenNumber D) (48 * f) patches
+  pub marks-are : exact' ≡ filled (writtenMark D) (16 * f) exact

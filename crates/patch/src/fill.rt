@@ -4,14 +4,11 @@ use crate::tables::fill_corners;
 use crate::writer::write_patch;
 use limits::model::Mesh;
 ghost use mathlib.Core.Path.{_≡_};
-ghost use Prim.Native.Nat.{_*_, _≤_};
-ghost use lib.ListN.{length};
-ghost use Rattle.finite.specs.Filled.{filled};
 ghost use Rattle.mesh.specs.IndexedMesh.{indexed};
-ghost use Rattle.mesh.specs.WellFormed.{WellFormed};
 ghost use Rattle.patch.specs.Patch.{patchesAfter, exactAfter};
-ghost use Rattle.patch.specs.Lists.{Twins};
-ghost use Rattle.patch.specs.Written.{Source, writtenNumber, writtenMark};
+ghost use Rattle.patch.specs.Answer.{lent};
+ghost use Rattle.patch.specs.PatchTables.{Ready};
+ghost use Rattle.patch.specs.Written.{patchLists, ForPatches, PatchesWritten};
 
 // Writes the patches of f faces, and their marks.
 fn write_patches(
@@ -25,12 +22,10 @@ fn write_patches(
     patches: &mut [i32],
     exact: &mut [u8],
 )
-    requires { ⌜ Source (now positions) (now faces) (now twins) (now weights) (now points) (now marks) × (4 * f ≤ length (now faces)) ⌝ }
-    requires { ⌜ (48 * f ≤ length (now patches)) × (16 * f ≤ length (now exact)) ⌝ }
-    ensures { λ _. ⌜ now (patches .exit)
-        ≡ filled (writtenNumber (now (positions .entry)) (now (faces .entry)) (now (twins .entry)) (now (weights .entry)) (now (points .entry))) (48 * f) (now (patches .entry)) ⌝ }
-    ensures { λ _. ⌜ now (exact .exit)
-        ≡ filled (writtenMark (now (positions .entry)) (now (faces .entry)) (now (twins .entry)) (now (weights .entry)) (now (marks .entry))) (16 * f) (now (exact .entry)) ⌝ }
+    requires { ⌜ ForPatches (patchLists (now positions) (now faces) (now twins) (now weights) (now points) (now marks)) f (now patches) (now exact) ⌝ }
+    ensures { λ _. ⌜ PatchesWritten
+        (patchLists (now (positions .entry)) (now (faces .entry)) (now (twins .entry)) (now (weights .entry)) (now (points .entry)) (now (marks .entry)))
+        f (now (patches .entry)) (now (exact .entry)) (now (patches .exit)) (now (exact .exit)) ⌝ }
 {
     for g in 0..f {
         let at = 48 * g;
@@ -60,8 +55,7 @@ pub(crate) fn fill_patches(
     patches: &mut [i32],
     exact: &mut [u8],
 )
-    requires { ⌜ WellFormed (indexed v f (now positions) (now tags) (now faces)) × (48 * f ≤ length (now patches)) × (16 * f ≤ length (now exact)) ⌝ }
-    requires { ⌜ Twins (now faces) (now twins) ⌝ }
+    requires { ⌜ Ready (indexed v f (now positions) (now tags) (now faces)) (lent (now twins) (now patches) (now exact)) ⌝ }
     ensures { λ _. ⌜ now (patches .exit)
         ≡ patchesAfter (indexed v f (now (positions .entry)) (now (tags .entry)) (now (faces .entry))) (now (patches .entry)) ⌝ }
     ensures { λ _. ⌜ now (exact .exit)

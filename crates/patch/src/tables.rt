@@ -1,16 +1,12 @@
 // The corner point of each vertex with its mark, by the table of rules.
 use crate::corner_point::corner_point;
-use crate::fraction::in_units;
 use crate::sums::add_sums;
 use crate::values::coordinate;
 use limits::model::Mesh;
 ghost use mathlib.Core.Path.{_≡_};
 ghost use mathlib.Core.Bool.{cond};
-ghost use Prim.Native.Nat.{_*_, _≤_, _<_};
-ghost use lib.ListN.{length};
-ghost use Rattle.mesh.specs.Tables.{Holds};
 ghost use Rattle.patch.specs.Lists.{seen};
-ghost use Rattle.patch.specs.PatchTables.{CornerSource, Coordinate, CornerPoints, ruledPoint};
+ghost use Rattle.patch.specs.PatchTables.{ForCoordinate, ForCorners, Coordinate, CornerPoints, ruledPoint};
 
 // The mark of a point after one more coordinate: as it was where nothing is left in it, else 0.
 fn kept(exact: bool, mark: u8) -> u8
@@ -33,8 +29,7 @@ fn fill_coordinate(
     points: &mut [i32],
     marks: &mut [u8],
 )
-    requires { ⌜ CornerSource v (now positions) (now faces) (now ends) (now rules) × (k < 3) ⌝ }
-    requires { ⌜ (3 * v ≤ length (now points)) × (v ≤ length (now marks)) ⌝ }
+    requires { ⌜ ForCoordinate v (now positions) (now faces) (now ends) (now rules) k (now points) (now marks) ⌝ }
     ensures { λ _. ⌜ Coordinate (ruledPoint (seen (now (positions .entry)) (now (faces .entry)) k) (now (ends .entry)) (now (rules .entry))) v k
         (now (points .entry)) (now (points .exit)) (now (marks .entry)) (now (marks .exit)) ⌝ }
 {
@@ -44,7 +39,7 @@ fn fill_coordinate(
     for p in 0..v {
         let i = 3 * p + k;
         let x = coordinate(positions, i);
-        let value = in_units(corner_point(rules[p], x, ring[p], sharp[p]));
+        let value = corner_point(rules[p], x, ring[p], sharp[p]);
         let units = value.units;
         points[i] = units;
         marks[p] = kept(value.exact, marks[p]);
@@ -61,8 +56,7 @@ pub(crate) fn fill_corners(
     points: &mut [i32],
     marks: &mut [u8],
 )
-    requires { ⌜ CornerSource v (now positions) (now faces) (now ends) (now rules) ⌝ }
-    requires { ⌜ (3 * v ≤ length (now points)) × (v ≤ length (now marks)) × Holds 0 (now marks) v (λ p. 1) ⌝ }
+    requires { ⌜ ForCorners v (now positions) (now faces) (now ends) (now rules) (now points) (now marks) ⌝ }
     ensures { λ _. ⌜ CornerPoints (λ k. ruledPoint (seen (now (positions .entry)) (now (faces .entry)) k) (now (ends .entry)) (now (rules .entry))) v 3
         (now (points .exit)) (now (marks .exit)) ⌝ }
 {

@@ -7,14 +7,13 @@ use crate::fraction::ControlPoint;
 use crate::values::turned;
 use corner::wide;
 ghost use mathlib.Core.Path.{_≡_};
-ghost use Prim.Native.Nat.{ℕ, _+_, _*_, _≤_, _<_};
+ghost use Prim.Native.Nat.{ℕ, _+_, _*_, _<_};
 ghost use lib.Dec.{eqb};
 ghost use lib.IntN.{pos};
 ghost use lib.ListN.{length, getD};
 ghost use Rattle.finite.specs.Fold.{indicator};
-ghost use Rattle.finite.specs.Filled.{filled};
 ghost use Rattle.patch.specs.Values.{pointOf};
-ghost use Rattle.patch.specs.Written.{Source, kindOf, pointFrom, exactFrom, numberFrom, markFrom};
+ghost use Rattle.patch.specs.Written.{patchLists, Source, ForPoint, ForNumbered, ForPatch, kindOf, pointAt, PointWritten, NumberedWritten, PatchWritten};
 ghost use Rattle.mesh.specs.Tables.{vertexOf};
 
 // The four points of its face that each corner owns.
@@ -81,9 +80,10 @@ fn point_values(
     c: usize,
     kind: Kind,
 ) -> ControlPoint
-    requires { ⌜ Source (now positions) (now faces) (now twins) (now weights) (now points) (now marks) × (c < length (now faces)) ⌝ }
-    ensures { λ r. ⌜ r ≡ pointOf (λ k. pointFrom (now (positions .entry)) (now (faces .entry)) (now (twins .entry)) (now (weights .entry)) (now (points .entry)) k c (kindOf kind))
-        (exactFrom (now (positions .entry)) (now (faces .entry)) (now (twins .entry)) (now (weights .entry)) (now (marks .entry)) c (kindOf kind)) ⌝ }
+    requires { ⌜ Source (patchLists (now positions) (now faces) (now twins) (now weights) (now points) (now marks)) × (c < length (now faces)) ⌝ }
+    ensures { λ r. ⌜ r ≡ pointAt
+        (patchLists (now (positions .entry)) (now (faces .entry)) (now (twins .entry)) (now (weights .entry)) (now (points .entry)) (now (marks .entry)))
+        c (kindOf kind) ⌝ }
 {
     match kind {
         Kind::Corner => vertex_points(faces, points, marks, c),
@@ -115,11 +115,10 @@ fn write_point(
     kind: Kind,
     point: &mut [i32],
 ) -> u8
-    requires { ⌜ Source (now positions) (now faces) (now twins) (now weights) (now points) (now marks)
-        × (c < length (now faces)) × (3 ≤ length (now point)) ⌝ }
-    ensures { λ _. ⌜ now (point .exit)
-        ≡ filled (λ k. pointFrom (now (positions .entry)) (now (faces .entry)) (now (twins .entry)) (now (weights .entry)) (now (points .entry)) k c (kindOf kind)) 3 (now (point .entry)) ⌝ }
-    ensures { λ r. ⌜ r ≡ indicator (exactFrom (now (positions .entry)) (now (faces .entry)) (now (twins .entry)) (now (weights .entry)) (now (marks .entry)) c (kindOf kind)) ⌝ }
+    requires { ⌜ ForPoint (patchLists (now positions) (now faces) (now twins) (now weights) (now points) (now marks)) c (now point) ⌝ }
+    ensures { λ r. ⌜ PointWritten
+        (patchLists (now (positions .entry)) (now (faces .entry)) (now (twins .entry)) (now (weights .entry)) (now (points .entry)) (now (marks .entry)))
+        c (kindOf kind) (now (point .entry)) r (now (point .exit)) ⌝ }
 {
     let p = point_values(positions, faces, twins, weights, points, marks, c, kind);
     let x = p.x;
@@ -143,11 +142,10 @@ fn write_numbered(
     m: usize,
     point: &mut [i32],
 ) -> u8
-    requires { ⌜ Source (now positions) (now faces) (now twins) (now weights) (now points) (now marks)
-        × (4 * g + 4 ≤ length (now faces)) × (m < 16) × (3 ≤ length (now point)) ⌝ }
-    ensures { λ _. ⌜ now (point .exit)
-        ≡ filled (λ k. numberFrom (now (positions .entry)) (now (faces .entry)) (now (twins .entry)) (now (weights .entry)) (now (points .entry)) g (3 * m + k)) 3 (now (point .entry)) ⌝ }
-    ensures { λ r. ⌜ r ≡ markFrom (now (positions .entry)) (now (faces .entry)) (now (twins .entry)) (now (weights .entry)) (now (marks .entry)) g m ⌝ }
+    requires { ⌜ ForNumbered (patchLists (now positions) (now faces) (now twins) (now weights) (now points) (now marks)) g m (now point) ⌝ }
+    ensures { λ r. ⌜ NumberedWritten
+        (patchLists (now (positions .entry)) (now (faces .entry)) (now (twins .entry)) (now (weights .entry)) (now (points .entry)) (now (marks .entry)))
+        g m (now (point .entry)) r (now (point .exit)) ⌝ }
 {
     let kind = KINDS[m];
     let c = turned(OWNERS[m] as usize, 4 * g);
@@ -176,10 +174,10 @@ pub(crate) fn write_patch(
     patch: &mut [i32],
     exact: &mut [u8],
 )
-    requires { ⌜ Source (now positions) (now faces) (now twins) (now weights) (now points) (now marks) × (4 * g + 4 ≤ length (now faces))
-        × (48 ≤ length (now patch)) × (16 ≤ length (now exact)) ⌝ }
-    ensures { λ _. ⌜ now (patch .exit) ≡ filled (numberFrom (now (positions .entry)) (now (faces .entry)) (now (twins .entry)) (now (weights .entry)) (now (points .entry)) g) 48 (now (patch .entry)) ⌝ }
-    ensures { λ _. ⌜ now (exact .exit) ≡ filled (markFrom (now (positions .entry)) (now (faces .entry)) (now (twins .entry)) (now (weights .entry)) (now (marks .entry)) g) 16 (now (exact .entry)) ⌝ }
+    requires { ⌜ ForPatch (patchLists (now positions) (now faces) (now twins) (now weights) (now points) (now marks)) g (now patch) (now exact) ⌝ }
+    ensures { λ _. ⌜ PatchWritten
+        (patchLists (now (positions .entry)) (now (faces .entry)) (now (twins .entry)) (now (weights .entry)) (now (points .entry)) (now (marks .entry)))
+        g (now (patch .entry)) (now (exact .entry)) (now (patch .exit)) (now (exact .exit)) ⌝ }
 {
     for m in 0..16 {
         let at = 3 * m;

@@ -83,14 +83,13 @@ fill-patches-requires c κs =
     let t : tie.After-known-told = c .before .before .before in
     let k = accepted t in
     let s = start k in
-    let counted = sym (ap checked (t .before .answer .given .1)) ∙ answered k in (
-      (
-        result-well-formed (mesh s) (lists s) counted,
-        patches-long (mesh s) (lists s) counted,
-        marks-long (mesh s) (lists s) counted,
-      ),
-      twins-left (mesh s) (lists s) counted _ (left k),
-    )
+    let counted = sym (ap checked (t .before .answer .given .1)) ∙ answered k in
+    record {
+      accepted = result-well-formed (mesh s) (lists s) counted;
+      twinned = twins-left (mesh s) (lists s) counted _ (left k);
+      patches-room = patches-long (mesh s) (lists s) counted;
+      exact-room = marks-long (mesh s) (lists s) counted;
+    }
 
 same-length-2 : tie.Need-same-length-2
 same-length-2 c = search needs

@@ -1,9 +1,10 @@
--- `fill_patches` meets its contract: the rules and weights of the mesh make its corner points, and all these tables its patches.
+-- `fill_patches` meets its contract: the rules, weights and ends of the mesh make its corner points, and all these tables its patches.
 use mathlib.Core.Path.{refl, _∙_}
 use mathlib.Core.List.{List}
 use Prim.Native.Nat.{ℕ, _*_, _≤_}
 use native.Mathlib.Nat.{lt-of-lt-of-le}
 use native.Mathlib.Omega.{arith}
+use lib.IntN.{ℤ}
 use lib.ListN.{length}
 use borrow.Author.Needs.{needs}
 use Rattle.finite.proofs.FilledLaws.{filled-ext}
@@ -18,15 +19,43 @@ use Rattle.patch.proofs.SourceLaws.{source, number-written, mark-writte
 use Rattle.patch.proofs.fill.fill_patches.Statement.{statement}
 use Rattle.patch.proofs.fill.fill_patches.Tie as tie
 
--- the mesh, from the start
-abbrev mesh : tie.Start → IndexedMesh
-mesh s = indexed (s .args .v) (s .args .f) (s .args .positions .now) (s .args .tags .now) (s .args .faces .now)
-
--- the function's entry, from the tables as they are made
+-- ---- the three tables of the pass are made: the function's entry, and the mesh
 abbrev made : tie.After-ends → tie.Start
 made c = let k = c .before .before .before in k .before .before .before .before
 
--- before the corner points are written: the rules, the weights and the far ends of sharp edges
+module _ (s : tie.Start) where
+  abbrev mesh : IndexedMesh
+  mesh = indexed (s .args .v) (s .args .f) (s .args .positions .now) (s .args .tags .now) (s .args .faces .now)
+
+  vertices-few : length (s .args .tags .now) ≤ maxVertices
+  vertices-few = let size = s .pre .accepted .sized in omega (arith, size .tags-are, size .vertices-high)
+
+  corners-few : length (s .args .faces .now) ≤ 4 * maxFaces
+  corners-few = let size = s .pre .accepted .sized in omega (arith, size .indices-are, size .faces-high)
+
+slice-aggregate-render : tie.Need-slice-aggregate-render
+slice-aggregate-render c = refl
+
+slice-aggregate-render-2 : tie.Need-slice-aggregate-render-2
+slice-aggregate-render-2 c = refl
+
+slice-aggregate-render-3 : tie.Need-slice-aggregate-render-3
+slice-aggregate-render-3 c = refl
+
+render-requires : tie.Need-render-requires
+render-requires c κs =
+    let s = made c in
+    let a = s .pre .accepted in (
+      record {
+        few = vertices-few s;
+        indices = accepted-indices a;
+        twinned = s .pre .twinned;
+        valences-few = λ p l. rw (faces-seen (mesh s) (accepted-whole a) p) (faces-range a p (rw (a .sized .tags-are) at l) .1);
+      },
+      record { rules-listed = vertices-few s; weights-listed = corners-few s; ends-listed = corners-few s },
+    )
+
+-- ---- before the corner points are written: what the pass gave
 module _ (c : tie.After-marks) where
   abbrev read : tie.After-render
   read = let k = c .before .before .before .before in k .before .before .before
@@ -43,8 +72,11 @@ module _ (c : tie.After-marks) where
   abbrev ends : List ℕ
   ends = read .render .last .1 .1 .1 .1 .1 .0
 
-  accepted : WellFormed (mesh start)
-  accepted = start .pre .0 .0
+  abbrev accepted : WellFormed (mesh start)
+  accepted = start .pre .accepted
+
+  few : start .args .v ≤ maxVertices
+  few = accepted .sized .vertices-high
 
   rendered : Rendered (shape (mesh start)) (start .args .v) rules weights ends
   rendered = rendered-mesh accepted (read .render .ensures)
@@ -57,46 +89,6 @@ module _ (c : tie.After-marks) where
         weights-listed = omega (arith, size .faces-high, read .render .kept .1 .1 .1 .1 .0);
         ends-listed = omega (arith, size .faces-high, read .render .kept .1 .1 .1 .1 .1 .0);
       }
-
--- before the patches are written: all tables
-module _ (c : tie.After-write-patches-arg2) where
-  abbrev cornered : tie.After-fill-corners
-  cornered = let k = c .before .before .before in k .before .before .before .before
-
-  abbrev begun : tie.After-marks
-  begun = cornered .before
-
-  tables : Tables (mesh (start begun)) (weights begun)
-      (cornered .fill-corners .last .1 .1 .1 .1 .1 .0) (cornered .fill-corners .last .1 .1 .1 .1 .1 .1 .0)
-  tables = ruled-tables (accepted begun) (rendered begun) (cornered .fill-corners .ensures)
-
-  weights-listed : length (start begun .args .faces .now) ≤ length (weights begun)
-  weights-listed = omega (arith, accepted begun .sized .indices-are, room begun .weights-listed)
-
-slice-aggregate-render : tie.Need-slice-aggregate-render
-slice-aggregate-render c = refl
-
-slice-aggregate-render-2 : tie.Need-slice-aggregate-render-2
-slice-aggregate-render-2 c = refl
-
-slice-aggregate-render-3 : tie.Need-slice-aggregate-render-3
-slice-aggregate-render-3 c = refl
-
-render-requires : tie.Need-render-requires
-render-requires c κs =
-    let s = made c in
-    let a = s .pre .0 .0 in
-    let few = a .sized .tags-are in
-    let short : length (s .args .tags .now) ≤ maxVertices = omega (arith, few, a .sized .vertices-high) in
-    let low : length (s .args .faces .now) ≤ 4 * maxFaces = omega (arith, a .sized .indices-are, a .sized .faces-high) in (
-      record {
-        few = short;
-        indices = accepted-indices a;
-        twinned = s .pre .1;
-        valences-few = λ p l. rw (faces-seen (mesh s) (accepted-whole a) p) (faces-range a p (rw few at l) .1);
-      },
-      record { rules-listed = short; weights-listed = low; ends-listed = low },
-    )
 
 slice-aggregate-fill-corners : tie.Need-slice-aggregate-fill-corners
 slice-aggregate-fill-corners c = search needs
@@ -112,10 +104,38 @@ slice-aggregate-fill-corners-4 c = refl
 
 fill-corners-requires : tie.Need-fill-corners-requires
 fill-corners-requires c κs =
-    let few = accepted c .sized .vertices-high in (
-      corner-source (accepted c) (rendered c) (room c),
-      (omega (arith, few), few, λ p l. same-all 0 1 p (lt-of-lt-of-le l few)),
-    )
+    record {
+      source = corner-source (accepted c) (rendered c) (room c);
+      points-room = omega (arith, few c);
+      marks-room = few c;
+      marked = λ p l. same-all 0 1 p (lt-of-lt-of-le l (few c));
+    }
+
+-- ---- before the patches are written: all tables
+module _ (c : tie.After-write-patches-arg2) where
+  abbrev cornered : tie.After-fill-corners
+  cornered = let k = c .before .before .before in k .before .before .before .before
+
+  abbrev begun : tie.After-marks
+  begun = cornered .before
+
+  abbrev points : List ℤ
+  points = cornered .fill-corners .last .1 .1 .1 .1 .1 .0
+
+  abbrev marks : List ℕ
+  marks = cornered .fill-corners .last .1 .1 .1 .1 .1 .1 .0
+
+  points-listed : 3 * start begun .args .v ≤ length points
+  points-listed = omega (arith, few begun, cornered .fill-corners .kept .1 .1 .1 .1 .1 .0)
+
+  marks-listed : start begun .args .v ≤ length marks
+  marks-listed = omega (arith, few begun, cornered .fill-corners .kept .1 .1 .1 .1 .1 .1 .0)
+
+  weights-listed : length (start begun .args .faces .now) ≤ length (weights begun)
+  weights-listed = omega (arith, accepted begun .sized .indices-are, room begun .weights-listed)
+
+  tables : Tables (mesh (start begun)) (weights begun) points marks
+  tables = ruled-tables (accepted begun) (rendered begun) (cornered .fill-corners .ensures)
 
 slice-aggregate-write-patches : tie.Need-slice-aggregate-write-patches
 slice-aggregate-write-patches c = search needs
@@ -129,18 +149,14 @@ slice-aggregate-write-patches-3 c = search needs
 write-patches-requires : tie.Need-write-patches-requires
 write-patches-requires c κs =
     let s = start (begun c) in
-    let size = accepted (begun c) .sized in
-    let kept = cornered c .fill-corners .kept in (
-      (
-        source (accepted (begun c)) (s .pre .1) (weights-listed c) (tables c)
-            (omega (arith, size .vertices-high, kept .1 .1 .1 .1 .1 .0))
-            (omega (arith, size .vertices-high, kept .1 .1 .1 .1 .1 .1 .0)),
-        omega (arith, size .indices-are),
-      ),
-      (s .pre .0 .1, s .pre .0 .2),
-    )
+    record {
+      source = source (accepted (begun c)) (s .pre .twinned) (weights-listed c) (tables c) (points-listed c) (marks-listed c);
+      listed = omega (arith, accepted (begun c) .sized .indices-are);
+      patches-room = s .pre .patches-room;
+      exact-room = s .pre .exact-room;
+    }
 
--- the end
+-- ---- the end
 abbrev written : tie.After-slice-known2 → tie.After-write-patches
 written c = c .before .before .before
 
@@ -154,9 +170,9 @@ returns : tie.Need-returns
 returns c =
     let w = written c in
     let b = w .before in
-    let a = accepted (begun b) in (
-      w .write-patches .ensures .0 ∙ filled-ext _ _ (number-written a (start (begun b) .pre .1) (weights-listed b) (tables b)),
-      w .write-patches .ensures .1 ∙ filled-ext _ _ (mark-written a (start (begun b) .pre .1) (weights-listed b) (tables b)),
+    let s = start (begun b) in (
+      w .write-patches .ensures .numbers-are ∙ filled-ext _ _ (number-written (s .pre .accepted) (s .pre .twinned) (weights-listed b) (tables b)),
+      w .write-patches .ensures .marks-are ∙ filled-ext _ _ (mark-written (s .pre .accepted) (s .pre .twinned) (weights-listed b) (tables b)),
     )
 
 pub fill-patches-spec : {M : Type 1} → statement M

@@ -1,20 +1,29 @@
 -- `write_patches` meets its contract: 48 numbers and 16 marks are written for each face, from 48 and 16 times its number on.
 use mathlib.Core.Path.{_≡_, refl}
-use Prim.Native.Nat.{_<_, _+_, _*_, _-_, _≤_}
+use mathlib.Core.List.{List}
+use Prim.Native.Nat.{ℕ, _<_, _+_, _*_, _-_, _≤_}
 use native.Mathlib.Numerals.{add-one-le}
 use native.Mathlib.Omega.{arith}
+use lib.IntN.{ℤ}
 use lib.ListN.{length}
 use Rattle.finite.specs.Filled.{filled}
 use Rattle.finite.proofs.FilledLaws.{filled-start, filled-all, stretch-long, filled-stretch}
-use Rattle.patch.specs.Written.{writtenNumber, writtenMark}
+use Rattle.patch.specs.Written.{PatchLists, patchLists, writtenNumber, writtenMark}
 use Rattle.patch.proofs.SourceLaws.{number-placed, mark-placed}
 use Rattle.patch.proofs.fill.write_patches.Statement.{statement}
 use Rattle.patch.proofs.fill.write_patches.Tie as tie
 
+-- what is written after g patches
+record Written (D : PatchLists) (f : ℕ) (patches₀ : List ℤ) (exact₀ : List ℕ) (patches : List ℤ) (exact : List ℕ) (g : ℕ) : Type 0 where
+  most : g ≤ f
+  patches-long : length patches ≡ length patches₀
+  patches-are : patches ≡ filled (writtenNumber D) (48 * g) patches₀
+  exact-long : length exact ≡ length exact₀
+  exact-are : exact ≡ filled (writtenMark D) (16 * g) exact₀
+
 abbrev Inv-loop : tie.InvT-loop
 Inv-loop f positions faces twins weights points marks patches₀ exact₀ g₀ patches exact g =
-    (g ≤ f) × (length patches ≡ length patches₀) × (patches ≡ filled (writtenNumber positions faces twins weights points) (48 * g) patches₀)
-    × (length exact ≡ length exact₀) × (exact ≡ filled (writtenMark positions faces twins weights marks) (16 * g) exact₀)
+    Written (patchLists positions faces twins weights points marks) f patches₀ exact₀ patches exact g
 
 abbrev μ-loop : tie.MeasureT-loop
 μ-loop f positions faces twins weights points marks patches₀ exact₀ g₀ patches exact g = f - g
@@ -26,8 +35,14 @@ head c = c .before .before .before
 abbrev start : tie.At-loop Inv-loop μ-loop → tie.Start Inv-loop μ-loop
 start l = let k = l .before .before .before in k .before .before .before
 
+abbrev lists : tie.Start Inv-loop μ-loop → PatchLists
+lists s =
+    let a = s .args in
+    patchLists (a .positions .now) (a .faces .now) (a .twins .now) (a .weights .now) (a .points .now) (a .marks .now)
+
 loop-holds : tie.Need-loop-holds Inv-loop μ-loop
-loop-holds c = (omega arith, refl, filled-start _ _, refl, filled-start _ _)
+loop-holds c =
+    record { most = omega arith; patches-long = refl; patches-are = filled-start _ _; exact-long = refl; exact-are = filled-start _ _ }
 
 mul-at : tie.Need-mul-at Inv-loop μ-loop
 mul-at c = omega arith
@@ -60,12 +75,13 @@ write-patch-requires : tie.Need-write-patch-requires Inv-loop μ-loop
 write-patch-requires c κs =
     let l = head c in
     let s = start l in
-    let below : l .loop .g < s .args .f = omega arith in (
-      s .pre .0 .0,
-      omega (arith, s .pre .0 .1, below),
-      stretch-long (48 * l .loop .g) 48 (l .loop .patches) (omega (arith, s .pre .1 .0, l .loop .inv .1, below)),
-      stretch-long (16 * l .loop .g) 16 (l .loop .exact) (omega (arith, s .pre .1 .1, l .loop .inv .3, below)),
-    )
+    let below : l .loop .g < s .args .f = omega arith in
+    record {
+      source = s .pre .source;
+      face = omega (arith, s .pre .listed, below);
+      patch-room = stretch-long (48 * l .loop .g) 48 (l .loop .patches) (omega (arith, s .pre .patches-room, l .loop .inv .patches-long, below));
+      exact-room = stretch-long (16 * l .loop .g) 16 (l .loop .exact) (omega (arith, s .pre .exact-room, l .loop .inv .exact-long, below));
+    }
 
 add-g : tie.Need-add-g Inv-loop μ-loop
 add-g c = omega arith
@@ -79,30 +95,27 @@ loop-again c =
     let l = head (t .before) in
     let s = start l in
     let below : l .loop .g < s .args .f = omega arith in
-    let positions = s .args .positions .now in
-    let faces = s .args .faces .now in
-    let twins = s .args .twins .now in
-    let weights = s .args .weights .now in
     let w = filled-stretch _ _ (48 * l .loop .g) 48 (48 * (l .loop .g + 1)) (s .args .patches .now) (l .loop .patches) _
-    (omega arith) (omega (arith, s .pre .1 .0, below)) (λ j h. number-placed positions faces twins weights (s .args .points .now) (l .loop .g) j h)
-    (l .loop .inv .2) (t .write-patch .ensures .0) in
+    (omega arith) (omega (arith, s .pre .patches-room, below)) (number-placed (lists s) (l .loop .g))
+    (l .loop .inv .patches-are) (t .write-patch .ensures .numbers-are) in
     let x = filled-stretch _ _ (16 * l .loop .g) 16 (16 * (l .loop .g + 1)) (s .args .exact .now) (l .loop .exact) _
-    (omega arith) (omega (arith, s .pre .1 .1, below)) (λ j h. mark-placed positions faces twins weights (s .args .marks .now) (l .loop .g) j h)
-    (l .loop .inv .4) (t .write-patch .ensures .1) in
-    (add-one-le below, w .0, w .1, x .0, x .1)
+    (omega arith) (omega (arith, s .pre .exact-room, below)) (mark-placed (lists s) (l .loop .g))
+    (l .loop .inv .exact-are) (t .write-patch .ensures .marks-are) in
+    record { most = add-one-le below; patches-long = w .0; patches-are = w .1; exact-long = x .0; exact-are = x .1 }
 
 same-length : tie.Need-same-length Inv-loop μ-loop
-same-length c = c .before .loop .inv .1
+same-length c = c .before .loop .inv .patches-long
 
 same-length-2 : tie.Need-same-length-2 Inv-loop μ-loop
-same-length-2 c = c .before .loop .inv .3
+same-length-2 c = c .before .loop .inv .exact-long
 
 returns : tie.Need-returns Inv-loop μ-loop
 returns c =
-    let inv = c .before .loop .inv in (
-      filled-all _ _ _ _ _ (omega (arith, inv .0)) (omega arith) (inv .2),
-      filled-all _ _ _ _ _ (omega (arith, inv .0)) (omega arith) (inv .4),
-    )
+    let inv = c .before .loop .inv in
+    record {
+      numbers-are = filled-all _ _ _ _ _ (omega (arith, inv .most)) (omega arith) (inv .patches-are);
+      marks-are = filled-all _ _ _ _ _ (omega (arith, inv .most)) (omega arith) (inv .exact-are);
+    }
 
 pub write-patches-spec : {M : Type 1} → statement M
 write-patches-spec =

@@ -66,8 +66,8 @@ module _ (w : tie.After-wide Inv-loop μ-loop) where
 
   sharp-small : natAbs (getD (head .loop .sharp) p (pos 0)) ≤ 5 * maxCoordinate * head .loop .c
   sharp-small =
-      scattered-bound (vertexOf (start .args .faces .now)) p (sharpTermBy (S start) (start .args .ends .now)) (head .loop .c) (head .loop .inv .second-is) named
-      (λ d l. sharp-term-small start d (omega (arith, below)))
+      scattered-bound (vertexOf (start .args .faces .now)) p (sharpTermBy (S start) (start .args .ends .now)) (head .loop .c)
+      (head .loop .inv .second-is) named (λ d l. sharp-term-small start d (omega (arith, below)))
 
 loop-holds : tie.Need-loop-holds Inv-loop μ-loop
 loop-holds c =

@@ -1,11 +1,12 @@
 -- `fill_coordinate` meets its contract: coordinate k of the corner points passed is written, by the rule of each vertex and its two sums.
 use mathlib.Core.Path.{_≡_, refl, ap, _∙_}
 use mathlib.Core.Bool.{cond}
+use mathlib.Core.List.{List}
 use Prim.Native.Nat.{ℕ, _+_, _-_, _*_, _<_, _≤_}
 use native.Mathlib.Nat.{lt-of-lt-of-le, le-antisymm}
 use native.Mathlib.Numerals.{add-one-le, add-one-dec}
 use native.Mathlib.Omega.{arith}
-use lib.IntN.{pos}
+use lib.IntN.{ℤ, pos}
 use lib.ListN.{length, getD, length-set}
 use mir.Syntax.{w32, w64}
 use mir.Val.{toZ, ofZ}
@@ -16,72 +17,30 @@ use Rattle.patch.specs.Point.{View, ringSum}
 use Rattle.patch.specs.Patch.{units}
 use Rattle.patch.specs.Lists.{seen, sharpSumBy}
 use Rattle.patch.specs.Values.{valueOf}
-use Rattle.patch.specs.PatchTables.{CornerSource, Coordinate, ruledPoint}
+use Rattle.patch.specs.PatchTables.{Coordinate, ruledPoint}
 use Rattle.patch.specs.declared.fraction.Value.{Value}
 use Rattle.patch.proofs.TableLaws.{blank}
 use Rattle.patch.proofs.CornerTableLaws.{ruled-entries, coordinate-none, coordinate-more}
 use Rattle.patch.proofs.tables.fill_coordinate.Statement.{statement}
 use Rattle.patch.proofs.tables.fill_coordinate.Tie as tie
 
+-- what is written after p vertices
+record Passed (q : ℕ → Fraction) (v k : ℕ) (points₀ : List ℤ) (marks₀ : List ℕ) (points : List ℤ) (marks : List ℕ) (p : ℕ) : Type 0 where
+  most : p ≤ v
+  points-long : length points ≡ length points₀
+  marks-long : length marks ≡ length marks₀
+  written : Coordinate q p k points₀ points marks₀ marks
+
 abbrev Inv-loop : tie.InvT-loop
 Inv-loop v positions faces ends rules k points₀ marks₀ ring sharp p₀ points marks p =
-    (p ≤ v) × (length points ≡ length points₀) × (length marks ≡ length marks₀)
-    × Coordinate (ruledPoint (seen positions faces k) ends rules) p k points₀ points marks₀ marks
+    Passed (ruledPoint (seen positions faces k) ends rules) v k points₀ marks₀ points marks p
 
 abbrev μ-loop : tie.MeasureT-loop
 μ-loop v positions faces ends rules k points₀ marks₀ ring sharp p₀ points marks p = v - p
 
--- the function's entry, from the first table of sums
+-- ---- the sums are made: the function's entry, from the first of their tables
 abbrev made : tie.After-ring Inv-loop μ-loop → tie.Start Inv-loop μ-loop
 made c = let k = c .before .before in k .before .before .before
-
--- at the loop's head: the sums, the function's entry, and what the corner points are made from
-module _ (l : tie.At-loop Inv-loop μ-loop) where
-  abbrev summed : tie.After-add-sums Inv-loop μ-loop
-  summed = l .before .before .before
-
-  abbrev start : tie.Start Inv-loop μ-loop
-  start = made (summed .before .before)
-
-  abbrev source : CornerSource (start .args .v) (start .args .positions .now) (start .args .faces .now) (start .args .ends .now) (start .args .rules .now)
-  source = start .pre .0 .0
-
-  abbrev S : View
-  S = seen (start .args .positions .now) (start .args .faces .now) (start .args .k)
-
-  abbrev point : ℕ → Fraction
-  point = ruledPoint S (start .args .ends .now) (start .args .rules .now)
-
-  abbrev p : ℕ
-  p = l .loop .p
-
--- a turn's vertex has a place in the tables
-module _ (c : tie.In-loop Inv-loop μ-loop) where
-  below : p (c .before) < start (c .before) .args .v
-  below = c .loop-test .taken
-
-  few : p (c .before) < maxVertices
-  few = lt-of-lt-of-le below (source (c .before) .few)
-
--- at the call of `corner_point`: what was read for vertex p
-module _ (c : tie.After-corner-point-arg2 Inv-loop μ-loop) where
-  abbrev valued : tie.After-coordinate Inv-loop μ-loop
-  valued = c .before .before .before
-
-  abbrev turn : tie.In-loop Inv-loop μ-loop
-  turn = valued .before
-
-  abbrev head : tie.At-loop Inv-loop μ-loop
-  head = turn .before
-
-  value-read : toZ w32 (ofZ w32 (valued .coordinate .result)) ≡ S head .value (p head)
-  value-read = read-back w32 (valued .coordinate .ok) (valued .coordinate .ensures)
-
-  ring-read : toZ w64 (ofZ w64 (getD (summed head .add-sums .last .1 .1 .1 .1 .0) (p head) (pos 0))) ≡ ringSum (S head) (p head)
-  ring-read = read-back w64 (c .before .corner-point-arg .given) (summed head .add-sums .ensures .ring-are (p head) (few turn))
-
-  sharp-read : toZ w64 (ofZ w64 (getD (summed head .add-sums .last .1 .1 .1 .1 .1 .0) (p head) (pos 0))) ≡ sharpSumBy (S head) (start head .args .ends .now) (p head)
-  sharp-read = read-back w64 (c .corner-point-arg2 .given) (summed head .add-sums .ensures .sharp-are (p head) (few turn))
 
 slice-aggregate-add-sums : tie.Need-slice-aggregate-add-sums Inv-loop μ-loop
 slice-aggregate-add-sums c = refl
@@ -92,29 +51,63 @@ slice-aggregate-add-sums-2 c = refl
 add-sums-requires : tie.Need-add-sums-requires Inv-loop μ-loop
 add-sums-requires c κs =
     let s = made (c .before) in
-    let t = s .pre .0 .0 in
+    let t = s .pre .source in
     record {
       indices = t .indices;
       ends-listed = t .ends-listed;
-      placed = t .placed (s .args .k) (s .pre .0 .1);
+      placed = t .placed (s .args .k) (s .pre .axis);
       ring-blank = blank (pos 0);
       sharp-blank = blank (pos 0);
     }
 
+-- ---- at the loop's head: the function's entry, the sums, and the corner points
+module _ (l : tie.At-loop Inv-loop μ-loop) where
+  abbrev summed : tie.After-add-sums Inv-loop μ-loop
+  summed = l .before .before .before
+
+  abbrev start : tie.Start Inv-loop μ-loop
+  start = made (summed .before .before)
+
+  abbrev ring : List ℤ
+  ring = summed .add-sums .last .1 .1 .1 .1 .0
+
+  abbrev sharp : List ℤ
+  sharp = summed .add-sums .last .1 .1 .1 .1 .1 .0
+
+  abbrev S : View
+  S = seen (start .args .positions .now) (start .args .faces .now) (start .args .k)
+
+  abbrev point : ℕ → Fraction
+  point = ruledPoint S (start .args .ends .now) (start .args .rules .now)
+
+  abbrev p : ℕ
+  p = l .loop .p
+
 loop-holds : tie.Need-loop-holds Inv-loop μ-loop
-loop-holds c = (omega arith, refl, refl, coordinate-none _ _ _ _)
+loop-holds c = record { most = omega arith; points-long = refl; marks-long = refl; written = coordinate-none _ _ _ _ }
+
+-- ---- a turn: its vertex has a place in the tables
+module _ (c : tie.In-loop Inv-loop μ-loop) where
+  abbrev entry : tie.Start Inv-loop μ-loop
+  entry = start (c .before)
+
+  below : p (c .before) < entry .args .v
+  below = c .loop-test .taken
+
+  few : p (c .before) < maxVertices
+  few = lt-of-lt-of-le below (entry .pre .source .few)
 
 mul-i : tie.Need-mul-i Inv-loop μ-loop
 mul-i c = omega (arith, few c)
 
 add-i : tie.Need-add-i Inv-loop μ-loop
-add-i c = omega (arith, few c, start (c .before) .pre .0 .1)
+add-i c = omega (arith, few c, entry c .pre .axis)
 
 coordinate-requires : tie.Need-coordinate-requires Inv-loop μ-loop
-coordinate-requires c κs = omega (arith, below c, start (c .before) .pre .0 .1, source (c .before) .positions-listed)
+coordinate-requires c κs = omega (arith, below c, entry c .pre .axis, entry c .pre .source .positions-listed)
 
 shared-slice-read-corner-point : tie.Need-shared-slice-read-corner-point Inv-loop μ-loop
-shared-slice-read-corner-point c = let t = c .before .before in lt-of-lt-of-le (below t) (source (t .before) .rules-listed)
+shared-slice-read-corner-point c = let t = c .before .before in lt-of-lt-of-le (below t) (entry t .pre .source .rules-listed)
 
 mul-corner-point : tie.Need-mul-corner-point Inv-loop μ-loop
 mul-corner-point c = omega (arith, few (c .before .before))
@@ -128,42 +121,59 @@ mul-corner-point-2 c = omega (arith, few (c .before .before .before))
 array-copy-out-corner-point-2 : tie.Need-array-copy-out-corner-point-2 Inv-loop μ-loop
 array-copy-out-corner-point-2 c = few (c .before .before .before)
 
+-- ---- at the call of `corner_point`: what was read for vertex p
+module _ (c : tie.After-corner-point-arg2 Inv-loop μ-loop) where
+  abbrev valued : tie.After-coordinate Inv-loop μ-loop
+  valued = c .before .before .before
+
+  abbrev turn : tie.In-loop Inv-loop μ-loop
+  turn = valued .before
+
+  abbrev head : tie.At-loop Inv-loop μ-loop
+  head = turn .before
+
+  value-read : toZ w32 (ofZ w32 (valued .coordinate .result)) ≡ S head .value (p head)
+  value-read = read-back w32 (valued .coordinate .ok) (valued .coordinate .ensures)
+
+  ring-read : toZ w64 (ofZ w64 (getD (ring head) (p head) (pos 0))) ≡ ringSum (S head) (p head)
+  ring-read = read-back w64 (c .before .corner-point-arg .given) (summed head .add-sums .ensures .ring-are (p head) (few turn))
+
+  sharp-read : toZ w64 (ofZ w64 (getD (sharp head) (p head) (pos 0))) ≡ sharpSumBy (S head) (start head .args .ends .now) (p head)
+  sharp-read = read-back w64 (c .corner-point-arg2 .given) (summed head .add-sums .ensures .sharp-are (p head) (few turn))
+
 corner-point-requires : tie.Need-corner-point-requires Inv-loop μ-loop
 corner-point-requires c κs =
-    let l = head c in
-    rw (value-read c, ring-read c, sharp-read c) (source l .allowed (start l .args .k) (p l) (start l .pre .0 .1) (below (turn c)))
+    let s = start (head c) in
+    rw (value-read c, ring-read c, sharp-read c) (s .pre .source .allowed (s .args .k) (p (head c)) (s .pre .axis) (below (turn c)))
 
-in-units-requires : tie.Need-in-units-requires Inv-loop μ-loop
-in-units-requires c κs = c .corner-point .ensures .within
-
--- what was stored for vertex p
+-- ---- what is stored for vertex p
 module _ (c : tie.After-struct-told Inv-loop μ-loop) where
   abbrev asked : tie.After-corner-point-arg2 Inv-loop μ-loop
-  asked = c .before .before .before
+  asked = c .before .before
 
   abbrev at : tie.At-loop Inv-loop μ-loop
   at = head asked
 
-  value-is : c .before .in-units .result ≡ valueOf (point at (p at))
+  value-is : c .before .corner-point .result ≡ valueOf (point at (p at))
   value-is =
-      c .before .in-units .ensures
-      ∙ ap valueOf (c .before .before .corner-point .ensures .is
-      ∙ ruled-entries (S at) (start at .args .ends .now) (start at .args .rules .now) (p at) _ _ _ (value-read asked) (ring-read asked) (sharp-read asked))
+      let s = start at in
+      c .before .corner-point .ensures
+      ∙ ap valueOf (ruled-entries (S at) (s .args .ends .now) (s .args .rules .now) (p at) _ _ _ (value-read asked) (ring-read asked) (sharp-read asked))
 
-  written : toZ w32 (ofZ w32 (c .before .in-units .result .units)) ≡ units (point at (p at))
-  written = read-back w32 (c .struct-told .given .0 .1) (ap (λ (v : Value). v .units) value-is)
+  units-is : toZ w32 (ofZ w32 (c .before .corner-point .result .units)) ≡ units (point at (p at))
+  units-is = read-back w32 (c .struct-told .given .0 .1) (ap (λ (v : Value). v .units) value-is)
 
-  stored : 3 * p at + start at .args .k < length (at .loop .points)
-  stored = let s = start at in omega (arith, below (turn asked), s .pre .0 .1, s .pre .1 .0, at .loop .inv .1)
+  placed : 3 * p at + start at .args .k < length (at .loop .points)
+  placed = let s = start at in omega (arith, below (turn asked), s .pre .axis, s .pre .points-room, at .loop .inv .points-long)
 
   marked : p at < length (at .loop .marks)
-  marked = omega (arith, below (turn asked), start at .pre .1 .1, at .loop .inv .2)
+  marked = omega (arith, below (turn asked), start at .pre .marks-room, at .loop .inv .marks-long)
 
 mul-units : tie.Need-mul-units Inv-loop μ-loop
-mul-units c = omega (arith, few (turn (asked c)), start (at c) .pre .0 .1)
+mul-units c = omega (arith, few (turn (asked c)), start (at c) .pre .axis)
 
 slice-set-from-units : tie.Need-slice-set-from-units Inv-loop μ-loop
-slice-set-from-units c = stored c
+slice-set-from-units c = placed c
 
 slice-read-kept : tie.Need-slice-read-kept Inv-loop μ-loop
 slice-read-kept c = marked (c .before)
@@ -171,7 +181,7 @@ slice-read-kept c = marked (c .before)
 kept-requires : tie.Need-kept-requires Inv-loop μ-loop
 kept-requires c κs = tt
 
--- the end of a turn
+-- ---- the end of a turn
 abbrev told : tie.After-kept Inv-loop μ-loop → tie.After-struct-told Inv-loop μ-loop
 told c = c .before .before
 
@@ -188,25 +198,28 @@ loop-again : tie.Need-loop-again Inv-loop μ-loop
 loop-again c =
     let t = told c in
     let l = at t in
-    let stays = ap (λ (v : Value). cond (v .exact) (getD (l .loop .marks) (p l) 0) 0) (value-is t) in (
-      add-one-le (below (turn (asked t))),
-      length-set (l .loop .points) _ _ ∙ l .loop .inv .1,
-      length-set (l .loop .marks) _ _ ∙ l .loop .inv .2,
-      coordinate-more (point l) (start l .args .k) (p l) _ _ (start l .pre .0 .1) (l .loop .inv .3) (stored t) (marked t) (written t)
-          (c .kept .ensures ∙ stays),
-    )
+    let s = start l in
+    let stays = ap (λ (v : Value). cond (v .exact) (getD (l .loop .marks) (p l) 0) 0) (value-is t) in
+    record {
+      most = add-one-le (below (turn (asked t)));
+      points-long = length-set (l .loop .points) _ _ ∙ l .loop .inv .points-long;
+      marks-long = length-set (l .loop .marks) _ _ ∙ l .loop .inv .marks-long;
+      written =
+          coordinate-more (point l) (s .args .k) (p l) _ _ (s .pre .axis) (l .loop .inv .written) (placed t) (marked t) (units-is t)
+          (c .kept .ensures ∙ stays);
+    }
 
 same-length : tie.Need-same-length Inv-loop μ-loop
-same-length c = c .before .loop .inv .1
+same-length c = c .before .loop .inv .points-long
 
 same-length-2 : tie.Need-same-length-2 Inv-loop μ-loop
-same-length-2 c = c .before .loop .inv .2
+same-length-2 c = c .before .loop .inv .marks-long
 
 returns : tie.Need-returns Inv-loop μ-loop
 returns c =
     let l = c .before in
-    let all : p l ≡ start l .args .v = le-antisymm (l .loop .inv .0) (c .loop-test .left) in
-    rw all at (l .loop .inv .3)
+    let all : p l ≡ start l .args .v = le-antisymm (l .loop .inv .most) (c .loop-test .left) in
+    rw all at (l .loop .inv .written)
 
 pub fill-coordinate-spec : {M : Type 1} → statement M
 fill-coordinate-spec =
@@ -227,7 +240,6 @@ fill-coordinate-spec =
     mul-corner-point-2
     array-copy-out-corner-point-2
     corner-point-requires
-    in-units-requires
     mul-units
     slice-set-from-units
     slice-read-kept

@@ -6,10 +6,16 @@ use borrow.Author.Needs.{needs}
 use Rattle.finite.proofs.FilledLaws.{filled-ext}
 use Rattle.patch.specs.Point.{inner}
 use Rattle.patch.specs.Patch.{owner, kind}
-use Rattle.patch.specs.Written.{kindOf, markFrom}
+use Rattle.patch.specs.Written.{PatchLists, patchLists, kindOf, markFrom}
 use Rattle.patch.proofs.FacePointLaws.{owner-listed, number-point, owner-below, table-at}
 use Rattle.patch.proofs.writer.write_numbered.Statement.{statement}
 use Rattle.patch.proofs.writer.write_numbered.Tie as tie
+
+-- ---- what the point is written from
+abbrev lists : tie.Start → PatchLists
+lists s =
+    let a = s .args in
+    patchLists (a .positions .now) (a .faces .now) (a .twins .now) (a .weights .now) (a .points .now) (a .marks .now)
 
 -- ---- the way back from the table's entry and from the call
 abbrev start : tie.After-kind → tie.Start
@@ -39,7 +45,11 @@ turned-requires c κs = owner-below (start c .args .m) (omega arith)
 write-point-requires : tie.Need-write-point-requires
 write-point-requires c κs =
     let s = start (c .before .before) in
-    (s .pre .0, owner-listed (s .pre .0) (s .args .g) _ _ (s .pre .1) (c .before .turned .ensures), s .pre .3)
+    record {
+      source = s .pre .source;
+      corner = owner-listed (s .pre .source) (s .args .g) _ _ (s .pre .face) (c .before .turned .ensures);
+      room = s .pre .room;
+    }
 
 same-length : tie.Need-same-length
 same-length c = search needs
@@ -50,13 +60,14 @@ unfolding owner kind markFrom
 returns c =
     let t = called (c .before) in
     let s = start (t .before) in
-    let l : s .args .m < 16 = s .pre .2 in
-    let w = c .before .write-point .ensures in (
-      (rw (t .turned .ensures, table-at kindOf inner) at (w .0))
-          ∙ sym (filled-ext 3 (s .args .point .now)
-          (number-point (s .args .positions .now) (s .args .faces .now) (s .args .twins .now) (s .args .weights .now) (s .args .points .now) (s .args .g) (s .args .m))),
-      rw (t .turned .ensures, table-at kindOf inner) at (w .1),
-    )
+    let l : s .args .m < 16 = s .pre .sixteen in
+    let w = c .before .write-point .ensures in
+    record {
+      numbers-are =
+          (rw (t .turned .ensures, table-at kindOf inner) at (w .numbers-are))
+          ∙ sym (filled-ext 3 (s .args .point .now) (number-point (lists s) (s .args .g) (s .args .m)));
+      mark-is = rw (t .turned .ensures, table-at kindOf inner) at (w .mark-is);
+    }
 
 pub write-numbered-spec : {M : Type 1} → statement M
 write-numbered-spec =

@@ -1,19 +1,27 @@
 -- `write_patch` meets its contract: each point fills the next three places and its mark the next byte, and what stands behind the sixteenth is as it was.
 use mathlib.Core.Path.{_≡_, refl, _∙_}
+use mathlib.Core.List.{List}
 use Prim.Native.Nat.{ℕ, _+_, _*_, _-_, _≤_}
 use native.Mathlib.Omega.{arith}
 use lib.IntN.{ℤ}
 use lib.ListN.{length, length-set}
 use Rattle.finite.specs.Filled.{filled}
 use Rattle.finite.proofs.FilledLaws.{filled-start, filled-more, filled-all, stretch-long, filled-stretch}
-use Rattle.patch.specs.Written.{numberFrom, markFrom}
+use Rattle.patch.specs.Written.{PatchLists, patchLists, numberFrom, markFrom}
 use Rattle.patch.proofs.writer.write_patch.Statement.{statement}
 use Rattle.patch.proofs.writer.write_patch.Tie as tie
 
+-- what is written after m points: three numbers and a mark of each
+record Written (D : PatchLists) (g : ℕ) (patch₀ : List ℤ) (exact₀ : List ℕ) (patch : List ℤ) (exact : List ℕ) (m : ℕ) : Type 0 where
+  most : m ≤ 16
+  patch-long : length patch ≡ length patch₀
+  patch-is : patch ≡ filled (numberFrom D g) (3 * m) patch₀
+  exact-long : length exact ≡ length exact₀
+  exact-is : exact ≡ filled (markFrom D g) m exact₀
+
 abbrev Inv-loop : tie.InvT-loop
 Inv-loop positions faces twins weights points marks g patch₀ exact₀ m₀ patch exact m =
-    (m ≤ 16) × (length patch ≡ length patch₀) × (patch ≡ filled (numberFrom positions faces twins weights points g) (3 * m) patch₀)
-    × (length exact ≡ length exact₀) × (exact ≡ filled (markFrom positions faces twins weights marks g) m exact₀)
+    Written (patchLists positions faces twins weights points marks) g patch₀ exact₀ patch exact m
 
 abbrev μ-loop : tie.MeasureT-loop
 μ-loop positions faces twins weights points marks g patch₀ exact₀ m₀ patch exact m = 16 - m
@@ -26,22 +34,18 @@ module _ (c : tie.In-loop Inv-loop μ-loop) where
   abbrev start : tie.Start Inv-loop μ-loop
   start = let k = head .before .before in k .before .before .before .before
 
-  abbrev number : ℕ → ℤ
-  number =
-      numberFrom (start .args .positions .now) (start .args .faces .now) (start .args .twins .now) (start .args .weights .now)
-      (start .args .points .now) (start .args .g)
-
-  abbrev mark : ℕ → ℕ
-  mark =
-      markFrom (start .args .positions .now) (start .args .faces .now) (start .args .twins .now) (start .args .weights .now)
-      (start .args .marks .now) (start .args .g)
+  abbrev lists : PatchLists
+  lists =
+      let a = start .args in
+      patchLists (a .positions .now) (a .faces .now) (a .twins .now) (a .weights .now) (a .points .now) (a .marks .now)
 
   room : 3 * head .loop .m + 3 ≤ length (start .args .patch .now)
-  room = omega (arith, start .pre .2, c .loop-test .taken)
+  room = omega (arith, start .pre .patch-room, c .loop-test .taken)
 
 -- ---- the answers, in the order of the code
 loop-holds : tie.Need-loop-holds Inv-loop μ-loop
-loop-holds c = (omega arith, refl, filled-start _ _, refl, filled-start _ _)
+loop-holds c =
+    record { most = omega arith; patch-long = refl; patch-is = filled-start _ _; exact-long = refl; exact-is = filled-start _ _ }
 
 mul-at : tie.Need-mul-at Inv-loop μ-loop
 mul-at c = omega arith
@@ -63,12 +67,17 @@ write-numbered-requires c κs =
     let i : tie.In-loop Inv-loop μ-loop = c .before in
     let s = start i in
     let l = head i .loop in
-    (s .pre .0, s .pre .1, omega (arith, i .loop-test .taken), stretch-long (3 * l .m) 3 (l .patch) (omega (arith, room i, l .inv .1)))
+    record {
+      source = s .pre .source;
+      face = s .pre .face;
+      sixteen = i .loop-test .taken;
+      room = stretch-long (3 * l .m) 3 (l .patch) (omega (arith, room i, l .inv .patch-long));
+    }
 
 slice-write-exact : tie.Need-slice-write-exact Inv-loop μ-loop
 slice-write-exact c =
     let i : tie.In-loop Inv-loop μ-loop = c .before .before .before in
-    omega (arith, i .loop-test .taken, start i .pre .3, head i .loop .inv .3)
+    omega (arith, i .loop-test .taken, start i .pre .exact-room, head i .loop .inv .exact-long)
 
 add-m : tie.Need-add-m Inv-loop μ-loop
 add-m c = omega arith
@@ -82,28 +91,31 @@ loop-again c =
     let s = start i in
     let l = head i .loop in
     let w =
-    filled-stretch (number i) _ (3 * l .m) 3 (3 * (l .m + 1)) (s .args .patch .now) (l .patch) _
-    (omega arith) (omega (arith, room i)) (λ j h. refl) (l .inv .2) (c .before .write-numbered .ensures .0) in (
-      omega (arith, i .loop-test .taken),
-      w .0,
-      w .1,
-      length-set (l .exact) (l .m) _ ∙ l .inv .3,
-      filled-more (mark i) (l .m) _ (s .args .exact .now) (l .exact) (omega (arith, i .loop-test .taken, s .pre .3)) (l .inv .4)
-          (c .before .write-numbered .ensures .1),
-    )
+    filled-stretch (numberFrom (lists i) (s .args .g)) _ (3 * l .m) 3 (3 * (l .m + 1)) (s .args .patch .now) (l .patch) _
+    (omega arith) (omega (arith, room i)) (λ j h. refl) (l .inv .patch-is) (c .before .write-numbered .ensures .numbers-are) in
+    record {
+      most = omega (arith, i .loop-test .taken);
+      patch-long = w .0;
+      patch-is = w .1;
+      exact-long = length-set (l .exact) (l .m) _ ∙ l .inv .exact-long;
+      exact-is =
+          filled-more (markFrom (lists i) (s .args .g)) (l .m) _ (s .args .exact .now) (l .exact)
+          (omega (arith, i .loop-test .taken, s .pre .exact-room)) (l .inv .exact-is) (c .before .write-numbered .ensures .mark-is);
+    }
 
 same-length : tie.Need-same-length Inv-loop μ-loop
-same-length c = c .before .loop .inv .1
+same-length c = c .before .loop .inv .patch-long
 
 same-length-2 : tie.Need-same-length-2 Inv-loop μ-loop
-same-length-2 c = c .before .loop .inv .3
+same-length-2 c = c .before .loop .inv .exact-long
 
 returns : tie.Need-returns Inv-loop μ-loop
 returns c =
-    let inv = c .before .loop .inv in (
-      filled-all _ _ _ _ _ (omega (arith, inv .0)) (omega arith) (inv .2),
-      filled-all _ _ _ _ _ (omega (arith, inv .0)) (omega arith) (inv .4),
-    )
+    let inv = c .before .loop .inv in
+    record {
+      numbers-are = filled-all _ _ _ _ _ (omega (arith, inv .most)) (omega arith) (inv .patch-is);
+      marks-are = filled-all _ _ _ _ _ (omega (arith, inv .most)) (omega arith) (inv .exact-is);
+    }
 
 pub write-patch-spec : {M : Type 1} → statement M
 write-patch-spec =

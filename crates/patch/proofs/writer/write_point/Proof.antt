@@ -8,21 +8,27 @@ use mir.Syntax.{w32}
 use borrow.Author.Needs.{needs}
 use Rattle.integer.proofs.Laws.{read-back}
 use Rattle.finite.specs.Fold.{indicator}
-use Rattle.patch.specs.Written.{kindOf, pointFrom}
+use Rattle.patch.specs.Written.{PatchLists, patchLists, kindOf, pointFrom}
 use Rattle.patch.specs.declared.fraction.ControlPoint.{ControlPoint}
 use Rattle.patch.proofs.FacePointLaws.{filled-three}
 use Rattle.patch.proofs.writer.write_point.Statement.{statement}
 use Rattle.patch.proofs.writer.write_point.Tie as tie
 
--- the call that gave the point, and the function's entry
+-- ---- what the point is written from
+abbrev lists : tie.Start → PatchLists
+lists s =
+    let a = s .args in
+    patchLists (a .positions .now) (a .faces .now) (a .twins .now) (a .weights .now) (a .points .now) (a .marks .now)
+
+-- ---- the call that gave the point, and the function's entry
 abbrev made : tie.After-struct-told → tie.After-point-values
 made c = c .before
 
-abbrev start : tie.After-point-values → tie.Start
-start c = let k = c .before .before in k .before .before .before
+abbrev start : tie.After-shared-slice-known4 → tie.Start
+start c = c .before .before .before .before
 
 point-values-requires : tie.Need-point-values-requires
-point-values-requires c κs = search needs
+point-values-requires c κs = let s = start c in (s .pre .source, s .pre .corner)
 
 slice-set-from-x : tie.Need-slice-set-from-x
 slice-set-from-x c = search needs
@@ -43,16 +49,16 @@ returns : tie.Need-returns
 returns c =
     let told = c .before .before .before in
     let v = made told in
-    let s = start v in
-    let f : ℕ → ℤ = λ k.
-    pointFrom (s .args .positions .now) (s .args .faces .now) (s .args .twins .now) (s .args .weights .now) (s .args .points .now) k (s .args .c)
-    (kindOf (s .args .kind)) in (
-      filled-three f (s .args .point .now) (s .pre .2)
+    let s = start (v .before) in
+    let f : ℕ → ℤ = λ k. pointFrom (lists s) k (s .args .c) (kindOf (s .args .kind)) in
+    record {
+      numbers-are =
+          filled-three f (s .args .point .now) (s .pre .room)
           (read-back w32 (told .struct-told .given .0 .1) (ap (λ (p : ControlPoint). p .x) (v .point-values .ensures)))
           (read-back w32 (told .struct-told .given .1 .0 .1) (ap (λ (p : ControlPoint). p .y) (v .point-values .ensures)))
-          (read-back w32 (told .struct-told .given .1 .1 .0 .1) (ap (λ (p : ControlPoint). p .z) (v .point-values .ensures))),
-      c .mark .ensures ∙ ap (λ (p : ControlPoint). indicator (p .exact)) (v .point-values .ensures),
-    )
+          (read-back w32 (told .struct-told .given .1 .1 .0 .1) (ap (λ (p : ControlPoint). p .z) (v .point-values .ensures)));
+      mark-is = c .mark .ensures ∙ ap (λ (p : ControlPoint). indicator (p .exact)) (v .point-values .ensures);
+    }
 
 pub write-point-spec : {M : Type 1} → statement M
 write-point-spec =
