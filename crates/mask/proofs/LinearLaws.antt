@@ -10,7 +10,8 @@ use native.Mathlib.Nat.{mul-pos, mul-le-mul-left}
 use native.Mathlib.Omega.{arith}
 use lib.IntN.{ℤ, pos, natAbs, _+ℤ_, _*ℤ_}
 use Rattle.integer.proofs.Laws.{abs-+, abs-*}
-use Rattle.mask.specs.Mask.{Fraction, innerMask, edgeMask, boundaryEdgeMask, smoothCornerMask, boundaryCornerMask, vertexMask, sharpCornerMask, maxSharpness}
+use Rattle.mask.specs.Mask.{Fraction, innerMask, edgeMask, boundaryEdgeMask, smoothCornerMask, boundaryCornerMask, vertexMask}
+use Rattle.mask.specs.Mask.{sharpCornerMask, maxSharpness}
 
 pub record Linear (R : ℕ → ℤ → ℤ → Type 0) : Type 0 where
   pub nil : R 0 (pos 0) (pos 0)
@@ -71,7 +72,8 @@ module _ {R : ℕ → ℤ → ℤ → Type 0} (L : Linear R) where
   sharp-corner-mask g l hp hs = record {
     positive = omega arith;
     same = refl;
-    related = cast (let t : (64 + 2 * g) * 1 + (maxSharpness - g) * 2 ≡ 96 = omega arith in t) (L .plus (L .scale (64 + 2 * g) hp) (L .scale (maxSharpness - g) hs));
+    related = cast (let t : (64 + 2 * g) * 1 + (maxSharpness - g) * 2 ≡ 96 = omega arith in t)
+        (L .plus (L .scale (64 + 2 * g) hp) (L .scale (maxSharpness - g) hs));
   }
 
   pub vertex-mask : {p p' : ℤ} → R 1 p p' → Related R (vertexMask p) (vertexMask p')

@@ -56,10 +56,14 @@ module _ (M : IndexedMesh) (d : Lent) {m : Mesh} (answer : result m ≡ patchAns
   lists-long = none-met (listsShort M d) 2 none (early-passed M (patchRows M d) (parts .0) .0) .0
 
   pub twins-long : corners M ≤ length (d .twins)
-  twins-long = ltb-false (length (d .twins)) (corners M) (or-false (twinsShort M (d .twins)) (patchesShort M (d .patches) || exactShort M (d .marks)) lists-long .0)
+  twins-long =
+      ltb-false (length (d .twins)) (corners M)
+      (or-false (twinsShort M (d .twins)) (patchesShort M (d .patches) || exactShort M (d .marks)) lists-long .0)
 
   written-long : (patchesShort M (d .patches) ≡ false) × (exactShort M (d .marks) ≡ false)
-  written-long = or-false (patchesShort M (d .patches)) (exactShort M (d .marks)) (or-false (twinsShort M (d .twins)) (patchesShort M (d .patches) || exactShort M (d .marks)) lists-long .1)
+  written-long =
+      or-false (patchesShort M (d .patches)) (exactShort M (d .marks))
+      (or-false (twinsShort M (d .twins)) (patchesShort M (d .patches) || exactShort M (d .marks)) lists-long .1)
 
   pub patches-long : 48 * M .faces ≤ length (d .patches)
   patches-long = ltb-false (length (d .patches)) (48 * M .faces) (written-long .0)

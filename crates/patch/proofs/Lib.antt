@@ -6,6 +6,7 @@ pub mod TurnedLaws
 pub mod WrittenLaws
 pub mod MaskLaws
 pub mod SumLaws
+pub mod FillingLaws
 pub mod TableLaws
 pub mod CornerTableLaws
 pub mod RuledLaws

@@ -6,7 +6,6 @@ use mathlib.Core.List.{List}
 use Prim.Native.Nat.{ℕ, _+_, _-_, _*_, _≤_, _<_}
 use native.Mathlib.Nat.{lt-of-lt-of-le}
 use native.Mathlib.Omega.{arith}
-use lib.Dec.{eqb}
 use lib.IntN.{ℤ, pos, natAbs, _*ℤ_}
 use lib.ListN.{length, getD}
 use Rattle.integer.specs.Nearest.{nearest, whole}
@@ -29,9 +28,11 @@ use Rattle.mask.proofs.RuleLaws.{Scaled, rule-inside, rule-boundary, rule-scale
 use Rattle.patch.specs.Point.{faces, inside, weight, sharp, sharpSum, ringSum, fixed, cornerPoint}
 use Rattle.patch.specs.Patch.{shape, view, units, exactly}
 use Rattle.patch.specs.Lists.{shapeOf, seen, endsIn, sharpSumBy}
-use Rattle.patch.specs.PatchTables.{Counts, rule, tagged, endsOf, Renderable, Roomy, Rendered, Allowed, ruledPoint, CornerSource, CornerPoints, Tables}
+use Rattle.patch.specs.PatchTables.{Counts, rule, ruleBy, tagged, endsOf, Renderable, Roomy, Rendered}
+use Rattle.patch.specs.PatchTables.{Allowed, ruledPoint, CornerSource, CornerPoints, Tables}
 use Rattle.patch.proofs.FacePointLaws.{boundary-in, sharp-in}
-use Rattle.patch.proofs.TableLaws.{ring-seen, sharp-seen, accepted-whole, accepted-indices, faces-range, accepted-coordinates, ring-size, sharp-most, sharp-size}
+use Rattle.patch.proofs.TableLaws.{ring-seen, sharp-seen, ring-size, sharp-most, sharp-size}
+use Rattle.patch.proofs.TableLaws.{accepted-whole, accepted-indices, accepted-coordinates, faces-range}
 
 -- ---- a fraction with both parts multiplied has the same value and the same mark
 module _ {q q' : Fraction} (s : Scaled q q') where
@@ -52,7 +53,7 @@ held f g n d table h e i l = ap (λ (t : List ℕ). getD t i 0) e ∙ filled-at 
 
 module _ {tags faces twins : List ℕ} (t : Renderable tags faces twins) where
   pub rendered-rules : (valences leaving rules₀ rules : List ℕ) → Counts (shapeOf faces) valences leaving
-      → rules ≡ filled (λ p. cornerRule (eqb (getD leaving p 0) 0) (getD tags p 0) (getD valences p 0)) (length tags) rules₀
+      → rules ≡ filled (ruleBy tags valences leaving) (length tags) rules₀
       → Holds 0 rules (length tags) (rule (tagged tags faces))
   unfolding rule
   rendered-rules valences leaving rules₀ rules k =

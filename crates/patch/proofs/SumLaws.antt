@@ -83,6 +83,10 @@ module _ (at : ℕ → ℕ) (p : ℕ) where
       → ((c : ℕ) → c < n → natAbs (f c) ≤ 5 * maxCoordinate) → natAbs (getD table p (pos 0)) ≤ 5 * maxCoordinate * n
   scattered-bound f n s l h = rw (s .gathered p l) (gather-bound f n h)
 
+  pub scattered-few : (f : ℕ → ℕ) (n : ℕ) {table₀ table : List ℕ} → Scattered 0 _+_ at f n table₀ table → p < maxVertices → ((c : ℕ) → f c ≤ 1)
+      → getD table p 0 ≤ n
+  scattered-few f n s l h = rw (s .gathered p l) (gather-few f n h)
+
   -- no corner at p has t exactly when their count is 0
   pub count-none : (t : ℕ → Bool) (n : ℕ) → eqb (gather 0 _+_ at (λ c. indicator (t c)) n p) 0 ≡ not (anyAt at n p t)
   unfolding foldBelow

@@ -1,14 +1,20 @@
 -- The tables by vertex and by corner that the patches are written from.
 --
 --   rule G p           how the corner point of vertex p is made, as one number
+--   ruleBy tags valences leaving p   the same, as the tags and the tables of counts tell
 --   tagged tags faces  the shape of a mesh with its tags, by its lists
 --   Counts G valences leaving   the faces of each vertex, and whether it is inside: no boundary half-edge leaves it
 --   endsOf G c         which neighbours of corner c count as far ends of sharp edges, as a byte
 --   Blank z table      a table with a place for each vertex, with z at each
+--   ForCounts faces twins valences leaving, ForWeights faces valences leaving weights, ForRules tags valences leaving rules, ForEnds twins n ends
+--                      what is asked to count the faces of each vertex, to write the weights, the rules, and the ends of n corners: the lists serve, and
+--                      there is room
 --   Renderable tags faces twins, Roomy v n rules weights ends   what the three tables are read from, and room for v vertices and n corners in them
+--   ForRender tags faces twins rules weights ends   both
 --   Rendered G v rules weights ends   the rule of each of v vertices, and of each corner its weight and its far ends of sharp edges: all that is kept
 --                      of the tags and of the counts
 --   Termed positions faces ends k c   what the terms of corner c in the two sums are read from
+--   ForSharp positions faces ends k c p sharp   what is asked to add the term of corner c to the sharp sum at place p
 --   Summable positions faces ends k ring sharp   what the two sums are made from, and where
 --   Sums S ends ring sharp   the two sums at each vertex
 --   Allowed r p ring sharp   by the rule r, the coordinate p and the two sums make a corner point within the range of the coordinates: the sum that r
@@ -36,7 +42,7 @@ use Rattle.corner.specs.Corner.{prev}
 use Rattle.mesh.specs.HalfEdge.{boundary}
 use Rattle.mesh.specs.Fan.{valence}
 use Rattle.mesh.specs.IndexedMesh.{IndexedMesh, corners}
-use Rattle.mesh.specs.Tables.{Holds, Indices, vertexOf}
+use Rattle.mesh.specs.Tables.{Corners, Holds, Indices, vertexOf}
 use Rattle.mesh.specs.WellFormed.{WellFormed}
 use Rattle.mask.specs.Mask.{Fraction, maxSharpness, cornerRule, cornerMask}
 use Rattle.patch.specs.Point.{Shape, View, faces, inside, weight, sharp, ringSum, cornerPoint}
@@ -59,6 +65,35 @@ pub record Counts (G : Shape) (valences leaving : List ℕ) : Type 0 where
 unfoldable pub endsOf : Shape → ℕ → ℕ
 endsOf G c = endsByte (sharp G c) (boundary (G .at) (G .n) (prev c))
 
+pub record Blank {A : Type 0} (z : A) (table : List A) : Type 0 where
+  pub listed : maxVertices ≤ length table
+  pub holds : Holds z table maxVertices (λ p. z)
+
+pub record ForCounts (faces twins valences leaving : List ℕ) : Type 0 where
+  pub indices : Indices faces (length faces)
+  pub twinned : Twins faces twins
+  pub valences-blank : Blank 0 valences
+  pub leaving-blank : Blank 0 leaving
+
+pub record ForWeights (faces valences leaving weights : List ℕ) : Type 0 where
+  pub indices : Indices faces (length faces)
+  pub counts : Counts (shapeOf faces) valences leaving
+  pub room : length faces ≤ length weights
+
+pub record ForRules (tags valences leaving rules : List ℕ) : Type 0 where
+  pub valences-listed : length tags ≤ length valences
+  pub leaving-listed : length tags ≤ length leaving
+  pub few : (p : ℕ) → p < length tags → getD valences p 0 ≤ maxValence
+  pub room : length tags ≤ length rules
+
+pub record ForEnds (twins : List ℕ) (n : ℕ) (ends : List ℕ) : Type 0 where
+  pub corners : Corners n
+  pub twins-listed : n ≤ length twins
+  pub room : n ≤ length ends
+
+abbrev pub ruleBy : List ℕ → List ℕ → List ℕ → ℕ → ℕ
+ruleBy tags valences leaving p = cornerRule (eqb (getD leaving p 0) 0) (getD tags p 0) (getD valences p 0)
+
 pub record Renderable (tags faces twins : List ℕ) : Type 0 where
   pub few : length tags ≤ maxVertices
   pub indices : Indices faces (length faces)
@@ -70,19 +105,24 @@ pub record Roomy (v n : ℕ) (rules weights ends : List ℕ) : Type 0 where
   pub weights-listed : n ≤ length weights
   pub ends-listed : n ≤ length ends
 
+pub record ForRender (tags faces twins rules weights ends : List ℕ) : Type 0 where
+  pub source : Renderable tags faces twins
+  pub room : Roomy (length tags) (length faces) rules weights ends
+
 pub record Rendered (G : Shape) (v : ℕ) (rules weights ends : List ℕ) : Type 0 where
   pub rules-are : Holds 0 rules v (rule G)
   pub weights-are : Holds 0 weights (G .n) (weight G)
   pub ends-are : Holds 0 ends (G .n) (endsOf G)
 
-pub record Blank {A : Type 0} (z : A) (table : List A) : Type 0 where
-  pub listed : maxVertices ≤ length table
-  pub holds : Holds z table maxVertices (λ p. z)
-
 pub record Termed (positions : List ℤ) (faces ends : List ℕ) (k c : ℕ) : Type 0 where
   pub placed : Coordinates positions faces k
   pub ends-listed : length faces ≤ length ends
   pub below : c < length faces
+
+pub record ForSharp (positions : List ℤ) (faces ends : List ℕ) (k c p : ℕ) (sharp : List ℤ) : Type 0 where
+  pub source : Termed positions faces ends k c
+  pub place : p < length sharp
+  pub small : natAbs (getD sharp p (pos 0)) ≤ 5120 * maxCoordinate
 
 pub record Summable (positions : List ℤ) (faces ends : List ℕ) (k : ℕ) (ring sharp : List ℤ) : Type 0 where
   pub indices : Indices faces (length faces)

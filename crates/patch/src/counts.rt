@@ -6,17 +6,13 @@ use crate::values::turned;
 use corner::wide;
 use limits::model::Mesh;
 ghost use mathlib.Core.Path.{_≡_};
-ghost use Prim.Native.Nat.{ℕ, _+_, _≤_, _<_};
-ghost use lib.Dec.{eqb};
+ghost use Prim.Native.Nat.{_+_, _<_};
 ghost use lib.ListN.{length, getD, set};
 ghost use Rattle.finite.specs.Fold.{indicator};
 ghost use Rattle.finite.specs.Filled.{filled};
-ghost use Rattle.limits.specs.Limits.{maxVertices, maxValence};
-ghost use Rattle.mask.specs.Mask.{cornerRule};
-ghost use Rattle.mesh.specs.Tables.{Corners, Holds, Indices};
 ghost use Rattle.patch.specs.Point.{weight};
-ghost use Rattle.patch.specs.Lists.{shapeOf, Twins, endsByte, endsIn};
-ghost use Rattle.patch.specs.PatchTables.{Counts, Renderable, Roomy, Rendered, tagged};
+ghost use Rattle.patch.specs.Lists.{shapeOf, endsByte, endsIn};
+ghost use Rattle.patch.specs.PatchTables.{Counts, ForCounts, ForWeights, ForRules, ForEnds, ForRender, Rendered, ruleBy, tagged};
 
 // 1 for true, 0 for false.
 fn one_if(b: bool) -> u16
@@ -38,9 +34,7 @@ fn count_at(counts: &mut [u16], p: usize, n: u16)
 
 // Counts the faces of each vertex, and the boundary half-edges that leave it, over tables of zeros.
 fn count_faces(faces: &[u16], twins: &[u16], valences: &mut [u16], leaving: &mut [u16])
-    requires { ⌜ Indices (now faces) (length (now faces)) × Twins (now faces) (now twins) ⌝ }
-    requires { ⌜ (maxVertices ≤ length (now valences)) × (maxVertices ≤ length (now leaving)) ⌝ }
-    requires { ⌜ Holds 0 (now valences) maxVertices (λ p. 0) × Holds 0 (now leaving) maxVertices (λ p. 0) ⌝ }
+    requires { ⌜ ForCounts (now faces) (now twins) (now valences) (now leaving) ⌝ }
     ensures { λ _. ⌜ Counts (shapeOf (now (faces .entry))) (now (valences .exit)) (now (leaving .exit)) ⌝ }
 {
     for c in 0..faces.len() {
@@ -52,8 +46,7 @@ fn count_faces(faces: &[u16], twins: &[u16], valences: &mut [u16], leaving: &mut
 
 // Writes the weight of each corner.
 fn fill_weights(faces: &[u16], valences: &[u16], leaving: &[u16], weights: &mut [u16])
-    requires { ⌜ Indices (now faces) (length (now faces)) × Counts (shapeOf (now faces)) (now valences) (now leaving) ⌝ }
-    requires { ⌜ length (now faces) ≤ length (now weights) ⌝ }
+    requires { ⌜ ForWeights (now faces) (now valences) (now leaving) (now weights) ⌝ }
     ensures { λ _. ⌜ now (weights .exit) ≡ filled (weight (shapeOf (now (faces .entry)))) (length (now (faces .entry))) (now (weights .entry)) ⌝ }
 {
     for c in 0..faces.len() {
@@ -64,11 +57,9 @@ fn fill_weights(faces: &[u16], valences: &[u16], leaving: &[u16], weights: &mut 
 
 // Writes the rule of each vertex.
 fn fill_rules(tags: &[u8], valences: &[u16], leaving: &[u16], rules: &mut [u8])
-    requires { ⌜ (length (now tags) ≤ length (now valences)) × (length (now tags) ≤ length (now leaving)) × (length (now tags) ≤ length (now rules)) ⌝ }
-    requires { ⌜ ((p : ℕ) → p < length (now tags) → getD (now valences) p 0 ≤ maxValence) ⌝ }
+    requires { ⌜ ForRules (now tags) (now valences) (now leaving) (now rules) ⌝ }
     ensures { λ _. ⌜ now (rules .exit)
-        ≡ filled (λ p. cornerRule (eqb (getD (now (leaving .entry)) p 0) 0) (getD (now (tags .entry)) p 0) (getD (now (valences .entry)) p 0))
-        (length (now (tags .entry))) (now (rules .entry)) ⌝ }
+        ≡ filled (ruleBy (now (tags .entry)) (now (valences .entry)) (now (leaving .entry))) (length (now (tags .entry))) (now (rules .entry)) ⌝ }
 {
     for p in 0..tags.len() {
         rules[p] = mask::corner_rule(leaving[p] == 0, tags[p], valences[p]) as u8;
@@ -85,7 +76,7 @@ fn ends_byte(next: bool, prev: bool) -> u8
 // Writes which neighbours of each of n corners are far ends of sharp edges: the next vertex where the half-edge is sharp, the previous one where
 // the half-edge before has no twin that would count it.
 fn fill_ends(twins: &[u16], n: usize, ends: &mut [u8])
-    requires { ⌜ Corners n × (n ≤ length (now twins)) × (n ≤ length (now ends)) ⌝ }
+    requires { ⌜ ForEnds (now twins) n (now ends) ⌝ }
     ensures { λ _. ⌜ now (ends .exit) ≡ filled (endsIn (now (twins .entry))) n (now (ends .entry)) ⌝ }
 {
     for c in 0..n {
@@ -102,8 +93,7 @@ pub(crate) fn render(
     weights: &mut [u16],
     ends: &mut [u8],
 )
-    requires { ⌜ Renderable (now tags) (now faces) (now twins) ⌝ }
-    requires { ⌜ Roomy (length (now tags)) (length (now faces)) (now rules) (now weights) (now ends) ⌝ }
+    requires { ⌜ ForRender (now tags) (now faces) (now twins) (now rules) (now weights) (now ends) ⌝ }
     ensures { λ _. ⌜ Rendered (tagged (now (tags .entry)) (now (faces .entry))) (length (now (tags .entry)))
         (now (rules .exit)) (now (weights .exit)) (now (ends .exit)) ⌝ }
 {

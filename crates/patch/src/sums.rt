@@ -9,7 +9,7 @@ ghost use lib.ListN.{length, getD, set};
 ghost use Rattle.limits.specs.Limits.{maxCoordinate};
 ghost use Rattle.patch.specs.Point.{ringTerm};
 ghost use Rattle.patch.specs.Lists.{seen, Coordinates, sharpTermBy};
-ghost use Rattle.patch.specs.PatchTables.{Termed, Summable, Sums};
+ghost use Rattle.patch.specs.PatchTables.{Termed, ForSharp, Summable, Sums};
 
 // The sum of two numbers.
 fn plus(a: i64, b: i64) -> i64
@@ -66,8 +66,7 @@ fn add_sharp(
     p: usize,
     sharp: &mut [i64],
 )
-    requires { ⌜ Termed (now positions) (now faces) (now ends) k c ⌝ }
-    requires { ⌜ (p < length (now sharp)) × (natAbs (getD (now sharp) p (pos 0)) ≤ 5120 * maxCoordinate) ⌝ }
+    requires { ⌜ ForSharp (now positions) (now faces) (now ends) k c p (now sharp) ⌝ }
     ensures { λ _. ⌜ now (sharp .exit) ≡ set (now (sharp .entry)) p
         (getD (now (sharp .entry)) p (pos 0) +ℤ sharpTermBy (seen (now (positions .entry)) (now (faces .entry)) k) (now (ends .entry)) c) ⌝ }
 {

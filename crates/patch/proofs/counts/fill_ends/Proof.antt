@@ -1,19 +1,17 @@
 -- `fill_ends` meets its contract: each byte is made of what the twins tell of half-edge c and of the one before it.
-use mathlib.Core.Path.{_≡_, refl, ap, ap₂, _∙_}
-use Prim.Native.Nat.{_-_, _<_, _≤_}
-use native.Mathlib.Numerals.{add-one-le, add-one-dec}
+use mathlib.Core.Path.{_≡_, ap, ap₂, _∙_}
+use Prim.Native.Nat.{_-_, _<_}
+use native.Mathlib.Numerals.{add-one-dec}
 use native.Mathlib.Omega.{arith}
-use lib.ListN.{length, length-set}
-use Rattle.finite.specs.Filled.{filled}
-use Rattle.finite.proofs.FilledLaws.{filled-start, filled-more, filled-all}
 use Rattle.corner.specs.Corner.{prev}
 use Rattle.mesh.proofs.CornerLaws.{prev-below}
 use Rattle.patch.specs.Lists.{boundaryIn, endsByte, endsIn}
+use Rattle.patch.proofs.FillingLaws.{Filling, filling-none, filling-room, filling-more, filling-all}
 use Rattle.patch.proofs.counts.fill_ends.Statement.{statement}
 use Rattle.patch.proofs.counts.fill_ends.Tie as tie
 
 abbrev Inv-loop : tie.InvT-loop
-Inv-loop twins n ends₀ c₀ ends c = (c ≤ n) × (length ends ≡ length ends₀) × (ends ≡ filled (endsIn twins) c ends₀)
+Inv-loop twins n ends₀ c₀ ends c = Filling (endsIn twins) n ends₀ ends c
 
 abbrev μ-loop : tie.MeasureT-loop
 μ-loop twins n ends₀ c₀ ends c = n - c
@@ -30,13 +28,13 @@ module _ (c : tie.In-loop Inv-loop μ-loop) where
   below = c .loop-test .taken
 
   before-below : prev (head .loop .c) < start .args .n
-  before-below = prev-below (start .pre .0) (head .loop .c) below
+  before-below = prev-below (start .pre .corners) (head .loop .c) below
 
 loop-holds : tie.Need-loop-holds Inv-loop μ-loop
-loop-holds c = (omega arith, refl, filled-start _ _)
+loop-holds c = filling-none
 
 is-sharp-requires : tie.Need-is-sharp-requires Inv-loop μ-loop
-is-sharp-requires c κs = omega (arith, below c, start c .pre .1)
+is-sharp-requires c κs = omega (arith, below c, start c .pre .twins-listed)
 
 turned-requires : tie.Need-turned-requires Inv-loop μ-loop
 turned-requires c κs = omega arith
@@ -44,7 +42,7 @@ turned-requires c κs = omega arith
 is-boundary-requires : tie.Need-is-boundary-requires Inv-loop μ-loop
 is-boundary-requires c κs =
     let t = c .before .before in
-    rw (c .turned .ensures) (omega (arith, before-below t, start t .pre .1))
+    rw (c .turned .ensures) (omega (arith, before-below t, start t .pre .twins-listed))
 
 ends-byte-requires : tie.Need-ends-byte-requires Inv-loop μ-loop
 ends-byte-requires c κs = tt
@@ -63,11 +61,8 @@ module _ (c : tie.After-ends-byte Inv-loop μ-loop) where
       ∙ ap₂ endsByte (turned .before .is-sharp .ensures)
       (c .before .is-boundary .ensures ∙ ap (boundaryIn (start turn .args .twins .now)) (turned .turned .ensures))
 
-  room : head turn .loop .c < length (head turn .loop .ends)
-  room = omega (arith, below turn, start turn .pre .2, head turn .loop .inv .1)
-
 slice-write-ends : tie.Need-slice-write-ends Inv-loop μ-loop
-slice-write-ends c = room c
+slice-write-ends c = let t = turn c in filling-room (start t .pre .room) (head t .loop .inv) (below t)
 
 add-c : tie.Need-add-c Inv-loop μ-loop
 add-c c = omega (arith, below (turn c), start (turn c) .fits .n)
@@ -76,19 +71,13 @@ loop-less : tie.Need-loop-less Inv-loop μ-loop
 loop-less c = add-one-dec _ _ (below (turn c))
 
 loop-again : tie.Need-loop-again Inv-loop μ-loop
-loop-again c =
-    let l = head (turn c) .loop in
-    let s = start (turn c) in (
-      add-one-le (below (turn c)),
-      length-set (l .ends) (l .c) _ ∙ l .inv .1,
-      filled-more _ (l .c) _ (s .args .ends .now) (l .ends) (omega (arith, below (turn c), s .pre .2)) (l .inv .2) (byte c),
-    )
+loop-again c = let t = turn c in filling-more (start t .pre .room) (head t .loop .inv) (below t) (byte c)
 
 same-length : tie.Need-same-length Inv-loop μ-loop
-same-length c = c .before .loop .inv .1
+same-length c = c .before .loop .inv .long
 
 returns : tie.Need-returns Inv-loop μ-loop
-returns c = let l = c .before .loop in filled-all _ _ _ _ (l .ends) (l .inv .0) (c .loop-test .left) (l .inv .2)
+returns c = filling-all (c .before .loop .inv) (c .loop-test .left)
 
 pub fill-ends-spec : {M : Type 1} → statement M
 fill-ends-spec =

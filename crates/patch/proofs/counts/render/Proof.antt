@@ -6,7 +6,7 @@ use native.Mathlib.Nat.{lt-of-lt-of-le}
 use native.Mathlib.Omega.{arith}
 use borrow.Author.Needs.{needs}
 use Rattle.mesh.proofs.SizeLaws.{indices-corners}
-use Rattle.patch.proofs.TableLaws.{same-all}
+use Rattle.patch.proofs.TableLaws.{blank}
 use Rattle.patch.proofs.RuledLaws.{rendered-rules, rendered-weights, rendered-ends}
 use Rattle.patch.proofs.counts.render.Statement.{statement}
 use Rattle.patch.proofs.counts.render.Tie as tie
@@ -23,8 +23,8 @@ slice-aggregate-count-faces-2 c = search needs
 
 count-faces-requires : tie.Need-count-faces-requires
 count-faces-requires c κs =
-    let t = made c .pre .0 in
-    ((t .indices, t .twinned), ((omega arith, omega arith), (same-all 0 0, same-all 0 0)))
+    let t = made c .pre .source in
+    record { indices = t .indices; twinned = t .twinned; valences-blank = blank 0; leaving-blank = blank 0 }
 
 -- ---- the weights
 module _ (c : tie.After-fill-weights-arg) where
@@ -47,7 +47,9 @@ slice-aggregate-fill-weights-2 : tie.Need-slice-aggregate-fill-weights-2
 slice-aggregate-fill-weights-2 c = search needs
 
 fill-weights-requires : tie.Need-fill-weights-requires
-fill-weights-requires c κs = ((start c .pre .0 .indices, counted c .count-faces .ensures), start c .pre .1 .weights-listed)
+fill-weights-requires c κs =
+    let s = start c in
+    record { indices = s .pre .source .indices; counts = counted c .count-faces .ensures; room = s .pre .room .weights-listed }
 
 -- ---- the rules
 module _ (c : tie.After-fill-rules-arg) where
@@ -66,11 +68,14 @@ slice-aggregate-fill-rules-2 c = search needs
 fill-rules-requires : tie.Need-fill-rules-requires
 fill-rules-requires c κs =
     let b = weighed c .before in
-    let t = start b .pre .0 in
-    let counts = counted b .count-faces .ensures in (
-      (omega (arith, t .few, counts .valences-listed), omega (arith, t .few, counts .leaving-listed), start b .pre .1 .rules-listed),
-      λ p h. rw (counts .valences-are p (lt-of-lt-of-le h (t .few))) (t .valences-few p h),
-    )
+    let t = start b .pre .source in
+    let counts = counted b .count-faces .ensures in
+    record {
+      valences-listed = omega (arith, t .few, counts .valences-listed);
+      leaving-listed = omega (arith, t .few, counts .leaving-listed);
+      few = λ p h. rw (counts .valences-are p (lt-of-lt-of-le h (t .few))) (t .valences-few p h);
+      room = start b .pre .room .rules-listed;
+    }
 
 -- ---- the far ends of sharp edges
 module _ (c : tie.After-fill-ends-arg) where
@@ -86,7 +91,7 @@ module _ (c : tie.After-fill-ends-arg) where
 fill-ends-requires : tie.Need-fill-ends-requires
 fill-ends-requires c κs =
     let s = start (begun c) in
-    (indices-corners (s .pre .0 .indices), s .pre .0 .twinned .listed, s .pre .1 .ends-listed)
+    record { corners = indices-corners (s .pre .source .indices); twins-listed = s .pre .source .twinned .listed; room = s .pre .room .ends-listed }
 
 -- ---- the end
 same-length : tie.Need-same-length
@@ -107,10 +112,10 @@ returns c =
     let s = start b in
     record {
       rules-are =
-          rendered-rules (s .pre .0) (valences b) (leaving b) (s .args .rules .now) (rules (e .before))
+          rendered-rules (s .pre .source) (valences b) (leaving b) (s .args .rules .now) (rules (e .before))
           (counted b .count-faces .ensures) (r .fill-rules .ensures);
-      weights-are = rendered-weights (s .pre .0) (s .args .weights .now) (weights (r .before)) (w .fill-weights .ensures);
-      ends-are = rendered-ends (s .pre .0) (s .args .ends .now) (e .fill-ends .last .1 .1 .0) (e .fill-ends .ensures);
+      weights-are = rendered-weights (s .pre .source) (s .args .weights .now) (weights (r .before)) (w .fill-weights .ensures);
+      ends-are = rendered-ends (s .pre .source) (s .args .ends .now) (e .fill-ends .last .1 .1 .0) (e .fill-ends .ensures);
     }
 
 pub render-spec : {M : Type 1} → statement M

@@ -45,15 +45,16 @@ slice-aggregate-render-3 c = refl
 render-requires : tie.Need-render-requires
 render-requires c κs =
     let s = made c in
-    let a = s .pre .accepted in (
-      record {
+    let a = s .pre .accepted in
+    record {
+      source = record {
         few = vertices-few s;
         indices = accepted-indices a;
         twinned = s .pre .twinned;
         valences-few = λ p l. rw (faces-seen (mesh s) (accepted-whole a) p) (faces-range a p (rw (a .sized .tags-are) at l) .1);
-      },
-      record { rules-listed = vertices-few s; weights-listed = corners-few s; ends-listed = corners-few s },
-    )
+      };
+      room = record { rules-listed = vertices-few s; weights-listed = corners-few s; ends-listed = corners-few s };
+    }
 
 -- ---- before the corner points are written: what the pass gave
 module _ (c : tie.After-marks) where

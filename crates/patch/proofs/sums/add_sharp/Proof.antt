@@ -29,7 +29,7 @@ module _ (s : tie.Start) where
 
   term-small : natAbs term ≤ 5 * maxCoordinate
   term-small =
-      let t = s .pre .0 in
+      let t = s .pre .source in
       let e = getD (s .args .ends .now) (s .args .c) 0 in
       sharp-term-size S (t .placed .corners) (t .placed .small) (nextCounts e) (prevCounts e) (s .args .c) (t .below)
 
@@ -53,12 +53,12 @@ term-read : (c : tie.After-sharp-term) → toZ w64 (ofZ w64 (c .sharp-term .resu
 term-read c = read-back w64 (c .sharp-term .ok) (c .sharp-term .ensures)
 
 sharp-term-requires : tie.Need-sharp-term-requires
-sharp-term-requires c κs = tested c .pre .0
+sharp-term-requires c κs = tested c .pre .source
 
 add-at-requires : tie.Need-add-at-requires
 add-at-requires c κs =
     let s = tested (c .before) in
-    (s .pre .1 .0, rw (term-read c) (omega (arith, term-small s, s .pre .1 .1)))
+    (s .pre .place, rw (term-read c) (omega (arith, term-small s, s .pre .small)))
 
 same-length : tie.Need-same-length
 same-length c = search needs

@@ -112,10 +112,12 @@ module _ (c : tie.After-add-sharp-arg Inv-loop μ-loop) where
 add-sharp-requires : tie.Need-add-sharp-requires Inv-loop μ-loop
 add-sharp-requires c κs =
     let w = turn c in
-    let s = start w in (
-      record { placed = s .pre .placed; ends-listed = s .pre .ends-listed; below = below w },
-      (scattered-place (s .pre .sharp-blank) (head w .loop .inv .second-is) (named w), omega (arith, sharp-small w, few w)),
-    )
+    let s = start w in
+    record {
+      source = record { placed = s .pre .placed; ends-listed = s .pre .ends-listed; below = below w };
+      place = scattered-place (s .pre .sharp-blank) (head w .loop .inv .second-is) (named w);
+      small = omega (arith, sharp-small w, few w);
+    }
 
 -- ---- the end of a turn
 abbrev lent : tie.After-sharp Inv-loop μ-loop → tie.After-add-sharp-arg Inv-loop μ-loop
