@@ -5,6 +5,9 @@
 --   boundaryIn twins c, sharpIn twins c   half-edge c has no twin, and takes the boundary rule, by the list of twins
 --   Twins faces twins  the twins of all the half-edges are listed
 --   Linked faces twins   every half-edge has an entry, which is a half-edge or none
+--   ForFace positions faces k c   what is asked to read coordinate k of the face of corner c
+--   ForInner positions faces weights k c, ForHalfEdge positions faces twins weights k c   what is asked to make coordinate k of the inner point, and of
+--                      an edge point, that corner c owns
 --   innerBy S weights c, edgeBy S weights c d, alongBy S twins weights c, beforeBy S twins weights c   the points that corner c owns, as those tables tell
 --   endsByte next prev   which neighbours of a corner count as far ends of sharp edges, as a byte: 1 the next vertex, 2 the previous one, 3 both, 0 none
 --   endsIn twins c     that byte of corner c: the next vertex where half-edge c is sharp, the previous one where the half-edge before c has no twin
@@ -49,6 +52,19 @@ pub record Twins (faces twins : List ℕ) : Type 0 where
 pub record Linked (faces twins : List ℕ) : Type 0 where
   pub listed : length faces ≤ length twins
   pub below : (c : ℕ) → c < length faces → sharpIn twins c ≡ false → twinOf twins c < length faces
+
+pub record ForFace (positions : List ℤ) (faces : List ℕ) (k c : ℕ) : Type 0 where
+  pub placed : Coordinates positions faces k
+  pub corner : c < length faces
+
+pub record ForInner (positions : List ℤ) (faces weights : List ℕ) (k c : ℕ) : Type 0 where
+  pub placed : Coordinates positions faces k
+  pub weighed : length faces ≤ length weights
+  pub corner : c < length faces
+
+pub record ForHalfEdge (positions : List ℤ) (faces twins weights : List ℕ) (k c : ℕ) : Type 0 where
+  pub inner : ForInner positions faces weights k c
+  pub linked : Linked faces twins
 
 unfoldable pub innerBy : View → List ℕ → ℕ → Fraction
 innerBy S weights c = innerMask (getD weights c 0) (x S c) (x S (next c)) (x S (prev c)) (x S (across c))

@@ -2,8 +2,9 @@
 --
 --   PatchLists         the lists that a patch is written from: those of the mesh, its twins, and the tables of weights, corner points and their marks
 --   Source D           these lists serve every corner
---   ForPoint D c point, ForNumbered D g m point, ForPatch D g patch exact, ForPatches D f patches exact   what is asked to write a point of corner c,
---                      point m of face g, the patch of face g, those of f faces: the lists serve, and there is room
+--   ForValues D c, ForPoint D c point, ForNumbered D g m point, ForPatch D g patch exact, ForPatches D f patches exact   what is asked to make a
+--                      point of corner c, to write it, point m of face g, the patch of face g, those of f faces: the lists serve, and there is room
+--   ForVertex faces points marks c   what is asked to look up the corner point of the vertex of corner c
 --   kindOf q           the kind of point, for each case of the code's enum `Kind`
 --   pointFrom D k c q  coordinate k of the point of kind q at corner c, in units: a corner point is looked up in the table of these
 --   exactFrom D c q    whether nothing is left in any coordinate of that point: for a corner point, whether its mark is 1
@@ -51,9 +52,17 @@ pub record Source (D : PatchLists) : Type 0 where
   pub pointed : (c k : ℕ) → c < length (D .faces) → k < 3 → 3 * vertexOf (D .faces) c + k < length (D .points)
   pub marked : (c : ℕ) → c < length (D .faces) → vertexOf (D .faces) c < length (D .marks)
 
-pub record ForPoint (D : PatchLists) (c : ℕ) (point : List ℤ) : Type 0 where
+pub record ForVertex (faces : List ℕ) (points : List ℤ) (marks : List ℕ) (c : ℕ) : Type 0 where
+  pub corner : c < length faces
+  pub pointed : (k : ℕ) → k < 3 → 3 * vertexOf faces c + k < length points
+  pub marked : vertexOf faces c < length marks
+
+pub record ForValues (D : PatchLists) (c : ℕ) : Type 0 where
   pub source : Source D
   pub corner : c < length (D .faces)
+
+pub record ForPoint (D : PatchLists) (c : ℕ) (point : List ℤ) : Type 0 where
+  pub values : ForValues D c
   pub room : 3 ≤ length point
 
 pub record ForNumbered (D : PatchLists) (g m : ℕ) (point : List ℤ) : Type 0 where

@@ -7,14 +7,14 @@ use crate::values::turned;
 use corner::wide;
 use mask::model::Fraction;
 ghost use mathlib.Core.Path.{_≡_};
-ghost use Prim.Native.Nat.{ℕ, _≤_, _<_};
+ghost use Prim.Native.Nat.{ℕ, _<_};
 ghost use lib.ListN.{length};
-ghost use Rattle.patch.specs.Lists.{seen, Coordinates, Linked, innerBy, edgeBy, alongBy, beforeBy};
+ghost use Rattle.patch.specs.Lists.{seen, ForInner, ForHalfEdge, innerBy, edgeBy, alongBy, beforeBy};
 ghost use Rattle.patch.specs.Values.{Made, inUnits};
 
 // The inner point at corner c, coordinate k.
 fn inner_point(positions: &[i32], faces: &[u16], weights: &[u16], k: usize, c: usize) -> Fraction
-    requires { ⌜ Coordinates (now positions) (now faces) k × (length (now faces) ≤ length (now weights)) × (c < length (now faces)) ⌝ }
+    requires { ⌜ ForInner (now positions) (now faces) (now weights) k c ⌝ }
     ensures { λ r. ⌜ Made (innerBy (seen (now (positions .entry)) (now (faces .entry)) k) (now (weights .entry)) c) r ⌝ }
 {
     mask::inner_mask(weights[c], face_values(positions, faces, k, c))
@@ -29,7 +29,7 @@ fn edge_point(
     c: usize,
     d: usize,
 ) -> Fraction
-    requires { ⌜ Coordinates (now positions) (now faces) k × (length (now faces) ≤ length (now weights)) × (c < length (now faces)) × (d < length (now faces)) ⌝ }
+    requires { ⌜ ForInner (now positions) (now faces) (now weights) k c × (d < length (now faces)) ⌝ }
     ensures { λ r. ⌜ Made (edgeBy (seen (now (positions .entry)) (now (faces .entry)) k) (now (weights .entry)) c d) r ⌝ }
 {
     mask::edge_mask(
@@ -48,7 +48,7 @@ fn along_point(
     k: usize,
     c: usize,
 ) -> Fraction
-    requires { ⌜ Coordinates (now positions) (now faces) k × (length (now faces) ≤ length (now weights)) × Linked (now faces) (now twins) × (c < length (now faces)) ⌝ }
+    requires { ⌜ ForHalfEdge (now positions) (now faces) (now twins) (now weights) k c ⌝ }
     ensures { λ r. ⌜ Made (alongBy (seen (now (positions .entry)) (now (faces .entry)) k) (now (twins .entry)) (now (weights .entry)) c) r ⌝ }
 {
     if is_sharp(twins, c) {
@@ -67,7 +67,7 @@ fn before_point(
     k: usize,
     c: usize,
 ) -> Fraction
-    requires { ⌜ Coordinates (now positions) (now faces) k × (length (now faces) ≤ length (now weights)) × Linked (now faces) (now twins) × (c < length (now faces)) ⌝ }
+    requires { ⌜ ForHalfEdge (now positions) (now faces) (now twins) (now weights) k c ⌝ }
     ensures { λ r. ⌜ Made (beforeBy (seen (now (positions .entry)) (now (faces .entry)) k) (now (twins .entry)) (now (weights .entry)) c) r ⌝ }
 {
     let h = turned(3, c);
@@ -85,8 +85,7 @@ pub(crate) fn inner_points(
     weights: &[u16],
     c: usize,
 ) -> ControlPoint
-    requires { ⌜ ((k : ℕ) → k < 3 → Coordinates (now positions) (now faces) k) × (c < length (now faces)) ⌝ }
-    requires { ⌜ (length (now faces) ≤ length (now weights)) ⌝ }
+    requires { ⌜ ((k : ℕ) → k < 3 → ForInner (now positions) (now faces) (now weights) k c) ⌝ }
     ensures { λ r. ⌜ r ≡ inUnits (λ k. innerBy (seen (now (positions .entry)) (now (faces .entry)) k) (now (weights .entry)) c) ⌝ }
 {
     point_in_units(
@@ -104,8 +103,7 @@ pub(crate) fn along_points(
     weights: &[u16],
     c: usize,
 ) -> ControlPoint
-    requires { ⌜ ((k : ℕ) → k < 3 → Coordinates (now positions) (now faces) k) × (c < length (now faces)) ⌝ }
-    requires { ⌜ (length (now faces) ≤ length (now weights)) × Linked (now faces) (now twins) ⌝ }
+    requires { ⌜ ((k : ℕ) → k < 3 → ForHalfEdge (now positions) (now faces) (now twins) (now weights) k c) ⌝ }
     ensures { λ r. ⌜ r ≡ inUnits (λ k. alongBy (seen (now (positions .entry)) (now (faces .entry)) k) (now (twins .entry)) (now (weights .entry)) c) ⌝ }
 {
     point_in_units(
@@ -123,8 +121,7 @@ pub(crate) fn before_points(
     weights: &[u16],
     c: usize,
 ) -> ControlPoint
-    requires { ⌜ ((k : ℕ) → k < 3 → Coordinates (now positions) (now faces) k) × (c < length (now faces)) ⌝ }
-    requires { ⌜ (length (now faces) ≤ length (now weights)) × Linked (now faces) (now twins) ⌝ }
+    requires { ⌜ ((k : ℕ) → k < 3 → ForHalfEdge (now positions) (now faces) (now twins) (now weights) k c) ⌝ }
     ensures { λ r. ⌜ r ≡ inUnits (λ k. beforeBy (seen (now (positions .entry)) (now (faces .entry)) k) (now (twins .entry)) (now (weights .entry)) c) ⌝ }
 {
     point_in_units(

@@ -8,7 +8,7 @@ ghost use lib.IntN.{pos, natAbs, _+ℤ_};
 ghost use lib.ListN.{length, getD, set};
 ghost use Rattle.limits.specs.Limits.{maxCoordinate};
 ghost use Rattle.patch.specs.Point.{ringTerm};
-ghost use Rattle.patch.specs.Lists.{seen, Coordinates, sharpTermBy};
+ghost use Rattle.patch.specs.Lists.{seen, ForFace, sharpTermBy};
 ghost use Rattle.patch.specs.PatchTables.{Termed, ForSharp, Summable, Sums};
 
 // The sum of two numbers.
@@ -29,7 +29,7 @@ fn add_at(sums: &mut [i64], p: usize, x: i64)
 
 // The term of corner c in the ring sum, of coordinate k.
 fn ring_term(positions: &[i32], faces: &[u16], k: usize, c: usize) -> i64
-    requires { ⌜ Coordinates (now positions) (now faces) k × (c < length (now faces)) ⌝ }
+    requires { ⌜ ForFace (now positions) (now faces) k c ⌝ }
     ensures { λ r. ⌜ r ≡ ringTerm (seen (now (positions .entry)) (now (faces .entry)) k) c ⌝ }
 {
     mask::ring_of(face_values(positions, faces, k, c))

@@ -8,7 +8,7 @@ ghost use lib.IntN.{pos};
 ghost use lib.ListN.{length, getD};
 ghost use Rattle.corner.specs.Corner.{turn};
 ghost use Rattle.mesh.specs.Tables.{vertexOf};
-ghost use Rattle.patch.specs.Lists.{seen, Coordinates, boundaryIn, sharpIn};
+ghost use Rattle.patch.specs.Lists.{seen, ForFace, boundaryIn, sharpIn};
 ghost use Rattle.patch.specs.Values.{SeenFrom};
 
 // The corner i further than c in its face.
@@ -37,7 +37,7 @@ pub(crate) fn corner_value(positions: &[i32], faces: &[u16], k: usize, c: usize)
 
 // Coordinate k of the four vertices of the face of corner c, seen from there.
 pub(crate) fn face_values(positions: &[i32], faces: &[u16], k: usize, c: usize) -> FaceValues
-    requires { ⌜ Coordinates (now positions) (now faces) k × (c < length (now faces)) ⌝ }
+    requires { ⌜ ForFace (now positions) (now faces) k c ⌝ }
     ensures { λ r. ⌜ SeenFrom (seen (now (positions .entry)) (now (faces .entry)) k) c r ⌝ }
 {
     FaceValues {

@@ -7,13 +7,13 @@ use crate::fraction::ControlPoint;
 use crate::values::turned;
 use corner::wide;
 ghost use mathlib.Core.Path.{_≡_};
-ghost use Prim.Native.Nat.{ℕ, _+_, _*_, _<_};
+ghost use Prim.Native.Nat.{_+_, _*_, _<_};
 ghost use lib.Dec.{eqb};
 ghost use lib.IntN.{pos};
 ghost use lib.ListN.{length, getD};
 ghost use Rattle.finite.specs.Fold.{indicator};
 ghost use Rattle.patch.specs.Values.{pointOf};
-ghost use Rattle.patch.specs.Written.{patchLists, Source, ForPoint, ForNumbered, ForPatch, kindOf, pointAt, PointWritten, NumberedWritten, PatchWritten};
+ghost use Rattle.patch.specs.Written.{patchLists, ForVertex, ForValues, ForPoint, ForNumbered, ForPatch, kindOf, pointAt, PointWritten, NumberedWritten, PatchWritten};
 ghost use Rattle.mesh.specs.Tables.{vertexOf};
 
 // The four points of its face that each corner owns.
@@ -56,8 +56,7 @@ fn vertex_point(faces: &[u16], points: &[i32], k: usize, c: usize) -> i32
 
 // The corner point of the vertex of corner c, from its tables.
 fn vertex_points(faces: &[u16], points: &[i32], marks: &[u8], c: usize) -> ControlPoint
-    requires { ⌜ (c < length (now faces)) × ((k : ℕ) → k < 3 → 3 * vertexOf (now faces) c + k < length (now points)) ⌝ }
-    requires { ⌜ vertexOf (now faces) c < length (now marks) ⌝ }
+    requires { ⌜ ForVertex (now faces) (now points) (now marks) c ⌝ }
     ensures { λ r. ⌜ r ≡ pointOf (λ k. getD (now (points .entry)) (3 * vertexOf (now (faces .entry)) c + k) (pos 0))
         (eqb (getD (now (marks .entry)) (vertexOf (now (faces .entry)) c) 0) 1) ⌝ }
 {
@@ -80,7 +79,7 @@ fn point_values(
     c: usize,
     kind: Kind,
 ) -> ControlPoint
-    requires { ⌜ Source (patchLists (now positions) (now faces) (now twins) (now weights) (now points) (now marks)) × (c < length (now faces)) ⌝ }
+    requires { ⌜ ForValues (patchLists (now positions) (now faces) (now twins) (now weights) (now points) (now marks)) c ⌝ }
     ensures { λ r. ⌜ r ≡ pointAt
         (patchLists (now (positions .entry)) (now (faces .entry)) (now (twins .entry)) (now (weights .entry)) (now (points .entry)) (now (marks .entry)))
         c (kindOf kind) ⌝ }

@@ -44,7 +44,7 @@ edge-point-requires : tie.Need-edge-point-requires
 edge-point-requires c κs =
     let f = c .before .before in
     let s = start (f .before) in
-    (s .pre .0, s .pre .1, s .pre .3, rw (c .wide .ensures) (s .pre .2 .below (s .args .c) (s .pre .3) (tested (f .before) ∙ f .if1 .left)))
+    (s .pre .inner, rw (c .wide .ensures) (s .pre .linked .below (s .args .c) (s .pre .inner .corner) (tested (f .before) ∙ f .if1 .left)))
 
 returns-2 : tie.Need-returns-2
 unfolding alongBy

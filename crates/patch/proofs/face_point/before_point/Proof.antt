@@ -28,7 +28,7 @@ module _ (t : tie.After-is-sharp) where
   h = prev (start .args .c)
 
   below : h < length (start .args .faces .now)
-  below = prev-below (start .pre .0 .corners) (start .args .c) (start .pre .3)
+  below = prev-below (start .pre .inner .placed .corners) (start .args .c) (start .pre .inner .corner)
 
   tested : sharpIn (start .args .twins .now) h ≡ t .is-sharp .result
   tested = sym (t .is-sharp .ensures ∙ ap (sharpIn (start .args .twins .now)) (t .before .turned .ensures))
@@ -74,9 +74,11 @@ edge-point-requires : tie.Need-edge-point-requires
 edge-point-requires c κs =
     let t = test c in
     let s = start t in (
-      s .pre .0,
-      s .pre .1,
-      rw (twin-read c) (s .pre .2 .below (h t) (below t) (tested t ∙ c .before .before .if1 .left)),
+      record {
+        placed = s .pre .inner .placed;
+        weighed = s .pre .inner .weighed;
+        corner = rw (twin-read c) (s .pre .linked .below (h t) (below t) (tested t ∙ c .before .before .if1 .left));
+      },
       rw (t .before .turned .ensures) (below t),
     )
 

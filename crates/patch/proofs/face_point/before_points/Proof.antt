@@ -15,13 +15,13 @@ abbrev start₂ : tie.After-before-point2 → tie.Start
 start₂ c = start₁ (c .before)
 
 before-point-requires : tie.Need-before-point-requires
-before-point-requires c κs = let s = c .before .before .before in (s .pre .0 .0 0 (omega arith), s .pre .1 .0, s .pre .1 .1, s .pre .0 .1)
+before-point-requires c κs = let s = c .before .before .before in s .pre 0 (omega arith)
 
 before-point-requires-2 : tie.Need-before-point-requires-2
-before-point-requires-2 c κs = let s = start₁ c in (s .pre .0 .0 1 (omega arith), s .pre .1 .0, s .pre .1 .1, s .pre .0 .1)
+before-point-requires-2 c κs = let s = start₁ c in s .pre 1 (omega arith)
 
 before-point-requires-3 : tie.Need-before-point-requires-3
-before-point-requires-3 c κs = let s = start₂ c in (s .pre .0 .0 2 (omega arith), s .pre .1 .0, s .pre .1 .1, s .pre .0 .1)
+before-point-requires-3 c κs = let s = start₂ c in s .pre 2 (omega arith)
 
 point-in-units-requires : tie.Need-point-in-units-requires
 point-in-units-requires c κs = search needs

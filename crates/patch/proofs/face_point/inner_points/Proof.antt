@@ -15,13 +15,13 @@ abbrev start₂ : tie.After-inner-point2 → tie.Start
 start₂ c = start₁ (c .before)
 
 inner-point-requires : tie.Need-inner-point-requires
-inner-point-requires c κs = let s = c .before .before in (s .pre .0 .0 0 (omega arith), s .pre .1, s .pre .0 .1)
+inner-point-requires c κs = let s = c .before .before in s .pre 0 (omega arith)
 
 inner-point-requires-2 : tie.Need-inner-point-requires-2
-inner-point-requires-2 c κs = let s = start₁ c in (s .pre .0 .0 1 (omega arith), s .pre .1, s .pre .0 .1)
+inner-point-requires-2 c κs = let s = start₁ c in s .pre 1 (omega arith)
 
 inner-point-requires-3 : tie.Need-inner-point-requires-3
-inner-point-requires-3 c κs = let s = start₂ c in (s .pre .0 .0 2 (omega arith), s .pre .1, s .pre .0 .1)
+inner-point-requires-3 c κs = let s = start₂ c in s .pre 2 (omega arith)
 
 point-in-units-requires : tie.Need-point-in-units-requires
 point-in-units-requires c κs = search needs

@@ -85,7 +85,7 @@ wide-requires c κs = tt
 
 -- ---- the ring sum
 ring-term-requires : tie.Need-ring-term-requires Inv-loop μ-loop
-ring-term-requires c κs = let w = c .before in (start w .pre .placed, below w)
+ring-term-requires c κs = let w = c .before in record { placed = start w .pre .placed; corner = below w }
 
 module _ (c : tie.After-ring-term Inv-loop μ-loop) where
   abbrev placed : tie.After-wide Inv-loop μ-loop

@@ -21,14 +21,14 @@ module _ (s : tie.Start) where
   S = seen (s .args .positions .now) (s .args .faces .now) (s .args .k)
 
   below : (i : ℕ) → turn i (s .args .c) < length (s .args .faces .now)
-  below i = turn-below (s .pre .0 .corners) i (s .args .c) (s .pre .1)
+  below i = turn-below (s .pre .placed .corners) i (s .args .c) (s .pre .corner)
 
   asked : (i d : ℕ) → d ≡ turn i (s .args .c)
       → (d < length (s .args .faces .now)) × (3 * vertexOf (s .args .faces .now) d + s .args .k < length (s .args .positions .now))
-  asked i d e = rw e (below i, s .pre .0 .listed (turn i (s .args .c)) (below i))
+  asked i d e = rw e (below i, s .pre .placed .listed (turn i (s .args .c)) (below i))
 
   small : (z : ℤ) (i : ℕ) → z ≡ x S (turn i (s .args .c)) → natAbs z ≤ maxCoordinate
-  small z i e = rw e (s .pre .0 .small (turn i (s .args .c)) (below i))
+  small z i e = rw e (s .pre .placed .small (turn i (s .args .c)) (below i))
 
 -- the function's entry, from the place of each corner
 abbrev start₁ : tie.After-turned → tie.Start
@@ -41,7 +41,7 @@ abbrev start₃ : tie.After-turned3 → tie.Start
 start₃ c = start₂ (c .before .before)
 
 corner-value-requires : tie.Need-corner-value-requires
-corner-value-requires c κs = let s = c .before in (s .pre .1, s .pre .0 .listed (s .args .c) (s .pre .1))
+corner-value-requires c κs = let s = c .before in (s .pre .corner, s .pre .placed .listed (s .args .c) (s .pre .corner))
 
 turned-requires : tie.Need-turned-requires
 turned-requires c κs = search needs
@@ -73,7 +73,7 @@ returns c =
     let e₃ = read-back w32 (c .corner-value4 .ok) (c .corner-value4 .ensures ∙ ap (x (S s)) (c .before .turned3 .ensures)) in
     record {
       small = record {
-        here = rw e₀ (s .pre .0 .small (s .args .c) (s .pre .1));
+        here = rw e₀ (s .pre .placed .small (s .args .c) (s .pre .corner));
         next = small s _ 1 e₁;
         across = small s _ 2 e₂;
         prev = small s _ 3 e₃;

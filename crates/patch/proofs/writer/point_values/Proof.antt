@@ -1,19 +1,22 @@
 -- `point_values` meets its contract: each kind of point has its own function, or its table.
-use Prim.Native.Nat.{ℕ, _≤_, _<_}
-use lib.ListN.{length}
+use Prim.Native.Nat.{ℕ, _<_}
 use borrow.Author.Needs.{needs}
-use Rattle.patch.specs.Lists.{Coordinates, Linked}
-use Rattle.patch.specs.Written.{pointFrom, exactFrom}
+use Rattle.patch.specs.Lists.{ForInner, ForHalfEdge}
+use Rattle.patch.specs.Written.{patchLists, Source, pointFrom, exactFrom}
 use Rattle.patch.proofs.writer.point_values.Statement.{statement}
 use Rattle.patch.proofs.writer.point_values.Tie as tie
 
 -- ---- at the entry: what the calls for a point of a half-edge ask, and what each case of the code goes back to
 module _ (s : tie.Start) where
-  placed : ((k : ℕ) → k < 3 → Coordinates (s .args .positions .now) (s .args .faces .now) k) × (s .args .c < length (s .args .faces .now))
-  placed = (s .pre .0 .placed, s .pre .1)
+  abbrev source : Source (patchLists (s .args .positions .now) (s .args .faces .now) (s .args .twins .now) (s .args .weights .now)
+      (s .args .points .now) (s .args .marks .now))
+  source = s .pre .source
 
-  listed : (length (s .args .faces .now) ≤ length (s .args .weights .now)) × Linked (s .args .faces .now) (s .args .twins .now)
-  listed = (s .pre .0 .weighed, s .pre .0 .linked)
+  inner : (k : ℕ) → k < 3 → ForInner (s .args .positions .now) (s .args .faces .now) (s .args .weights .now) k (s .args .c)
+  inner k l = record { placed = source .placed k l; weighed = source .weighed; corner = s .pre .corner }
+
+  half-edge : (k : ℕ) → k < 3 → ForHalfEdge (s .args .positions .now) (s .args .faces .now) (s .args .twins .now) (s .args .weights .now) k (s .args .c)
+  half-edge k l = record { inner = inner k l; linked = source .linked }
 
 abbrev start : tie.After-shared-slice-known4 → tie.Start
 start c = c .before .before .before .before
@@ -25,26 +28,26 @@ enum-told c = search needs
 vertex-points-requires : tie.Need-vertex-points-requires
 vertex-points-requires c κs =
     let s = start (c .before .before) in
-    let source = s .pre .0 in
-    ((s .pre .1, λ k l. source .pointed (s .args .c) k (s .pre .1) l), source .marked (s .args .c) (s .pre .1))
+    let l = s .pre .corner in
+    record { corner = l; pointed = λ k. source s .pointed (s .args .c) k l; marked = source s .marked (s .args .c) l }
 
 enum-told-2 : tie.Need-enum-told-2
 enum-told-2 c = search needs
 
 along-points-requires : tie.Need-along-points-requires
-along-points-requires c κs = let s = start (c .before .before) in (placed s, listed s)
+along-points-requires c κs = half-edge (start (c .before .before))
 
 enum-told-3 : tie.Need-enum-told-3
 enum-told-3 c = search needs
 
 before-points-requires : tie.Need-before-points-requires
-before-points-requires c κs = let s = start (c .before .before) in (placed s, listed s)
+before-points-requires c κs = half-edge (start (c .before .before))
 
 enum-told-4 : tie.Need-enum-told-4
 enum-told-4 c = search needs
 
 inner-points-requires : tie.Need-inner-points-requires
-inner-points-requires c κs = let s = start (c .before .before) in (placed s, listed s .0)
+inner-points-requires c κs = inner (start (c .before .before))
 
 returns : tie.Need-returns
 unfolding pointFrom exactFrom

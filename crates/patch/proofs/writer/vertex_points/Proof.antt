@@ -16,13 +16,13 @@ abbrev start : tie.After-vertex-point → tie.Start
 start c = c .before .before .before
 
 vertex-point-requires : tie.Need-vertex-point-requires
-vertex-point-requires c κs = let s = c .before .before in (s .pre .0 .0, s .pre .0 .1 0 (omega arith))
+vertex-point-requires c κs = let s = c .before .before in (s .pre .corner, s .pre .pointed 0 (omega arith))
 
 vertex-point-requires-2 : tie.Need-vertex-point-requires-2
-vertex-point-requires-2 c κs = let s = start c in (s .pre .0 .0, s .pre .0 .1 1 (omega arith))
+vertex-point-requires-2 c κs = let s = start c in (s .pre .corner, s .pre .pointed 1 (omega arith))
 
 vertex-point-requires-3 : tie.Need-vertex-point-requires-3
-vertex-point-requires-3 c κs = let s = start (c .before) in (s .pre .0 .0, s .pre .0 .1 2 (omega arith))
+vertex-point-requires-3 c κs = let s = start (c .before) in (s .pre .corner, s .pre .pointed 2 (omega arith))
 
 mul-wide : tie.Need-mul-wide
 mul-wide c = search needs

@@ -46,8 +46,10 @@ write-point-requires : tie.Need-write-point-requires
 write-point-requires c κs =
     let s = start (c .before .before) in
     record {
-      source = s .pre .source;
-      corner = owner-listed (s .pre .source) (s .args .g) _ _ (s .pre .face) (c .before .turned .ensures);
+      values = record {
+        source = s .pre .source;
+        corner = owner-listed (s .pre .source) (s .args .g) _ _ (s .pre .face) (c .before .turned .ensures);
+      };
       room = s .pre .room;
     }
 

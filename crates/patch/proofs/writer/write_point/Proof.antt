@@ -28,7 +28,7 @@ abbrev start : tie.After-shared-slice-known4 → tie.Start
 start c = c .before .before .before .before
 
 point-values-requires : tie.Need-point-values-requires
-point-values-requires c κs = let s = start c in (s .pre .source, s .pre .corner)
+point-values-requires c κs = start c .pre .values
 
 slice-set-from-x : tie.Need-slice-set-from-x
 slice-set-from-x c = search needs
