@@ -45,20 +45,20 @@ use Rattle.mesh.specs.IndexedMesh.{IndexedMesh, corners}
 use Rattle.mesh.specs.Tables.{Corners, Holds, Indices, vertexOf}
 use Rattle.mesh.specs.WellFormed.{WellFormed}
 use Rattle.mask.specs.Mask.{Fraction, maxSharpness, cornerRule, cornerMask}
-use Rattle.patch.specs.Point.{Shape, View, faces, inside, weight, sharp, ringSum, cornerPoint}
+use Rattle.patch.specs.Point.{Shape, View, valenceAt, inside, weight, sharp, ringSum, cornerPoint}
 use Rattle.patch.specs.Patch.{shape, view, units, exactly}
 use Rattle.patch.specs.Answer.{Lent}
 use Rattle.patch.specs.Lists.{shapeOf, seen, Coordinates, Twins, endsByte, sharpSumBy}
 
 unfoldable pub rule : Shape → ℕ → ℕ
-rule G p = cornerRule (inside G p) (G .tag p) (faces G p)
+rule G p = cornerRule (inside G p) (G .tag p) (valenceAt G p)
 
 abbrev pub tagged : List ℕ → List ℕ → Shape
 tagged tags faces = record { n = length faces; at = vertexOf faces; tag = λ p. getD tags p 0 }
 
 pub record Counts (G : Shape) (valences leaving : List ℕ) : Type 0 where
   pub valences-listed : maxVertices ≤ length valences
-  pub valences-are : Holds 0 valences maxVertices (faces G)
+  pub valences-are : Holds 0 valences maxVertices (valenceAt G)
   pub leaving-listed : maxVertices ≤ length leaving
   pub inside-are : (p : ℕ) → p < maxVertices → eqb (getD leaving p 0) 0 ≡ inside G p
 

@@ -13,7 +13,7 @@ use Rattle.mesh.specs.IndexedMesh.{IndexedMesh, indexed}
 use Rattle.mesh.specs.WellFormed.{WellFormed}
 use Rattle.patch.specs.PatchTables.{Roomy, Rendered, Tables}
 use Rattle.patch.specs.Patch.{shape}
-use Rattle.patch.proofs.TableLaws.{same-all, faces-seen, accepted-whole, accepted-indices, faces-range}
+use Rattle.patch.proofs.TableLaws.{same-all, valence-seen, accepted-whole, accepted-indices, valence-range}
 use Rattle.patch.proofs.RuledLaws.{rendered-mesh, corner-source, ruled-tables}
 use Rattle.patch.proofs.SourceLaws.{source, number-written, mark-written}
 use Rattle.patch.proofs.fill.fill_patches.Statement.{statement}
@@ -51,7 +51,7 @@ render-requires c κs =
         few = vertices-few s;
         indices = accepted-indices a;
         twinned = s .pre .twinned;
-        valences-few = λ p l. rw (faces-seen (mesh s) (accepted-whole a) p) (faces-range a p (rw (a .sized .tags-are) at l) .1);
+        valences-few = λ p l. rw (valence-seen (mesh s) (accepted-whole a) p) (valence-range a p (rw (a .sized .tags-are) at l) .1);
       };
       room = record { rules-listed = vertices-few s; weights-listed = corners-few s; ends-listed = corners-few s };
     }

@@ -70,7 +70,7 @@ write-numbered-requires c κs =
     record {
       source = s .pre .source;
       face = s .pre .face;
-      sixteen = i .loop-test .taken;
+      sixteen = omega (arith, i .loop-test .taken);
       room = stretch-long (3 * l .m) 3 (l .patch) (omega (arith, room i, l .inv .patch-long));
     }
 
