@@ -17,7 +17,7 @@ use Rattle.sample.specs.Answer.{sampled, sampleAnswer}
 use Rattle.sample.specs.Marked.{marked, markedAnswer}
 use Rattle.sample.specs.declared.model.Point.{Point}
 use Rattle.sample.specs.declared.model.MarkedPoint.{MarkedPoint}
-use Rattle.patch.specs.Answer.{Lent, listsShort, patchList, exactList, Patched}
+use Rattle.patch.specs.Answer.{Lent, listsShort, patchList, marksList, Patched}
 use Rattle.surface.specs.Claim.{Claim}
 use Rattle.surface.specs.declared.model.SamplePlace.{SamplePlace}
 use Rattle.surface.specs.declared.model.Evaluation.{Evaluation}
@@ -32,7 +32,7 @@ markedAt patches exact n q = markedAnswer patches exact (q .face) n (q .a) (q .b
 pub record Evaluated (M : IndexedMesh) (d : Lent) (n : ℕ) (q : SamplePlace) (r : Evaluation) (b : Lent) : Type 0 where
   pub patched : Patched M d (r .mesh) b
   pub sample-is : sampled (r .sample) ≡ sampleAt (patchList M d) n q
-  pub marked-is : marked (r .marked) ≡ markedAt (patchList M d) (exactList M d) n q
+  pub marked-is : marked (r .marked) ≡ markedAt (patchList M d) (marksList M d) n q
 
 pub record Witnessed (M : IndexedMesh) (d : Lent) (M' : IndexedMesh) (d' : Lent) (n : ℕ) (q o q' : SamplePlace) (w : Witness) (b b' : Lent) : Type 0 where
   pub first : Evaluated M d n q (w .first) b

@@ -154,7 +154,7 @@ write-patches-requires c κs =
       source = source (accepted (begun c)) (s .pre .twinned) (weights-listed c) (tables c) (points-listed c) (marks-listed c);
       listed = omega (arith, accepted (begun c) .sized .indices-are);
       patches-room = s .pre .patches-room;
-      exact-room = s .pre .exact-room;
+      marks-room = s .pre .marks-room;
     }
 
 -- ---- the end
