@@ -24,7 +24,7 @@ use Rattle.limits.specs.declared.model.Mesh.{Mesh}
 use Rattle.corner.specs.Corner.{faceCorners}
 use Rattle.mesh.specs.IndexedMesh.{IndexedMesh}
 use Rattle.mesh.specs.Answer.{checkAnswer, checkTwins}
-use Rattle.patch.specs.Answer.{lent, patchAnswer, patchTwins, patchList, exactList}
+use Rattle.patch.specs.Answer.{lent, patchAnswer, patchTwins, patchList, marksList}
 use Rattle.sample.specs.Answer.{Over256}
 use Rattle.sample.specs.declared.model.Point.{Point}
 use Rattle.sample.specs.declared.model.MarkedPoint.{MarkedPoint}
@@ -80,7 +80,7 @@ pub record PatchesStored (M : IndexedMesh) (d : List ℕ) (e : List ℤ) (x c : 
   pub stored : CountsStored (patchAnswer M (lent d e x)) c r c'
   pub twins-are : d' ≡ patchTwins M (lent d e x)
   pub patches-are : e' ≡ patchList M (lent d e x)
-  pub exact-are : x' ≡ exactList M (lent d e x)
+  pub exact-are : x' ≡ marksList M (lent d e x)
 
 pub record SampleStored (answer : Answer Point) (d : List ℤ) (r : ℕ) (d' : List ℤ) : Type 0 where
   pub code-is : r ≡ code answer

@@ -14,7 +14,7 @@ use Rattle.sample.specs.Answer.{sampled}
 use Rattle.sample.specs.Marked.{marked}
 use Rattle.sample.proofs.RefusalLaws.{place-on}
 use Rattle.patch.specs.Patch.{view}
-use Rattle.patch.specs.Answer.{Lent, listsShort, patchList, exactList}
+use Rattle.patch.specs.Answer.{Lent, listsShort, patchList, marksList}
 use Rattle.symmetry.proofs.WellFormedMoves.{alike-well-formed, alike-counts}
 use Rattle.edit.specs.Mirror.{reflected, mirrored, Outputs, outputsOff, mirrorRefusal, MeshMirrored}
 use Rattle.edit.proofs.AnswerLaws.{nothing-met}
@@ -92,7 +92,7 @@ module _ {M : IndexedMesh} (a : WellFormed M) {d d′ b b′ : Lent} {n : ℕ} {
     marked-turned-up : marked (s′ .marked) ≡ markedAnswerFrom (mirrored M) n (q .face) (place (q .b) (q .a))
     marked-turned-up =
         second .marked-is
-        ∙ ap (markedAt (patchList (mirrored M) d′) (exactList (mirrored M) d′) n) at
+        ∙ ap (markedAt (patchList (mirrored M) d′) (marksList (mirrored M) d′) n) at
         ∙ marked-by d′ (image-formed a) long n (exchanged q) (image-place a n q on)
 
   claim : {r : Outcome} → outcome r ≡ result tt → MirrorClaim n (asked M d q) (asked (mirrored M) d′ q′) r s s′

@@ -16,8 +16,8 @@ use Rattle.mesh.specs.Refusal.{coordinateOff, tagOff, vertexOff, vertexTwice, h
 use Rattle.mesh.specs.Answer.{meshRefusal}
 use Rattle.mask.specs.Mask.{cornerWeight, innerMask, edgeMask, boundaryEdgeMask, smoothCornerMask, boundaryCornerMask, vertexMask}
 use Rattle.patch.specs.Point.{weight, sharp, sharpSum, ringSum, fixed, cornerPoint, innerPoint, edgePoint, alongPoint, beforePoint, point}
-use Rattle.patch.specs.Patch.{owner, kind, patchPoint, patchNumber, patchesAfter, pointExact, patchMark, exactAfter}
-use Rattle.patch.specs.Answer.{lent, patchAnswer, exactList}
+use Rattle.patch.specs.Patch.{owner, kind, patchPoint, patchNumber, patchesAfter, pointExact, patchMark, marksAfter}
+use Rattle.patch.specs.Answer.{lent, patchAnswer, marksList}
 use Rattle.sample.specs.Bernstein.{bernstein, numerator, rounded}
 use Rattle.sample.specs.Refusal.{faceOff, controlOff, placeOff}
 use Rattle.sample.specs.Marked.{marksOff, patchMarked, divisionWhole, markedAnswer}
@@ -27,7 +27,7 @@ use Rattle.examples.specs.Examples.{Example, example, computedAll, state
 
 -- the list of marks after the patch call, which was lent so many 7s for it, and lists of twins and patches that fit
 abbrev marksLeft : IndexedMesh → ℕ → List ℤ
-marksLeft M places = naturals (exactList M (lent (replicate (corners M) 0) (replicate (48 * M .faces) (pos 0)) (replicate places 7)))
+marksLeft M places = naturals (marksList M (lent (replicate (corners M) 0) (replicate (48 * M .faces) (pos 0)) (replicate places 7)))
 
 -- the answer of that call
 abbrev answered : IndexedMesh → ℕ → List ℤ
@@ -43,7 +43,7 @@ markedIn patches exact n f a b = markedNumbers (markedAnswer patches exact f n a
 
 -- the marked sample of the two lists of a mesh
 abbrev marked : IndexedMesh → ℕ → ℕ → ℕ → ℕ → List ℤ
-marked M n f a b = markedIn (patchesAfter M []) (exactAfter M []) n f a b
+marked M n f a b = markedIn (patchesAfter M []) (marksAfter M []) n f a b
 
 -- three coordinates of a sample that is exact, and of one that is not
 abbrev exactAt : ℕ → ℕ → ℕ → List ℤ

@@ -19,7 +19,7 @@ use Rattle.mesh.specs.WellFormed.{Sized}
 use Rattle.mesh.specs.Answer.{meshRefusal, twinsShort}
 use Rattle.mesh.proofs.AcceptedLaws.{sizes-none}
 use Rattle.mesh.proofs.PhaseLaws.{refusal-alike, refusal-split, refusal-own}
-use Rattle.patch.specs.Answer.{patchesShort, exactShort, lent, patchRows}
+use Rattle.patch.specs.Answer.{patchesShort, marksShort, lent, patchRows}
 use Rattle.decoding.specs.File.{vertices, faces, steps, positionAt, tagAt, indexAt, meshOf, fileRows}
 use Rattle.decoding.specs.declared.model.Header.{Header}
 use Rattle.decoding.specs.declared.model.Decoded.{Decoded}
@@ -65,7 +65,7 @@ module _ (M : IndexedMesh) (n : ℕ) (d : List ℤ) where
   twins-enough : M .faces ≤ maxFaces → twinsShort M no-twins ≡ false
   twins-enough few = le-ltb (length no-twins) (corners M) (omega (arith, few, length-replicate {A = ℕ} (4 * maxFaces) 0))
 
-  marks-enough : M .faces ≤ maxFaces → exactShort M no-marks ≡ false
+  marks-enough : M .faces ≤ maxFaces → marksShort M no-marks ≡ false
   marks-enough few = le-ltb (length no-marks) (16 * M .faces) (omega (arith, few, length-replicate {A = ℕ} (16 * maxFaces) 0))
 
   -- N is in its range: of the lists only the patch list can be too short

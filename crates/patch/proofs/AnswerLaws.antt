@@ -19,8 +19,8 @@ use Rattle.mesh.specs.WellFormed.{WellFormed}
 use Rattle.mesh.specs.Answer.{countsOf, meshRefusal, meshAnswer, twinsAfter, twinsShort, lentRows, given}
 use Rattle.mesh.proofs.AcceptedLaws.{accepted-from}
 use Rattle.mesh.proofs.PhaseLaws.{early-passed, refusal-alike, twins-alike, twins-accepted}
-use Rattle.patch.specs.Patch.{patchesAfter, exactAfter}
-use Rattle.patch.specs.Answer.{Lent, patchesShort, exactShort, listsShort, patchRows, patchAnswer, patchTwins, patchList, exactList}
+use Rattle.patch.specs.Patch.{patchesAfter, marksAfter}
+use Rattle.patch.specs.Answer.{Lent, patchesShort, marksShort, listsShort, patchRows, patchAnswer, patchTwins, patchList, marksList}
 use Rattle.patch.specs.Lists.{Twins}
 
 -- ---- the call's own row, as it is handed to the check: first the patch list and the marks, then the twins
@@ -30,9 +30,9 @@ given-short true false = refl
 given-short false true = refl
 given-short false false = refl
 
-module _ (M : IndexedMesh) (d : Lent) (own : ℕ) (short : own ≡ cond (patchesShort M (d .patches) || exactShort M (d .marks)) 2 0) where
+module _ (M : IndexedMesh) (d : Lent) (own : ℕ) (short : own ≡ cond (patchesShort M (d .patches) || marksShort M (d .marks)) 2 0) where
   same-rows : firstMet (given own ∷ lentRows M (d .twins)) ≡ firstMet (patchRows M d)
-  same-rows = rw short (given-short (twinsShort M (d .twins)) (patchesShort M (d .patches) || exactShort M (d .marks)))
+  same-rows = rw short (given-short (twinsShort M (d .twins)) (patchesShort M (d .patches) || marksShort M (d .marks)))
 
   pub same-refusal : meshRefusal M (given own ∷ lentRows M (d .twins)) [] ≡ meshRefusal M (patchRows M d) []
   same-refusal = refusal-alike M (given own ∷ lentRows M (d .twins)) (patchRows M d) (λ _. same-rows) []
@@ -58,12 +58,21 @@ module _ (M : IndexedMesh) (d : Lent) {m : Mesh} (answer : result m ≡ patchAns
   pub twins-long : corners M ≤ length (d .twins)
   twins-long =
       ltb-false (length (d .twins)) (corners M)
+<<<<<<< HEAD
       (or-false (twinsShort M (d .twins)) (patchesShort M (d .patches) || exactShort M (d .marks)) lists-long .0)
 
   written-long : (patchesShort M (d .patches) ≡ false) × (exactShort M (d .marks) ≡ false)
   written-long =
       or-false (patchesShort M (d .patches)) (exactShort M (d .marks))
       (or-false (twinsShort M (d .twins)) (patchesShort M (d .patches) || exactShort M (d .marks)) lists-long .1)
+=======
+      (or-false (twinsShort M (d .twins)) (patchesShort M (d .patches) || marksShort M (d .marks)) lists-long .0)
+
+  written-long : (patchesShort M (d .patches) ≡ false) × (marksShort M (d .marks) ≡ false)
+  written-long =
+      or-false (patchesShort M (d .patches)) (marksShort M (d .marks))
+      (or-false (twinsShort M (d .twins)) (patchesShort M (d .patches) || marksShort M (d .marks)) lists-long .1)
+>>>>>>> h_patch
 
   pub patches-long : 48 * M .faces ≤ length (d .patches)
   patches-long = ltb-false (length (d .patches)) (48 * M .faces) (written-long .0)
@@ -77,7 +86,7 @@ module _ (M : IndexedMesh) (d : Lent) {m : Mesh} (answer : result m ≡ patchAns
   pub result-list : patchList M d ≡ patchesAfter M (d .patches)
   result-list = rw unmet
 
-  pub result-marks : exactList M d ≡ exactAfter M (d .marks)
+  pub result-marks : marksList M d ≡ marksAfter M (d .marks)
   result-marks = rw unmet
 
   -- the twins that the call left

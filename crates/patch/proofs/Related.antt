@@ -24,7 +24,7 @@ use Rattle.mesh.specs.Tables.{Corners}
 use Rattle.mask.specs.Mask.{Fraction}
 use Rattle.mask.proofs.LinearLaws.{Linear, Related, cast, ring}
 use Rattle.mask.proofs.LinearLaws.{inner-mask, edge-mask, boundary-edge-mask, smooth-corner-mask, boundary-corner-mask, vertex-mask}
-use Rattle.patch.specs.Point.{View, x, faces, inside, weight, sharp, ringTerm, sharpSum, ringSum, fixed}
+use Rattle.patch.specs.Point.{View, x, valenceAt, inside, weight, sharp, ringTerm, sharpSum, ringSum, fixed}
 use Rattle.patch.specs.Point.{cornerPoint, innerPoint, edgePoint, alongPoint, beforePoint, Kind, corner, along, before, inner, point}
 use Rattle.patch.specs.Patch.{owner, kind, patchPoint, shape}
 use Rattle.patch.proofs.NeighbourLaws.{twin-below, sharp-neighbours}
@@ -76,7 +76,7 @@ module _ {R : ℕ → ℤ → ℤ → Type 0} (L : Linear R) where
       here : (c : ℕ) → c < corners M → at M c ≡ p → R 1 (x S c) (x S' c)
       here c l e = subst (λ (d : ℕ). R 1 (x S d) (x S' d)) (turn-none c) (near c l e 0)
 
-      ring-sum : R (5 * faces (shape M) p) (ringSum S p) (ringSum S' p)
+      ring-sum : R (5 * valenceAt (shape M) p) (ringSum S p) (ringSum S' p)
       unfolding ringSum
       ring-sum =
           cast L (gather-times (at M) p 5 (corners M))
@@ -93,7 +93,7 @@ module _ {R : ℕ → ℤ → ℤ → Type 0} (L : Linear R) where
       corner-related : p < M .vertices → R 1 (X p) (X' p) → Related R (cornerPoint S p) (cornerPoint S' p)
       unfolding cornerPoint fixed
       corner-related l own =
-          either (inside (shape M) p) (λ _. smooth-corner-mask L (faces (shape M) p) (a .used p l) own ring-sum)
+          either (inside (shape M) p) (λ _. smooth-corner-mask L (valenceAt (shape M) p) (a .used p l) own ring-sum)
           (λ e. either (fixed (shape M) p) (λ _. vertex-mask L own) (λ _. boundary-corner-mask L own (sharp-sum l e)))
 
       inner-related : (c : ℕ) → c < corners M → at M c ≡ p → Related R (innerPoint S c) (innerPoint S' c)

@@ -23,7 +23,7 @@ use Rattle.mesh.proofs.AcceptedLaws.{accepted-corners}
 use Rattle.mesh.specs.Tables.{Corners, Holds, Indices}
 use Rattle.mask.specs.Mask.{cornerWeight}
 use Rattle.mask.proofs.LinearLaws.{bounds, ring}
-use Rattle.patch.specs.Point.{Shape, View, x, ringTerm, sharpTerm, faces, inside, weight, sharp, sharpSum, ringSum}
+use Rattle.patch.specs.Point.{Shape, View, x, ringTerm, sharpTerm, valenceAt, inside, weight, sharp, sharpSum, ringSum}
 use Rattle.patch.specs.Patch.{shape, view}
 use Rattle.patch.specs.Lists.{shapeOf, seen, Coordinates, endsByte, nextCounts, prevCounts, sharpTermBy, sharpSumBy}
 use Rattle.patch.specs.PatchTables.{Blank, endsOf}
@@ -85,8 +85,8 @@ module _ (M : IndexedMesh) (whole : length (M .indices) ≡ corners M) where
   unfolding weight
   weight-seen c = rw whole
 
-  pub faces-seen : (p : ℕ) → faces (shapeOf (M .indices)) p ≡ faces (shape M) p
-  faces-seen p = rw whole
+  pub valence-seen : (p : ℕ) → valenceAt (shapeOf (M .indices)) p ≡ valenceAt (shape M) p
+  valence-seen p = rw whole
 
   pub ring-seen : (k p : ℕ) → ringSum (seen (M .positions) (M .indices) k) p ≡ ringSum (view M k) p
   unfolding ringSum
@@ -107,8 +107,8 @@ module _ {M : IndexedMesh} (a : WellFormed M) where
   accepted-indices = rw accepted-whole (sized-indices M (a .sized) (a .named))
 
   -- how many faces a vertex has
-  pub faces-range : (p : ℕ) → p < M .vertices → (0 < faces (shape M) p) × (faces (shape M) p ≤ maxValence)
-  faces-range p l =
+  pub valence-range : (p : ℕ) → p < M .vertices → (0 < valenceAt (shape M) p) × (valenceAt (shape M) p ≤ maxValence)
+  valence-range p l =
       bool-cases (onBoundary (at M) (corners M) p)
       (λ e. (a .used p l, omega (arith, a .boundary-high p l e)))
       (λ e. (a .used p l, omega (arith, a .inner-high p l e)))
@@ -124,11 +124,15 @@ module _ {M : IndexedMesh} (a : WellFormed M) where
       small = λ c l. corner-small c (rw accepted-whole at l);
     }
 
-    pub ring-size : (p : ℕ) → natAbs (ringSum (view M k) p) ≤ 5 * maxCoordinate * faces (shape M) p
+    pub ring-size : (p : ℕ) → natAbs (ringSum (view M k) p) ≤ 5 * maxCoordinate * valenceAt (shape M) p
     unfolding ringSum
     ring-size p = gather-size (at M) p (5 * maxCoordinate) _ (corners M) (ring-term-size (view M k) (accepted-corners a) corner-small)
 
+<<<<<<< HEAD
     pub sharp-most : (p : ℕ) → natAbs (sharpSum (view M k) p) ≤ 5 * maxCoordinate * faces (shape M) p
+=======
+    pub sharp-most : (p : ℕ) → natAbs (sharpSum (view M k) p) ≤ 5 * maxCoordinate * valenceAt (shape M) p
+>>>>>>> h_patch
     unfolding sharpSum
     sharp-most p =
         gather-size (at M) p (5 * maxCoordinate) _ (corners M)
@@ -151,6 +155,6 @@ unfolding cornerWeight
 weight-most true m n l = omega arith
 weight-most false m n l = bool-cases (eqb m 1) (λ e. rw e (omega arith)) (λ e. rw e (omega arith))
 
-pub weight-entries : (G : Shape) (c p : ℕ) (i : Bool) (m : ℕ) → p ≡ G .at c → i ≡ inside G p → m ≡ faces G p → cornerWeight i m ≡ weight G c
+pub weight-entries : (G : Shape) (c p : ℕ) (i : Bool) (m : ℕ) → p ≡ G .at c → i ≡ inside G p → m ≡ valenceAt G p → cornerWeight i m ≡ weight G c
 unfolding weight
 weight-entries G c p i m hp hi hm = rw (hi, hm, hp)

@@ -12,7 +12,7 @@ use Rattle.finite.proofs.FilledLaws.{length-filled, filled-at}
 use Rattle.limits.specs.Limits.{maxCoordinate}
 use Rattle.mesh.specs.IndexedMesh.{IndexedMesh}
 use Rattle.mesh.specs.WellFormed.{WellFormed}
-use Rattle.patch.specs.Patch.{controlValue, view, patchNumber, patchesAfter, pointExact, patchMark, exactAfter}
+use Rattle.patch.specs.Patch.{controlValue, view, patchNumber, patchesAfter, pointExact, patchMark, marksAfter}
 use Rattle.patch.proofs.PointLaws.{control-bound}
 
 -- place 48f + 3m + k has coordinate k of point m of face f
@@ -48,10 +48,10 @@ indicator-one false = refl
 pub indicator-set : (b : Bool) → indicator b ≡ 1 → b ≡ true
 indicator-set b e = sym (indicator-one b) ∙ ap (λ (i : ℕ). eqb i 1) e
 
-pub marks-length : (M : IndexedMesh) (d : List ℕ) → 16 * M .faces ≤ length d → length (exactAfter M d) ≡ length d
+pub marks-length : (M : IndexedMesh) (d : List ℕ) → 16 * M .faces ≤ length d → length (marksAfter M d) ≡ length d
 marks-length M d l = length-filled (patchMark M) _ d (omega arith)
 
-pub mark-at : (M : IndexedMesh) (d : List ℕ) (f m : ℕ) → f < M .faces → m < 16 → getD (exactAfter M d) (16 * f + m) 0 ≡ indicator (pointExact M f m)
+pub mark-at : (M : IndexedMesh) (d : List ℕ) (f m : ℕ) → f < M .faces → m < 16 → getD (marksAfter M d) (16 * f + m) 0 ≡ indicator (pointExact M f m)
 unfolding patchMark
 mark-at M d f m l h =
     let face : (16 * f + m) / 16 ≡ f = omega arith in

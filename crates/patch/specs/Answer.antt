@@ -6,7 +6,7 @@
 --   patchAnswer ..   the answer is the check's of the whole mesh: the four counts (rule T8), or the number of a refusal
 --   patchTwins ..    the list of twins afterwards, as the check leaves it (rules T9 and R4)
 --   patchList ..     the patch list afterwards: written where the mesh is accepted, and as it was after a refusal
---   exactList ..     the list of marks afterwards, likewise
+--   marksList ..     the list of marks afterwards, likewise
 --   Patched M d r d' r is the answer of the patch call on the mesh M with the lent lists d, and d' are the lists afterwards
 use mathlib.Core.Path.{_≡_}
 use mathlib.Core.Bool.{Bool, _||_}
@@ -20,7 +20,7 @@ use Rattle.limits.specs.declared.model.Mesh.{Mesh}
 use Rattle.limits.specs.declared.model.Checked.{Checked}
 use Rattle.mesh.specs.IndexedMesh.{IndexedMesh}
 use Rattle.mesh.specs.Answer.{checked, meshRefusal, meshAnswer, twinsAfter, twinsShort}
-use Rattle.patch.specs.Patch.{patchesAfter, exactAfter}
+use Rattle.patch.specs.Patch.{patchesAfter, marksAfter}
 
 pub record Lent : Type 0 where
   pub twins : List ℕ
@@ -33,11 +33,11 @@ lent twins patches marks = record { twins = twins; patches = patches; marks = ma
 abbrev pub patchesShort : IndexedMesh → List ℤ → Bool
 patchesShort M patches = ltb (length patches) (48 * M .faces)
 
-abbrev pub exactShort : IndexedMesh → List ℕ → Bool
-exactShort M exact = ltb (length exact) (16 * M .faces)
+abbrev pub marksShort : IndexedMesh → List ℕ → Bool
+marksShort M marks = ltb (length marks) (16 * M .faces)
 
 abbrev pub listsShort : IndexedMesh → Lent → Bool
-listsShort M d = twinsShort M (d .twins) || (patchesShort M (d .patches) || exactShort M (d .marks))
+listsShort M d = twinsShort M (d .twins) || (patchesShort M (d .patches) || marksShort M (d .marks))
 
 abbrev pub patchRows : IndexedMesh → Lent → List Row
 patchRows M d = row (listsShort M d) 2 ∷ []
@@ -51,11 +51,11 @@ patchTwins M d = twinsAfter M (patchRows M d) [] (d .twins)
 abbrev pub patchList : IndexedMesh → Lent → List ℤ
 patchList M d = writtenBy (meshRefusal M (patchRows M d) []) (d .patches) (patchesAfter M (d .patches))
 
-abbrev pub exactList : IndexedMesh → Lent → List ℕ
-exactList M d = writtenBy (meshRefusal M (patchRows M d) []) (d .marks) (exactAfter M (d .marks))
+abbrev pub marksList : IndexedMesh → Lent → List ℕ
+marksList M d = writtenBy (meshRefusal M (patchRows M d) []) (d .marks) (marksAfter M (d .marks))
 
 pub record Patched (M : IndexedMesh) (d : Lent) (r : Checked) (d' : Lent) : Type 0 where
   pub answer-is : checked r ≡ patchAnswer M d
   pub twins-are : d' .twins ≡ patchTwins M d
   pub patches-are : d' .patches ≡ patchList M d
-  pub exact-are : d' .marks ≡ exactList M d
+  pub marks-are : d' .marks ≡ marksList M d

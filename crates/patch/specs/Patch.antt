@@ -15,7 +15,7 @@
 --   patchesAfter M d   the patch list after an accepted mesh was written over d: places from 48F on are untouched (rule B12)
 --   pointExact M f m   point m of face f is exact: nothing was left in any of its three coordinates (rule B13)
 --   patchMark M i      what stands at place i of the list of marks: 1 or 0 for point i % 16 of face i / 16
---   exactAfter M d     the list of marks after an accepted mesh was written over d: places from 16F on are untouched (rule B13)
+--   marksAfter M d     the list of marks after an accepted mesh was written over d: places from 16F on are untouched (rule B13)
 use mathlib.Core.Bool.{Bool}
 use mathlib.Core.List.{List, [], _∷_}
 use Prim.Native.Nat.{ℕ, _+_, _*_, _/_, _%_}
@@ -67,5 +67,5 @@ pointExact M f m = allBelow (λ k. exactly (patchPoint (view M k) (4 * f) m)) 3
 unfoldable pub patchMark : IndexedMesh → ℕ → ℕ
 patchMark M i = indicator (pointExact M (i / 16) (i % 16))
 
-abbrev pub exactAfter : IndexedMesh → List ℕ → List ℕ
-exactAfter M d = filled (patchMark M) (16 * M .faces) d
+abbrev pub marksAfter : IndexedMesh → List ℕ → List ℕ
+marksAfter M d = filled (patchMark M) (16 * M .faces) d

@@ -38,14 +38,14 @@ abbrev pub x : View → ℕ → ℤ
 x S c = S .value (S .shape .at c)
 
 -- how many faces vertex p has
-abbrev pub faces : Shape → ℕ → ℕ
-faces G p = valence (G .at) (G .n) p
+abbrev pub valenceAt : Shape → ℕ → ℕ
+valenceAt G p = valence (G .at) (G .n) p
 
 abbrev pub inside : Shape → ℕ → Bool
 inside G p = not (onBoundary (G .at) (G .n) p)
 
 unfoldable pub weight : Shape → ℕ → ℕ
-weight G c = cornerWeight (inside G (G .at c)) (faces G (G .at c))
+weight G c = cornerWeight (inside G (G .at c)) (valenceAt G (G .at c))
 
 unfoldable pub sharp : Shape → ℕ → Bool
 sharp G c = boundary (G .at) (G .n) c
@@ -69,11 +69,11 @@ unfoldable pub ringSum : View → ℕ → ℤ
 ringSum S p = sumAt (S .shape) p (ringTerm S)
 
 unfoldable pub fixed : Shape → ℕ → Bool
-fixed G p = eqb (G .tag p) cornerTag || eqb (faces G p) 1
+fixed G p = eqb (G .tag p) cornerTag || eqb (valenceAt G p) 1
 
 unfoldable pub cornerPoint : View → ℕ → Fraction
 cornerPoint S p =
-    cond (inside (S .shape) p) (smoothCornerMask (faces (S .shape) p) (S .value p) (ringSum S p))
+    cond (inside (S .shape) p) (smoothCornerMask (valenceAt (S .shape) p) (S .value p) (ringSum S p))
     (cond (fixed (S .shape) p) (vertexMask (S .value p)) (boundaryCornerMask (S .value p) (sharpSum S p)))
 
 unfoldable pub innerPoint : View → ℕ → Fraction

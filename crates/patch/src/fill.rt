@@ -5,7 +5,11 @@ use crate::writer::write_patch;
 use limits::model::Mesh;
 ghost use mathlib.Core.Path.{_≡_};
 ghost use Rattle.mesh.specs.IndexedMesh.{indexed};
+<<<<<<< HEAD
 ghost use Rattle.patch.specs.Patch.{patchesAfter, exactAfter};
+=======
+ghost use Rattle.patch.specs.Patch.{patchesAfter, marksAfter};
+>>>>>>> h_patch
 ghost use Rattle.patch.specs.Answer.{lent};
 ghost use Rattle.patch.specs.PatchTables.{Ready};
 ghost use Rattle.patch.specs.Written.{patchLists, ForPatches, PatchesWritten};
@@ -59,7 +63,7 @@ pub(crate) fn fill_patches(
     ensures { λ _. ⌜ now (patches .exit)
         ≡ patchesAfter (indexed v f (now (positions .entry)) (now (tags .entry)) (now (faces .entry))) (now (patches .entry)) ⌝ }
     ensures { λ _. ⌜ now (exact .exit)
-        ≡ exactAfter (indexed v f (now (positions .entry)) (now (tags .entry)) (now (faces .entry))) (now (exact .entry)) ⌝ }
+        ≡ marksAfter (indexed v f (now (positions .entry)) (now (tags .entry)) (now (faces .entry))) (now (exact .entry)) ⌝ }
 {
     let mut rules = [0u8; Mesh::MAX_VERTICES];
     let mut weights = [0u16; 4 * Mesh::MAX_FACES];

@@ -17,7 +17,7 @@ use Rattle.sample.specs.Answer.{pointAt, sampleAnswer}
 use Rattle.sample.specs.Marked.{marksOff, sampleExact, markedAnswer}
 use Rattle.sample.proofs.SampleLaws.{rounded-ext}
 use Rattle.sample.proofs.RefusalLaws.{place-on}
-use Rattle.patch.specs.Patch.{controlValue, view, patchesAfter, exactAfter}
+use Rattle.patch.specs.Patch.{controlValue, view, patchesAfter, marksAfter}
 use Rattle.patch.proofs.WrittenLaws.{written-length, written-at, written-bound, marks-length}
 
 -- 12
@@ -25,9 +25,9 @@ face-none : (M : IndexedMesh) (d : List ℤ) (f : ℕ) → 48 * M .faces ≤ len
 unfolding faceOff
 face-none M d f long l = le-ltb (length (patchesAfter M d)) (48 * f + 48) (rw (written-length M d long) (omega arith))
 
-marks-none : (M : IndexedMesh) (x : List ℕ) (f : ℕ) → 16 * M .faces ≤ length x → f < M .faces → marksOff (exactAfter M x) f ≡ false
+marks-none : (M : IndexedMesh) (x : List ℕ) (f : ℕ) → 16 * M .faces ≤ length x → f < M .faces → marksOff (marksAfter M x) f ≡ false
 unfolding marksOff
-marks-none M x f long l = le-ltb (length (exactAfter M x)) (16 * f + 16) (rw (marks-length M x long) (omega arith))
+marks-none M x f long l = le-ltb (length (marksAfter M x)) (16 * f + 16) (rw (marks-length M x long) (omega arith))
 
 -- 13
 control-none : {M : IndexedMesh} → WellFormed M → (d : List ℤ) (f : ℕ) → f < M .faces → controlOff (patchesAfter M d) f ≡ false
@@ -49,8 +49,8 @@ answered {M} acc d f n a b long l on = rw (face-none M d f long l, control-none 
 
 pub marked-answered : {M : IndexedMesh} → WellFormed M → (d : List ℤ) (x : List ℕ) (f n a b : ℕ) → 48 * M .faces ≤ length d → 16 * M .faces ≤ length x
     → f < M .faces → placeOff n a b ≡ false
-    → markedAnswer (patchesAfter M d) (exactAfter M x) f n a b
-    ≡ result (record { point = pointAt (patchesAfter M d) f n a b; exact = sampleExact (patchesAfter M d) (exactAfter M x) f n a b })
+    → markedAnswer (patchesAfter M d) (marksAfter M x) f n a b
+    ≡ result (record { point = pointAt (patchesAfter M d) f n a b; exact = sampleExact (patchesAfter M d) (marksAfter M x) f n a b })
 unfolding markedAnswer
 marked-answered {M} acc d x f n a b long room l on = rw (face-none M d f long l, marks-none M x f room l, control-none acc d f l, on)
 

@@ -24,7 +24,7 @@ use Rattle.sample.specs.declared.model.Point.{Point}
 use Rattle.sample.specs.declared.model.MarkedPoint.{MarkedPoint}
 use Rattle.sample.proofs.SampleLaws.{rounded-ext}
 use Rattle.sample.proofs.RefusalLaws.{place-on}
-use Rattle.patch.specs.Patch.{patchPoint, units, view, patchesAfter, exactAfter}
+use Rattle.patch.specs.Patch.{patchPoint, units, view, patchesAfter, marksAfter}
 use Rattle.patch.proofs.PointLaws.{patch-divisor}
 use Rattle.symmetry.proofs.WellFormedMoves.{alike-well-formed}
 use Rattle.correspondence.proofs.PointMoves.{patch-moves}
@@ -45,7 +45,7 @@ abbrev pub answerFrom : IndexedMesh → ℕ → ℕ → Place → Answer Point
 answerFrom M n f p = result (pointOf (λ k. sampleFrom (view M k) n (4 * f) p))
 
 abbrev pub markedOn : IndexedMesh → List ℤ → List ℕ → ℕ → ℕ → Place → Answer MarkedPoint
-markedOn M d x n f p = markedAnswer (patchesAfter M d) (exactAfter M x) f n (p .a) (p .b)
+markedOn M d x n f p = markedAnswer (patchesAfter M d) (marksAfter M x) f n (p .a) (p .b)
 
 abbrev pub markedAnswerFrom : IndexedMesh → ℕ → ℕ → Place → Answer MarkedPoint
 markedAnswerFrom M n f p = result (record { point = pointOf (λ k. sampleFrom (view M k) n (4 * f) p); exact = markFrom (view M) n (4 * f) p })

@@ -10,18 +10,18 @@ use Rattle.mesh.specs.IndexedMesh.{IndexedMesh}
 use Rattle.sample.specs.Bernstein.{controlAt, coordinateAt}
 use Rattle.sample.specs.Marked.{sampleExact}
 use Rattle.sample.proofs.ExactLaws.{exact-sample, exact-byte, exact-division}
-use Rattle.patch.specs.Patch.{exactly, patchesAfter, pointExact, exactAfter}
+use Rattle.patch.specs.Patch.{exactly, patchesAfter, pointExact, marksAfter}
 use Rattle.patch.proofs.WrittenLaws.{written-at, mark-at, indicator-set}
 use Rattle.surface.specs.Claim.{exact, Multiples, exactSum}
 use Rattle.surface.specs.declared.model.SamplePlace.{SamplePlace}
 
 module _ (M : IndexedMesh) (d : List ℤ) (x : List ℕ) (n : ℕ) (q : SamplePlace) (face : q .face < M .faces)
-    (set : sampleExact (patchesAfter M d) (exactAfter M x) (q .face) n (q .a) (q .b) ≡ true) where
+    (set : sampleExact (patchesAfter M d) (marksAfter M x) (q .face) n (q .a) (q .b) ≡ true) where
   -- nothing was left in coordinate k of any of the sixteen points
   left-nothing : (m k : ℕ) → m < 16 → k < 3 → exactly (exact M k (q .face) m) ≡ true
   unfolding pointExact
   left-nothing m k l h =
-      let byte = exact-byte (patchesAfter M d) (exactAfter M x) (q .face) n (q .a) (q .b) set m l in
+      let byte = exact-byte (patchesAfter M d) (marksAfter M x) (q .face) n (q .a) (q .b) set m l in
       all-true _ 3 (indicator-set (pointExact M (q .face) m) (sym (mark-at M x (q .face) m face l) ∙ byte)) k h
 
   -- so each control value is the fraction itself
@@ -37,4 +37,4 @@ module _ (M : IndexedMesh) (d : List ℤ) (x : List ℕ) (n : ℕ) (q : SamplePl
       exact-sample n (q .a) (q .b) (λ m. pos 256 *ℤ exact M k (q .face) m .num) (λ m. exact M k (q .face) m .den) y L
       (controlAt (patchesAfter M d) (q .face) k) (coordinateAt (patchesAfter M d) (q .face) n (q .a) (q .b) k) common
       (λ m l. unrounded m k l h)
-      (exact-division (patchesAfter M d) (exactAfter M x) (q .face) n (q .a) (q .b) set k h)
+      (exact-division (patchesAfter M d) (marksAfter M x) (q .face) n (q .a) (q .b) set k h)

@@ -24,7 +24,7 @@ use Rattle.mesh.proofs.CornerLaws.{turn-none, turn-next}
 use Rattle.sample.specs.Marked.{patchMarked, divisionWhole, sampleExact}
 use Rattle.sample.proofs.SampleLaws.{numerator-ext}
 use Rattle.patch.specs.Point.{View}
-use Rattle.patch.specs.Patch.{patchPoint, units, exactly, view, patchesAfter, pointExact, exactAfter}
+use Rattle.patch.specs.Patch.{patchPoint, units, exactly, view, patchesAfter, pointExact, marksAfter}
 use Rattle.patch.proofs.TurnedLaws.{turned, patch-turned}
 use Rattle.patch.proofs.WrittenLaws.{written-at, mark-at, indicator-one}
 use Rattle.surface.specs.Renumbering.{Place, matching}
@@ -81,7 +81,7 @@ mark-matching S n s c p w =
 
 -- ---- the lists of an accepted mesh
 pub mark-written : (M : IndexedMesh) (d : List ℤ) (x : List ℕ) (f n : ℕ) (p : Place) → f < M .faces
-    → sampleExact (patchesAfter M d) (exactAfter M x) f n (p .a) (p .b) ≡ markFrom (view M) n (4 * f) p
+    → sampleExact (patchesAfter M d) (marksAfter M x) f n (p .a) (p .b) ≡ markFrom (view M) n (4 * f) p
 unfolding patchMarked divisionWhole pointExact
 mark-written M d x f n p l =
     ap₂ _&&_

@@ -21,8 +21,8 @@ use Rattle.sample.specs.Bernstein.{coordinateAt}
 use Rattle.sample.specs.Answer.{sampled}
 use Rattle.sample.specs.Marked.{sampleExact, marked}
 use Rattle.sample.specs.declared.model.Point.{Point}
-use Rattle.patch.specs.Patch.{patchesAfter, exactAfter}
-use Rattle.patch.specs.Answer.{Lent, patchesShort, exactShort, listsShort, patchRows, patchAnswer, patchList, exactList, Patched}
+use Rattle.patch.specs.Patch.{patchesAfter, marksAfter}
+use Rattle.patch.specs.Answer.{Lent, patchesShort, marksShort, listsShort, patchRows, patchAnswer, patchList, marksList, Patched}
 use Rattle.symmetry.proofs.WellFormedMoves.{alike-well-formed, alike-counts}
 use Rattle.surface.specs.Claim.{OnMesh, coordinateOf, number, pointOf, isExact, Claim}
 use Rattle.surface.specs.Renumbering.{place}
@@ -40,8 +40,13 @@ pub evaluated : {n : ℕ} {a : Asked} {r : Evaluation} {b : Lent} → Patched (a
     → sampled (r .sample) ≡ sampleAt (b .patches) n (a .place) → marked (r .marked) ≡ markedAt (b .patches) (b .marks) n (a .place) → Evaluated n a r b
 evaluated {n} {a} patched sample marks = record {
   patched = patched;
+<<<<<<< HEAD
   sample-is = sample ∙ ap (λ (t : List ℤ). sampleAt t n (a .place)) (patched .patches-are);
   marked-is = marks ∙ ap₂ (λ (t : List ℤ) (u : List ℕ). markedAt t u n (a .place)) (patched .patches-are) (patched .exact-are);
+=======
+  sample-is = sample ∙ ap (λ (t : List ℤ). sampleAt t n q) (patched .patches-are);
+  marked-is = marks ∙ ap₂ (λ (t : List ℤ) (u : List ℕ). markedAt t u n q) (patched .patches-are) (patched .marks-are);
+>>>>>>> h_patch
 }
 
 -- a coordinate of three numbers given by their places
@@ -65,11 +70,11 @@ module _ {M : IndexedMesh} (d : Lent) (a : WellFormed M) (long : listsShort M d 
   accepted-list : patchList M d ≡ patchesAfter M (d .patches)
   accepted-list = rw unmet
 
-  accepted-marks : exactList M d ≡ exactAfter M (d .marks)
+  accepted-marks : marksList M d ≡ marksAfter M (d .marks)
   accepted-marks = rw unmet
 
-  written-long : (patchesShort M (d .patches) ≡ false) × (exactShort M (d .marks) ≡ false)
-  written-long = or-false (patchesShort M (d .patches)) (exactShort M (d .marks)) (or-false (ltb (length (d .twins)) (corners M)) _ long .1)
+  written-long : (patchesShort M (d .patches) ≡ false) × (marksShort M (d .marks) ≡ false)
+  written-long = or-false (patchesShort M (d .patches)) (marksShort M (d .marks)) (or-false (ltb (length (d .twins)) (corners M)) _ long .1)
 
   patches-long : 48 * M .faces ≤ length (d .patches)
   patches-long = ltb-false (length (d .patches)) (48 * M .faces) (written-long .0)
@@ -82,7 +87,7 @@ module _ {M : IndexedMesh} (d : Lent) (a : WellFormed M) (long : listsShort M d 
   sample-on n q = ap (λ (t : List ℤ). sampleAt t n q) accepted-list
 
   marked-on : (n : ℕ) (q : SamplePlace)
-      → markedAt (patchList M d) (exactList M d) n q ≡ markedAt (patchesAfter M (d .patches)) (exactAfter M (d .marks)) n q
+      → markedAt (patchList M d) (marksList M d) n q ≡ markedAt (patchesAfter M (d .patches)) (marksAfter M (d .marks)) n q
   marked-on n q = ap₂ (λ (t : List ℤ) (u : List ℕ). markedAt t u n q) accepted-list accepted-marks
 
   -- the same, by the control points
@@ -91,7 +96,7 @@ module _ {M : IndexedMesh} (d : Lent) (a : WellFormed M) (long : listsShort M d 
   sample-from n q on = sample-on n q ∙ sampled-from a (d .patches) patches-long n (q .face) (place (q .a) (q .b)) (on .0) (on .1)
 
   pub marked-by : (n : ℕ) (q : SamplePlace) → OnMesh M n q
-      → markedAt (patchList M d) (exactList M d) n q ≡ markedAnswerFrom M n (q .face) (place (q .a) (q .b))
+      → markedAt (patchList M d) (marksList M d) n q ≡ markedAnswerFrom M n (q .face) (place (q .a) (q .b))
   marked-by n q on =
       marked-on n q ∙ marked-from a (d .patches) (d .marks) patches-long marks-long n (q .face) (place (q .a) (q .b)) (on .0) (on .1)
 
@@ -103,7 +108,7 @@ module _ {M M′ : IndexedMesh} {d d′ b b′ : Lent} {n : ℕ} {q q′ : Sampl
     after = patchesAfter M (d .patches)
 
     abbrev marks : List ℕ
-    marks = exactAfter M (d .marks)
+    marks = marksAfter M (d .marks)
 
     -- the coordinates of the first sample, by the definitions
     abbrev expected : ℕ → ℤ
@@ -153,7 +158,7 @@ module _ {M M′ : IndexedMesh} {d d′ b b′ : Lent} {n : ℕ} {q q′ : Sampl
           here-marked
           ∙ marks-renumbered-on a (d .patches) (patches-long d a long) n (d .marks) (marks-long d a long) r (d′ .patches) (d′ .marks)
           (patches-long d′ a′ long′) (marks-long d′ a′ long′) (q .face) (place (q .a) (q .b)) (on .0) (on .1)
-          ∙ sym (second .marked-is ∙ marked-on d′ a′ long′ n q′ ∙ ap (markedAt (patchesAfter M′ (d′ .patches)) (exactAfter M′ (d′ .marks)) n) at-q′);
+          ∙ sym (second .marked-is ∙ marked-on d′ a′ long′ n q′ ∙ ap (markedAt (patchesAfter M′ (d′ .patches)) (marksAfter M′ (d′ .marks)) n) at-q′);
     }
 
 -- what `witness` gave: the calls for both meshes, and one more sample of the list that the first patch call left

@@ -19,7 +19,7 @@ use Rattle.sample.specs.Answer.{sampled, sampleAnswer}
 use Rattle.sample.specs.Marked.{marked, markedAnswer}
 use Rattle.sample.specs.declared.model.Point.{Point}
 use Rattle.sample.specs.declared.model.MarkedPoint.{MarkedPoint}
-use Rattle.patch.specs.Answer.{Lent, listsShort, patchList, exactList, Patched}
+use Rattle.patch.specs.Answer.{Lent, listsShort, patchList, marksList, Patched}
 use Rattle.surface.specs.Claim.{Claim}
 use Rattle.surface.specs.declared.model.SamplePlace.{SamplePlace}
 use Rattle.surface.specs.declared.model.Evaluation.{Evaluation}
@@ -31,10 +31,17 @@ sampleAt patches n q = sampleAnswer patches (q .face) n (q .a) (q .b)
 abbrev pub markedAt : List ℤ → List ℕ → ℕ → SamplePlace → Answer MarkedPoint
 markedAt patches exact n q = markedAnswer patches exact (q .face) n (q .a) (q .b)
 
+<<<<<<< HEAD
 pub record Asked : Type 0 where
   pub mesh : IndexedMesh
   pub lists : Lent
   pub place : SamplePlace
+=======
+pub record Evaluated (M : IndexedMesh) (d : Lent) (n : ℕ) (q : SamplePlace) (r : Evaluation) (b : Lent) : Type 0 where
+  pub patched : Patched M d (r .mesh) b
+  pub sample-is : sampled (r .sample) ≡ sampleAt (patchList M d) n q
+  pub marked-is : marked (r .marked) ≡ markedAt (patchList M d) (marksList M d) n q
+>>>>>>> h_patch
 
 abbrev pub asked : IndexedMesh → Lent → SamplePlace → Asked
 asked M d q = record { mesh = M; lists = d; place = q }

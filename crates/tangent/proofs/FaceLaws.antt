@@ -15,7 +15,7 @@ use Rattle.mesh.specs.Tables.{vertexOf}
 use Rattle.mesh.proofs.TwinLaws.{twin-ends}
 use Rattle.mesh.proofs.BoundaryLaws.{InnerVertex}
 use Rattle.mask.specs.Mask.{cornerWeight}
-use Rattle.patch.specs.Point.{View, faces, weight, sharp, point, innerPoint, edgePoint, alongPoint, beforePoint}
+use Rattle.patch.specs.Point.{View, valenceAt, weight, sharp, point, innerPoint, edgePoint, alongPoint, beforePoint}
 use Rattle.patch.specs.Patch.{owner, kind, patchPoint, controlValue, view}
 use Rattle.patch.specs.Lists.{shapeOf, seen, Twins}
 use Rattle.patch.proofs.NeighbourLaws.{twin-below}
@@ -104,13 +104,13 @@ module _ {M : IndexedMesh} (a : WellFormed M) (g : ℕ) (l : g < M .faces) (clos
 
   -- corner c is at the vertex of corner s of the face
   module _ (s c : ℕ) (b : s < 4) (e : vertexOf (M .indices) c ≡ vertexOf (M .indices) (turn s (4 * g))) where
-    counted : valencesIn (M .indices) g s ≡ faces (shapeOf (M .indices)) (vertexOf (M .indices) c)
-    counted = ap (faces (shapeOf (M .indices))) (ap (vertexOf (M .indices)) (sym (corner-is s b)) ∙ sym e)
+    counted : valencesIn (M .indices) g s ≡ valenceAt (shapeOf (M .indices)) (vertexOf (M .indices) c)
+    counted = ap (valenceAt (shapeOf (M .indices))) (ap (vertexOf (M .indices)) (sym (corner-is s b)) ∙ sym e)
 
     inside-here : onBoundary (vertexOf (M .indices)) (length (M .indices)) (vertexOf (M .indices) c) ≡ false
     inside-here = rw (e, corner-is s b, whole a) (smooth s b)
 
-    weighed : faces (shapeOf (M .indices)) (vertexOf (M .indices) c) ≡ weight (shapeOf (M .indices)) c
+    weighed : valenceAt (shapeOf (M .indices)) (vertexOf (M .indices) c) ≡ weight (shapeOf (M .indices)) c
     unfolding weight cornerWeight
     weighed = rw inside-here
 

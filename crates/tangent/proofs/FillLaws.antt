@@ -14,7 +14,7 @@ use Rattle.cosine.specs.Cosine.{cosine}
 use Rattle.cosine.specs.Weight.{allWeights}
 use Rattle.cosine.specs.declared.model.Weights.{Weights}
 use Rattle.cosine.proofs.CosineLaws.{cosine-size}
-use Rattle.patch.specs.Point.{View, faces}
+use Rattle.patch.specs.Point.{View, valenceAt}
 use Rattle.patch.specs.Lists.{shapeOf, seen}
 use Rattle.tangent.specs.Vector.{middleVector, innerVector, cosineAt, startInto, endInto}
 use Rattle.tangent.specs.Tangent.{Kind, start, middle, end, inner, startIn, endIn, rowOf, signed, vector, tangent}
@@ -73,14 +73,14 @@ module _ {positions : List ℤ} {indices twins : List ℕ} {g : ℕ} (d : Drawn 
       cosine-here : getD cosines s (pos 0) ≡ cosineAt S half
       cosine-here =
           cosine-is s b
-          ∙ ap (λ (c : ℕ). cosine (faces (shapeOf indices) (vertexOf indices c))) (let e : 4 * g + s ≡ half = omega arith in e)
+          ∙ ap (λ (c : ℕ). cosine (valenceAt (shapeOf indices) (vertexOf indices c))) (let e : 4 * g + s ≡ half = omega arith in e)
 
       cosine-next : getD cosines ((s + 1) % 4) (pos 0) ≡ cosineAt S (next half)
       cosine-next =
           let r = (s + 1) % 4 in
           let e : 4 * g + r ≡ turn r (4 * g) = omega arith in
           let f : turn r (4 * g) ≡ next half = ap (λ (n : ℕ). turn (n % 4) (4 * g)) (add-one s) ∙ sym (turn-after s (4 * g)) in
-          cosine-is r (omega arith) ∙ ap (λ (c : ℕ). cosine (faces (shapeOf indices) (vertexOf indices c))) (e ∙ f)
+          cosine-is r (omega arith) ∙ ap (λ (c : ℕ). cosine (valenceAt (shapeOf indices) (vertexOf indices c))) (e ∙ f)
 
       vector-is : (q : Kind) → vectorOf (sideFrom parts cosines s k) q ≡ vector S half q
       unfolding sideFrom vectorOf vector middleVector innerVector startInto endInto partAt partOf

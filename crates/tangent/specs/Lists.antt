@@ -30,7 +30,7 @@ use Rattle.mesh.specs.Fan.{onBoundary}
 use Rattle.mesh.specs.Tables.{vertexOf}
 use Rattle.cosine.specs.Cosine.{cosine}
 use Rattle.cosine.specs.Weight.{edgeNumerator, faceNumerator, weightsBy}
-use Rattle.patch.specs.Point.{View, faces, weight, sharp}
+use Rattle.patch.specs.Point.{View, valenceAt, weight, sharp}
 use Rattle.patch.specs.Patch.{controlValue}
 use Rattle.patch.specs.Lists.{shapeOf, seen, Coordinates, Twins}
 use Rattle.tangent.specs.Vector.{twinOf, turned, cornerVector, endVector, firstTerm, secondTerm, corrected}
@@ -45,7 +45,7 @@ abbrev pub openIn : List ℕ → ℕ → Bool
 openIn indices g = anyBelow (λ s. onBoundary (vertexOf indices) (length indices) (vertexOf indices (4 * g + s))) 4
 
 abbrev pub valencesIn : List ℕ → ℕ → ℕ → ℕ
-valencesIn indices g s = faces (shapeOf indices) (vertexOf indices (4 * g + s))
+valencesIn indices g s = valenceAt (shapeOf indices) (vertexOf indices (4 * g + s))
 
 abbrev pub cosinesIn : List ℕ → ℕ → ℕ → ℤ
 cosinesIn indices g s = cosine (valencesIn indices g s)
@@ -57,7 +57,7 @@ pub record Weighing (edge face : List ℤ) : Type 0 where
 pub record Ring (positions : List ℤ) (indices twins : List ℕ) (k c n : ℕ) : Type 0 where
   pub placed : Coordinates positions indices k
   pub twinned : Twins indices twins
-  pub counted : n ≡ faces (shapeOf indices) (vertexOf indices c)
+  pub counted : n ≡ valenceAt (shapeOf indices) (vertexOf indices c)
   pub weighed : n ≡ weight (shapeOf indices) c
   pub least : 3 ≤ n
   pub most : n ≤ 16

@@ -23,7 +23,7 @@ use Rattle.mesh.specs.HalfEdge.{twin}
 use Rattle.mesh.specs.Fan.{around, iterate}
 use Rattle.cosine.specs.Cosine.{scale, cosine}
 use Rattle.cosine.specs.Weight.{edgeWeight, faceWeight}
-use Rattle.patch.specs.Point.{View, x, faces}
+use Rattle.patch.specs.Point.{View, x, valenceAt}
 use Rattle.patch.specs.Patch.{controlValue}
 
 -- the twin of half-edge c, and the number of faces at the vertex of corner c
@@ -31,7 +31,7 @@ abbrev pub twinOf : View → ℕ → ℕ
 twinOf S c = twin (S .shape .at) (S .shape .n) c
 
 abbrev pub facesAt : View → ℕ → ℕ
-facesAt S c = faces (S .shape) (S .shape .at c)
+facesAt S c = valenceAt (S .shape) (S .shape .at c)
 
 abbrev pub turned : View → ℕ → ℕ → ℕ
 turned S c i = iterate (around (twin (S .shape .at) (S .shape .n)) (S .shape .n)) i c

@@ -32,7 +32,7 @@ returns c =
       stored = rw (answer .answer-is) at (c .store-counts .ensures);
       twins-are = answer .twins-are;
       patches-are = answer .patches-are;
-      exact-are = answer .exact-are;
+      exact-are = answer .marks-are;
     }
 
 pub rusketja-patches-spec : {M : Type 1} → statement M

@@ -75,7 +75,7 @@ returns c =
       answer-is = answered k;
       twins-are = left k;
       patches-are = rw (refusal-met (countsOf (mesh s)) (met k) (sym (ap checked (c .enum-told .given .1)) ∙ answered k));
-      exact-are = rw (refusal-met (countsOf (mesh s)) (met k) (sym (ap checked (c .enum-told .given .1)) ∙ answered k));
+      marks-are = rw (refusal-met (countsOf (mesh s)) (met k) (sym (ap checked (c .enum-told .given .1)) ∙ answered k));
     }
 
 fill-patches-requires : tie.Need-fill-patches-requires
@@ -88,7 +88,11 @@ fill-patches-requires c κs =
       accepted = result-well-formed (mesh s) (lists s) counted;
       twinned = twins-left (mesh s) (lists s) counted _ (left k);
       patches-room = patches-long (mesh s) (lists s) counted;
+<<<<<<< HEAD
       exact-room = marks-long (mesh s) (lists s) counted;
+=======
+      marks-room = marks-long (mesh s) (lists s) counted;
+>>>>>>> h_patch
     }
 
 same-length-2 : tie.Need-same-length-2
@@ -110,7 +114,7 @@ returns-2 c =
       answer-is = counted;
       twins-are = left k;
       patches-are = filled c .fill-patches .ensures .0 ∙ sym (result-list (mesh s) (lists s) counted);
-      exact-are = filled c .fill-patches .ensures .1 ∙ sym (result-marks (mesh s) (lists s) counted);
+      marks-are = filled c .fill-patches .ensures .1 ∙ sym (result-marks (mesh s) (lists s) counted);
     }
 
 pub patches-spec : {M : Type 1} → statement M
