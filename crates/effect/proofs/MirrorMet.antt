@@ -26,15 +26,9 @@ use Rattle.sample.specs.declared.model.Sampled.{Sampled}
 use Rattle.sample.specs.declared.model.Sampled.the-variants.{At, Refused as RefusedSample}
 use Rattle.sample.specs.declared.model.Marked.{Marked}
 use Rattle.sample.specs.declared.model.Marked.the-variants.{At as AtMarked, Refused as RefusedMarked}
-<<<<<<< HEAD
-use Rattle.patch.specs.Answer.{Lent, lent, patchAnswer, patchTwins, patchList, exactList}
+use Rattle.patch.specs.Answer.{Lent, lent, patchAnswer, patchTwins, patchList, marksList}
 use Rattle.edit.specs.Mirror.{mirrored, Outputs, outputs, mirrorRefusal, mirrorAnswer, outputsOff, MeshMirrored}
 use Rattle.surface.specs.Witness.{sampleAt, markedAt, asked, Evaluated}
-=======
-use Rattle.patch.specs.Answer.{Lent, lent, patchAnswer, patchTwins, patchList, marksList}
-use Rattle.edit.specs.Mirror.{mirrored, mirrorRefusal, mirrorAnswer, outputsOff, MeshMirrored}
-use Rattle.surface.specs.Witness.{sampleAt, markedAt, Evaluated}
->>>>>>> h_patch
 use Rattle.surface.specs.declared.model.SamplePlace.{SamplePlace}
 use Rattle.surface.specs.declared.model.Evaluation.{Evaluation}
 
@@ -78,11 +72,7 @@ evaluation M d n q = record {
 }
 
 pub evaluated-met : (M : IndexedMesh) (d : Lent) (n : ℕ) (q : SamplePlace)
-<<<<<<< HEAD
-    → Evaluated n (asked M d q) (evaluation M d n q) (lent (patchTwins M d) (patchList M d) (exactList M d))
-=======
-    → Evaluated M d n q (evaluation M d n q) (lent (patchTwins M d) (patchList M d) (marksList M d))
->>>>>>> h_patch
+    → Evaluated n (asked M d q) (evaluation M d n q) (lent (patchTwins M d) (patchList M d) (marksList M d))
 evaluated-met M d n q = record {
   patched = record { answer-is = checked-of (patchAnswer M d); twins-are = refl; patches-are = refl; marks-are = refl };
   sample-is = sampled-of (sampleAt (patchList M d) n q);

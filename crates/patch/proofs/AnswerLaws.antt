@@ -58,21 +58,12 @@ module _ (M : IndexedMesh) (d : Lent) {m : Mesh} (answer : result m ≡ patchAns
   pub twins-long : corners M ≤ length (d .twins)
   twins-long =
       ltb-false (length (d .twins)) (corners M)
-<<<<<<< HEAD
-      (or-false (twinsShort M (d .twins)) (patchesShort M (d .patches) || exactShort M (d .marks)) lists-long .0)
-
-  written-long : (patchesShort M (d .patches) ≡ false) × (exactShort M (d .marks) ≡ false)
-  written-long =
-      or-false (patchesShort M (d .patches)) (exactShort M (d .marks))
-      (or-false (twinsShort M (d .twins)) (patchesShort M (d .patches) || exactShort M (d .marks)) lists-long .1)
-=======
       (or-false (twinsShort M (d .twins)) (patchesShort M (d .patches) || marksShort M (d .marks)) lists-long .0)
 
   written-long : (patchesShort M (d .patches) ≡ false) × (marksShort M (d .marks) ≡ false)
   written-long =
       or-false (patchesShort M (d .patches)) (marksShort M (d .marks))
       (or-false (twinsShort M (d .twins)) (patchesShort M (d .patches) || marksShort M (d .marks)) lists-long .1)
->>>>>>> h_patch
 
   pub patches-long : 48 * M .faces ≤ length (d .patches)
   patches-long = ltb-false (length (d .patches)) (48 * M .faces) (written-long .0)

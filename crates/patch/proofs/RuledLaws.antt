@@ -25,22 +25,14 @@ use Rattle.mesh.proofs.CornerLaws.{prev-below}
 use Rattle.mesh.proofs.SizeLaws.{indices-corners}
 use Rattle.mask.specs.Mask.{Fraction, maxSharpness, cornerRule}
 use Rattle.mask.proofs.RuleLaws.{Scaled, rule-inside, rule-boundary, rule-scaled}
-<<<<<<< HEAD
-use Rattle.patch.specs.Point.{faces, inside, weight, sharp, sharpSum, ringSum, fixed, cornerPoint}
-=======
 use Rattle.patch.specs.Point.{valenceAt, inside, weight, sharp, sharpSum, ringSum, fixed, cornerPoint}
->>>>>>> h_patch
 use Rattle.patch.specs.Patch.{shape, view, units, exactly}
 use Rattle.patch.specs.Lists.{shapeOf, seen, endsIn, sharpSumBy}
 use Rattle.patch.specs.PatchTables.{Counts, rule, ruleBy, tagged, endsOf, Renderable, Roomy, Rendered}
 use Rattle.patch.specs.PatchTables.{Allowed, ruledPoint, CornerSource, CornerPoints, Tables}
 use Rattle.patch.proofs.FacePointLaws.{boundary-in, sharp-in}
 use Rattle.patch.proofs.TableLaws.{ring-seen, sharp-seen, ring-size, sharp-most, sharp-size}
-<<<<<<< HEAD
-use Rattle.patch.proofs.TableLaws.{accepted-whole, accepted-indices, accepted-coordinates, faces-range}
-=======
 use Rattle.patch.proofs.TableLaws.{accepted-whole, accepted-indices, accepted-coordinates, valence-range}
->>>>>>> h_patch
 
 -- ---- a fraction with both parts multiplied has the same value and the same mark
 module _ {q q' : Fraction} (s : Scaled q q') where
@@ -84,11 +76,7 @@ module _ {M : IndexedMesh} (a : WellFormed M) where
   rule-allowed : (k p r : ℕ) → k < 3 → p < M .vertices → r ≡ rule (shape M) p → Allowed r (view M k .value p) (ringSum (view M k) p) (sharpSum (view M k) p)
   unfolding rule
   rule-allowed k p r axis l e =
-<<<<<<< HEAD
-      let range = faces-range a p l in
-=======
       let range = valence-range a p l in
->>>>>>> h_patch
       let ring : natAbs (ringSum (view M k) p) ≤ 5 * maxCoordinate * maxValence = omega (arith, ring-size a k axis p, range .1) in
       let sharp : natAbs (sharpSum (view M k) p) ≤ 5 * maxCoordinate * maxValence = omega (arith, sharp-most a k axis p, range .1) in
       let value = a .coordinates (3 * p + k) (omega arith) in

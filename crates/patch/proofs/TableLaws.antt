@@ -128,11 +128,7 @@ module _ {M : IndexedMesh} (a : WellFormed M) where
     unfolding ringSum
     ring-size p = gather-size (at M) p (5 * maxCoordinate) _ (corners M) (ring-term-size (view M k) (accepted-corners a) corner-small)
 
-<<<<<<< HEAD
-    pub sharp-most : (p : ℕ) → natAbs (sharpSum (view M k) p) ≤ 5 * maxCoordinate * faces (shape M) p
-=======
     pub sharp-most : (p : ℕ) → natAbs (sharpSum (view M k) p) ≤ 5 * maxCoordinate * valenceAt (shape M) p
->>>>>>> h_patch
     unfolding sharpSum
     sharp-most p =
         gather-size (at M) p (5 * maxCoordinate) _ (corners M)

@@ -13,15 +13,9 @@
 --   ForRender tags faces twins rules weights ends   both
 --   Rendered G v rules weights ends   the rule of each of v vertices, and of each corner its weight and its far ends of sharp edges: all that is kept
 --                      of the tags and of the counts
-<<<<<<< HEAD
---   Termed positions faces ends k c   what the terms of corner c in the two sums are read from
---   ForSharp positions faces ends k c p sharp   what is asked to add the term of corner c to the sharp sum at place p
---   Summable positions faces ends k ring sharp   what the two sums are made from, and where
-=======
 --   ForTerm positions faces ends k c   what the terms of corner c in the two sums are read from
 --   ForSharp positions faces ends k c p sharp   what is asked to add the term of corner c to the sharp sum at place p
 --   ForSums positions faces ends k ring sharp   what the two sums are made from, and where
->>>>>>> h_patch
 --   Sums S ends ring sharp   the two sums at each vertex
 --   Allowed r p ring sharp   by the rule r, the coordinate p and the two sums make a corner point within the range of the coordinates: the sum that r
 --                      takes is small enough, and both fit 32 bits
@@ -51,11 +45,7 @@ use Rattle.mesh.specs.IndexedMesh.{IndexedMesh, corners}
 use Rattle.mesh.specs.Tables.{Corners, Holds, Indices, vertexOf}
 use Rattle.mesh.specs.WellFormed.{WellFormed}
 use Rattle.mask.specs.Mask.{Fraction, maxSharpness, cornerRule, cornerMask}
-<<<<<<< HEAD
-use Rattle.patch.specs.Point.{Shape, View, faces, inside, weight, sharp, ringSum, cornerPoint}
-=======
 use Rattle.patch.specs.Point.{Shape, View, valenceAt, inside, weight, sharp, ringSum, cornerPoint}
->>>>>>> h_patch
 use Rattle.patch.specs.Patch.{shape, view, units, exactly}
 use Rattle.patch.specs.Answer.{Lent}
 use Rattle.patch.specs.Lists.{shapeOf, seen, Coordinates, Twins, endsByte, sharpSumBy}
@@ -124,29 +114,17 @@ pub record Rendered (G : Shape) (v : ℕ) (rules weights ends : List ℕ) : Type
   pub weights-are : Holds 0 weights (G .n) (weight G)
   pub ends-are : Holds 0 ends (G .n) (endsOf G)
 
-<<<<<<< HEAD
-pub record Termed (positions : List ℤ) (faces ends : List ℕ) (k c : ℕ) : Type 0 where
-=======
 pub record ForTerm (positions : List ℤ) (faces ends : List ℕ) (k c : ℕ) : Type 0 where
->>>>>>> h_patch
   pub placed : Coordinates positions faces k
   pub ends-listed : length faces ≤ length ends
   pub below : c < length faces
 
 pub record ForSharp (positions : List ℤ) (faces ends : List ℕ) (k c p : ℕ) (sharp : List ℤ) : Type 0 where
-<<<<<<< HEAD
-  pub source : Termed positions faces ends k c
-  pub place : p < length sharp
-  pub small : natAbs (getD sharp p (pos 0)) ≤ 5120 * maxCoordinate
-
-pub record Summable (positions : List ℤ) (faces ends : List ℕ) (k : ℕ) (ring sharp : List ℤ) : Type 0 where
-=======
   pub source : ForTerm positions faces ends k c
   pub place : p < length sharp
   pub small : natAbs (getD sharp p (pos 0)) ≤ 5120 * maxCoordinate
 
 pub record ForSums (positions : List ℤ) (faces ends : List ℕ) (k : ℕ) (ring sharp : List ℤ) : Type 0 where
->>>>>>> h_patch
   pub indices : Indices faces (length faces)
   pub ends-listed : length faces ≤ length ends
   pub placed : Coordinates positions faces k
@@ -207,11 +185,7 @@ pub record Ready (M : IndexedMesh) (d : Lent) : Type 0 where
   pub accepted : WellFormed M
   pub twinned : Twins (M .indices) (d .twins)
   pub patches-room : 48 * M .faces ≤ length (d .patches)
-<<<<<<< HEAD
-  pub exact-room : 16 * M .faces ≤ length (d .marks)
-=======
   pub marks-room : 16 * M .faces ≤ length (d .marks)
->>>>>>> h_patch
 
 pub record Tables (M : IndexedMesh) (weights : List ℕ) (points : List ℤ) (marks : List ℕ) : Type 0 where
   pub weights-are : Holds 0 weights (corners M) (weight (shape M))

@@ -2,11 +2,7 @@
 --
 --   PatchLists         the lists that a patch is written from: those of the mesh, its twins, and the tables of weights, corner points and their marks
 --   Source D           these lists serve every corner
-<<<<<<< HEAD
---   ForValues D c, ForPoint D c point, ForNumbered D g m point, ForPatch D g patch exact, ForPatches D f patches exact   what is asked to make a
-=======
 --   ForValues D c, ForPoint D c point, ForNumbered D g m point, ForPatch D g patch marks, ForPatches D f patches marks   what is asked to make a
->>>>>>> h_patch
 --                      point of corner c, to write it, point m of face g, the patch of face g, those of f faces: the lists serve, and there is room
 --   ForVertex faces points marks c   what is asked to look up the corner point of the vertex of corner c
 --   kindOf q           the kind of point, for each case of the code's enum `Kind`
@@ -75,19 +71,6 @@ pub record ForNumbered (D : PatchLists) (g m : ℕ) (point : List ℤ) : Type 0 
   pub sixteen : m < 16
   pub room : 3 ≤ length point
 
-<<<<<<< HEAD
-pub record ForPatch (D : PatchLists) (g : ℕ) (patch : List ℤ) (exact : List ℕ) : Type 0 where
-  pub source : Source D
-  pub face : 4 * g + 4 ≤ length (D .faces)
-  pub patch-room : 48 ≤ length patch
-  pub exact-room : 16 ≤ length exact
-
-pub record ForPatches (D : PatchLists) (f : ℕ) (patches : List ℤ) (exact : List ℕ) : Type 0 where
-  pub source : Source D
-  pub listed : 4 * f ≤ length (D .faces)
-  pub patches-room : 48 * f ≤ length patches
-  pub exact-room : 16 * f ≤ length exact
-=======
 pub record ForPatch (D : PatchLists) (g : ℕ) (patch : List ℤ) (marks : List ℕ) : Type 0 where
   pub source : Source D
   pub face : 4 * g + 4 ≤ length (D .faces)
@@ -99,7 +82,6 @@ pub record ForPatches (D : PatchLists) (f : ℕ) (patches : List ℤ) (marks : L
   pub listed : 4 * f ≤ length (D .faces)
   pub patches-room : 48 * f ≤ length patches
   pub marks-room : 16 * f ≤ length marks
->>>>>>> h_patch
 
 abbrev pub kindOf : enum.Kind → Kind
 kindOf Corner = corner
@@ -142,15 +124,6 @@ pub record NumberedWritten (D : PatchLists) (g m : ℕ) (point : List ℤ) (mark
   pub numbers-are : point' ≡ filled (λ k. numberFrom D g (3 * m + k)) 3 point
   pub mark-is : mark ≡ markFrom D g m
 
-<<<<<<< HEAD
-pub record PatchWritten (D : PatchLists) (g : ℕ) (patch : List ℤ) (exact : List ℕ) (patch' : List ℤ) (exact' : List ℕ) : Type 0 where
-  pub numbers-are : patch' ≡ filled (numberFrom D g) 48 patch
-  pub marks-are : exact' ≡ filled (markFrom D g) 16 exact
-
-pub record PatchesWritten (D : PatchLists) (f : ℕ) (patches : List ℤ) (exact : List ℕ) (patches' : List ℤ) (exact' : List ℕ) : Type 0 where
-  pub numbers-are : patches' ≡ filled (writtenNumber D) (48 * f) patches
-  pub marks-are : exact' ≡ filled (writtenMark D) (16 * f) exact
-=======
 pub record PatchWritten (D : PatchLists) (g : ℕ) (patch : List ℤ) (marks : List ℕ) (patch' : List ℤ) (marks' : List ℕ) : Type 0 where
   pub numbers-are : patch' ≡ filled (numberFrom D g) 48 patch
   pub marks-are : marks' ≡ filled (markFrom D g) 16 marks
@@ -158,4 +131,3 @@ pub record PatchWritten (D : PatchLists) (g : ℕ) (patch : List ℤ) (marks : L
 pub record PatchesWritten (D : PatchLists) (f : ℕ) (patches : List ℤ) (marks : List ℕ) (patches' : List ℤ) (marks' : List ℕ) : Type 0 where
   pub numbers-are : patches' ≡ filled (writtenNumber D) (48 * f) patches
   pub marks-are : marks' ≡ filled (writtenMark D) (16 * f) marks
->>>>>>> h_patch

@@ -5,11 +5,7 @@ use crate::writer::write_patch;
 use limits::model::Mesh;
 ghost use mathlib.Core.Path.{_≡_};
 ghost use Rattle.mesh.specs.IndexedMesh.{indexed};
-<<<<<<< HEAD
-ghost use Rattle.patch.specs.Patch.{patchesAfter, exactAfter};
-=======
 ghost use Rattle.patch.specs.Patch.{patchesAfter, marksAfter};
->>>>>>> h_patch
 ghost use Rattle.patch.specs.Answer.{lent};
 ghost use Rattle.patch.specs.PatchTables.{Ready};
 ghost use Rattle.patch.specs.Written.{patchLists, ForPatches, PatchesWritten};

@@ -9,11 +9,7 @@ ghost use lib.ListN.{length, getD, set};
 ghost use Rattle.limits.specs.Limits.{maxCoordinate};
 ghost use Rattle.patch.specs.Point.{ringTerm};
 ghost use Rattle.patch.specs.Lists.{seen, ForFace, sharpTermBy};
-<<<<<<< HEAD
-ghost use Rattle.patch.specs.PatchTables.{Termed, ForSharp, Summable, Sums};
-=======
 ghost use Rattle.patch.specs.PatchTables.{ForTerm, ForSharp, ForSums, Sums};
->>>>>>> h_patch
 
 // The sum of two numbers.
 fn plus(a: i64, b: i64) -> i64
@@ -51,11 +47,7 @@ fn value_if(b: bool, x: i32) -> i64
 
 // The term of corner c in the sharp sum, of coordinate k.
 fn sharp_term(positions: &[i32], faces: &[u16], ends: &[u8], k: usize, c: usize) -> i64
-<<<<<<< HEAD
-    requires { ⌜ Termed (now positions) (now faces) (now ends) k c ⌝ }
-=======
     requires { ⌜ ForTerm (now positions) (now faces) (now ends) k c ⌝ }
->>>>>>> h_patch
     ensures { λ r. ⌜ r ≡ sharpTermBy (seen (now (positions .entry)) (now (faces .entry)) k) (now (ends .entry)) c ⌝ }
 {
     let a = face_values(positions, faces, k, c);
@@ -93,11 +85,7 @@ pub(crate) fn add_sums(
     ring: &mut [i64],
     sharp: &mut [i64],
 )
-<<<<<<< HEAD
-    requires { ⌜ Summable (now positions) (now faces) (now ends) k (now ring) (now sharp) ⌝ }
-=======
     requires { ⌜ ForSums (now positions) (now faces) (now ends) k (now ring) (now sharp) ⌝ }
->>>>>>> h_patch
     ensures { λ _. ⌜ Sums (seen (now (positions .entry)) (now (faces .entry)) k) (now (ends .entry)) (now (ring .exit)) (now (sharp .exit)) ⌝ }
 {
     for c in 0..faces.len() {

@@ -40,13 +40,8 @@ pub evaluated : {n : ℕ} {a : Asked} {r : Evaluation} {b : Lent} → Patched (a
     → sampled (r .sample) ≡ sampleAt (b .patches) n (a .place) → marked (r .marked) ≡ markedAt (b .patches) (b .marks) n (a .place) → Evaluated n a r b
 evaluated {n} {a} patched sample marks = record {
   patched = patched;
-<<<<<<< HEAD
   sample-is = sample ∙ ap (λ (t : List ℤ). sampleAt t n (a .place)) (patched .patches-are);
-  marked-is = marks ∙ ap₂ (λ (t : List ℤ) (u : List ℕ). markedAt t u n (a .place)) (patched .patches-are) (patched .exact-are);
-=======
-  sample-is = sample ∙ ap (λ (t : List ℤ). sampleAt t n q) (patched .patches-are);
-  marked-is = marks ∙ ap₂ (λ (t : List ℤ) (u : List ℕ). markedAt t u n q) (patched .patches-are) (patched .marks-are);
->>>>>>> h_patch
+  marked-is = marks ∙ ap₂ (λ (t : List ℤ) (u : List ℕ). markedAt t u n (a .place)) (patched .patches-are) (patched .marks-are);
 }
 
 -- a coordinate of three numbers given by their places

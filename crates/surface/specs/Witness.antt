@@ -31,17 +31,10 @@ sampleAt patches n q = sampleAnswer patches (q .face) n (q .a) (q .b)
 abbrev pub markedAt : List ℤ → List ℕ → ℕ → SamplePlace → Answer MarkedPoint
 markedAt patches exact n q = markedAnswer patches exact (q .face) n (q .a) (q .b)
 
-<<<<<<< HEAD
 pub record Asked : Type 0 where
   pub mesh : IndexedMesh
   pub lists : Lent
   pub place : SamplePlace
-=======
-pub record Evaluated (M : IndexedMesh) (d : Lent) (n : ℕ) (q : SamplePlace) (r : Evaluation) (b : Lent) : Type 0 where
-  pub patched : Patched M d (r .mesh) b
-  pub sample-is : sampled (r .sample) ≡ sampleAt (patchList M d) n q
-  pub marked-is : marked (r .marked) ≡ markedAt (patchList M d) (marksList M d) n q
->>>>>>> h_patch
 
 abbrev pub asked : IndexedMesh → Lent → SamplePlace → Asked
 asked M d q = record { mesh = M; lists = d; place = q }
@@ -52,7 +45,7 @@ LongEnough a = listsShort (a .mesh) (a .lists) ≡ false
 pub record Evaluated (n : ℕ) (a : Asked) (r : Evaluation) (b : Lent) : Type 0 where
   pub patched : Patched (a .mesh) (a .lists) (r .mesh) b
   pub sample-is : sampled (r .sample) ≡ sampleAt (patchList (a .mesh) (a .lists)) n (a .place)
-  pub marked-is : marked (r .marked) ≡ markedAt (patchList (a .mesh) (a .lists)) (exactList (a .mesh) (a .lists)) n (a .place)
+  pub marked-is : marked (r .marked) ≡ markedAt (patchList (a .mesh) (a .lists)) (marksList (a .mesh) (a .lists)) n (a .place)
 
 pub record Witnessed (n : ℕ) (a : Asked) (o : SamplePlace) (a' : Asked) (w : Witness) (b b' : Lent) : Type 0 where
   pub first : Evaluated n a (w .first) b

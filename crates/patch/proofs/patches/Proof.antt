@@ -88,11 +88,7 @@ fill-patches-requires c κs =
       accepted = result-well-formed (mesh s) (lists s) counted;
       twinned = twins-left (mesh s) (lists s) counted _ (left k);
       patches-room = patches-long (mesh s) (lists s) counted;
-<<<<<<< HEAD
-      exact-room = marks-long (mesh s) (lists s) counted;
-=======
       marks-room = marks-long (mesh s) (lists s) counted;
->>>>>>> h_patch
     }
 
 same-length-2 : tie.Need-same-length-2

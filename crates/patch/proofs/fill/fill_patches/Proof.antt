@@ -51,11 +51,7 @@ render-requires c κs =
         few = vertices-few s;
         indices = accepted-indices a;
         twinned = s .pre .twinned;
-<<<<<<< HEAD
-        valences-few = λ p l. rw (faces-seen (mesh s) (accepted-whole a) p) (faces-range a p (rw (a .sized .tags-are) at l) .1);
-=======
         valences-few = λ p l. rw (valence-seen (mesh s) (accepted-whole a) p) (valence-range a p (rw (a .sized .tags-are) at l) .1);
->>>>>>> h_patch
       };
       room = record { rules-listed = vertices-few s; weights-listed = corners-few s; ends-listed = corners-few s };
     }
@@ -158,11 +154,7 @@ write-patches-requires c κs =
       source = source (accepted (begun c)) (s .pre .twinned) (weights-listed c) (tables c) (points-listed c) (marks-listed c);
       listed = omega (arith, accepted (begun c) .sized .indices-are);
       patches-room = s .pre .patches-room;
-<<<<<<< HEAD
-      exact-room = s .pre .exact-room;
-=======
       marks-room = s .pre .marks-room;
->>>>>>> h_patch
     }
 
 -- ---- the end

@@ -18,13 +18,8 @@ record Written (D : PatchLists) (f : ℕ) (patches₀ : List ℤ) (exact₀ : Li
   most : g ≤ f
   patches-long : length patches ≡ length patches₀
   patches-are : patches ≡ filled (writtenNumber D) (48 * g) patches₀
-<<<<<<< HEAD
-  exact-long : length exact ≡ length exact₀
-  exact-are : exact ≡ filled (writtenMark D) (16 * g) exact₀
-=======
   marks-long : length exact ≡ length exact₀
   marks-are : exact ≡ filled (writtenMark D) (16 * g) exact₀
->>>>>>> h_patch
 
 abbrev Inv-loop : tie.InvT-loop
 Inv-loop f positions faces twins weights points marks patches₀ exact₀ g₀ patches exact g =
@@ -47,11 +42,7 @@ lists s =
 
 loop-holds : tie.Need-loop-holds Inv-loop μ-loop
 loop-holds c =
-<<<<<<< HEAD
-    record { most = omega arith; patches-long = refl; patches-are = filled-start _ _; exact-long = refl; exact-are = filled-start _ _ }
-=======
     record { most = omega arith; patches-long = refl; patches-are = filled-start _ _; marks-long = refl; marks-are = filled-start _ _ }
->>>>>>> h_patch
 
 mul-at : tie.Need-mul-at Inv-loop μ-loop
 mul-at c = omega arith
@@ -89,11 +80,7 @@ write-patch-requires c κs =
       source = s .pre .source;
       face = omega (arith, s .pre .listed, below);
       patch-room = stretch-long (48 * l .loop .g) 48 (l .loop .patches) (omega (arith, s .pre .patches-room, l .loop .inv .patches-long, below));
-<<<<<<< HEAD
-      exact-room = stretch-long (16 * l .loop .g) 16 (l .loop .exact) (omega (arith, s .pre .exact-room, l .loop .inv .exact-long, below));
-=======
       marks-room = stretch-long (16 * l .loop .g) 16 (l .loop .exact) (omega (arith, s .pre .marks-room, l .loop .inv .marks-long, below));
->>>>>>> h_patch
     }
 
 add-g : tie.Need-add-g Inv-loop μ-loop
@@ -112,36 +99,22 @@ loop-again c =
     (omega arith) (omega (arith, s .pre .patches-room, below)) (number-placed (lists s) (l .loop .g))
     (l .loop .inv .patches-are) (t .write-patch .ensures .numbers-are) in
     let x = filled-stretch _ _ (16 * l .loop .g) 16 (16 * (l .loop .g + 1)) (s .args .exact .now) (l .loop .exact) _
-<<<<<<< HEAD
-    (omega arith) (omega (arith, s .pre .exact-room, below)) (mark-placed (lists s) (l .loop .g))
-    (l .loop .inv .exact-are) (t .write-patch .ensures .marks-are) in
-    record { most = add-one-le below; patches-long = w .0; patches-are = w .1; exact-long = x .0; exact-are = x .1 }
-=======
     (omega arith) (omega (arith, s .pre .marks-room, below)) (mark-placed (lists s) (l .loop .g))
     (l .loop .inv .marks-are) (t .write-patch .ensures .marks-are) in
     record { most = add-one-le below; patches-long = w .0; patches-are = w .1; marks-long = x .0; marks-are = x .1 }
->>>>>>> h_patch
 
 same-length : tie.Need-same-length Inv-loop μ-loop
 same-length c = c .before .loop .inv .patches-long
 
 same-length-2 : tie.Need-same-length-2 Inv-loop μ-loop
-<<<<<<< HEAD
-same-length-2 c = c .before .loop .inv .exact-long
-=======
 same-length-2 c = c .before .loop .inv .marks-long
->>>>>>> h_patch
 
 returns : tie.Need-returns Inv-loop μ-loop
 returns c =
     let inv = c .before .loop .inv in
     record {
       numbers-are = filled-all _ _ _ _ _ (omega (arith, inv .most)) (omega arith) (inv .patches-are);
-<<<<<<< HEAD
-      marks-are = filled-all _ _ _ _ _ (omega (arith, inv .most)) (omega arith) (inv .exact-are);
-=======
       marks-are = filled-all _ _ _ _ _ (omega (arith, inv .most)) (omega arith) (inv .marks-are);
->>>>>>> h_patch
     }
 
 pub write-patches-spec : {M : Type 1} → statement M

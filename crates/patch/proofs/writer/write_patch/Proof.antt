@@ -16,13 +16,8 @@ record Written (D : PatchLists) (g : ℕ) (patch₀ : List ℤ) (exact₀ : List
   most : m ≤ 16
   patch-long : length patch ≡ length patch₀
   patch-is : patch ≡ filled (numberFrom D g) (3 * m) patch₀
-<<<<<<< HEAD
-  exact-long : length exact ≡ length exact₀
-  exact-is : exact ≡ filled (markFrom D g) m exact₀
-=======
   marks-long : length exact ≡ length exact₀
   marks-are : exact ≡ filled (markFrom D g) m exact₀
->>>>>>> h_patch
 
 abbrev Inv-loop : tie.InvT-loop
 Inv-loop positions faces twins weights points marks g patch₀ exact₀ m₀ patch exact m =
@@ -50,11 +45,7 @@ module _ (c : tie.In-loop Inv-loop μ-loop) where
 -- ---- the answers, in the order of the code
 loop-holds : tie.Need-loop-holds Inv-loop μ-loop
 loop-holds c =
-<<<<<<< HEAD
-    record { most = omega arith; patch-long = refl; patch-is = filled-start _ _; exact-long = refl; exact-is = filled-start _ _ }
-=======
     record { most = omega arith; patch-long = refl; patch-is = filled-start _ _; marks-long = refl; marks-are = filled-start _ _ }
->>>>>>> h_patch
 
 mul-at : tie.Need-mul-at Inv-loop μ-loop
 mul-at c = omega arith
@@ -79,22 +70,14 @@ write-numbered-requires c κs =
     record {
       source = s .pre .source;
       face = s .pre .face;
-<<<<<<< HEAD
-      sixteen = i .loop-test .taken;
-=======
       sixteen = omega (arith, i .loop-test .taken);
->>>>>>> h_patch
       room = stretch-long (3 * l .m) 3 (l .patch) (omega (arith, room i, l .inv .patch-long));
     }
 
 slice-write-exact : tie.Need-slice-write-exact Inv-loop μ-loop
 slice-write-exact c =
     let i : tie.In-loop Inv-loop μ-loop = c .before .before .before in
-<<<<<<< HEAD
-    omega (arith, i .loop-test .taken, start i .pre .exact-room, head i .loop .inv .exact-long)
-=======
     omega (arith, i .loop-test .taken, start i .pre .marks-room, head i .loop .inv .marks-long)
->>>>>>> h_patch
 
 add-m : tie.Need-add-m Inv-loop μ-loop
 add-m c = omega arith
@@ -114,39 +97,24 @@ loop-again c =
       most = omega (arith, i .loop-test .taken);
       patch-long = w .0;
       patch-is = w .1;
-<<<<<<< HEAD
-      exact-long = length-set (l .exact) (l .m) _ ∙ l .inv .exact-long;
-      exact-is =
-          filled-more (markFrom (lists i) (s .args .g)) (l .m) _ (s .args .exact .now) (l .exact)
-          (omega (arith, i .loop-test .taken, s .pre .exact-room)) (l .inv .exact-is) (c .before .write-numbered .ensures .mark-is);
-=======
       marks-long = length-set (l .exact) (l .m) _ ∙ l .inv .marks-long;
       marks-are =
           filled-more (markFrom (lists i) (s .args .g)) (l .m) _ (s .args .exact .now) (l .exact)
           (omega (arith, i .loop-test .taken, s .pre .marks-room)) (l .inv .marks-are) (c .before .write-numbered .ensures .mark-is);
->>>>>>> h_patch
     }
 
 same-length : tie.Need-same-length Inv-loop μ-loop
 same-length c = c .before .loop .inv .patch-long
 
 same-length-2 : tie.Need-same-length-2 Inv-loop μ-loop
-<<<<<<< HEAD
-same-length-2 c = c .before .loop .inv .exact-long
-=======
 same-length-2 c = c .before .loop .inv .marks-long
->>>>>>> h_patch
 
 returns : tie.Need-returns Inv-loop μ-loop
 returns c =
     let inv = c .before .loop .inv in
     record {
       numbers-are = filled-all _ _ _ _ _ (omega (arith, inv .most)) (omega arith) (inv .patch-is);
-<<<<<<< HEAD
-      marks-are = filled-all _ _ _ _ _ (omega (arith, inv .most)) (omega arith) (inv .exact-is);
-=======
       marks-are = filled-all _ _ _ _ _ (omega (arith, inv .most)) (omega arith) (inv .marks-are);
->>>>>>> h_patch
     }
 
 pub write-patch-spec : {M : Type 1} → statement M
