@@ -87,12 +87,28 @@ module _ (b : List ℕ) (p t i : ℕ) where
     unfolding decodeRefusal
     decode-read e = none-append (fileRows b) (row (placesShort b p t i) 2 ∷ []) passed ∙ skipped 2 none e
 
-  -- lists that are long enough
-  pub places-long : placesShort b p t i ≡ false → (3 * vertices b ≤ p) × (vertices b ≤ t) × (4 * faces b ≤ i)
-  places-long e =
-      let h₁ = or-false (ltb p (3 * vertices b)) _ e in
-      let h₂ = or-false (ltb t (vertices b)) (ltb i (4 * faces b)) (h₁ .1) in
-      (ltb-false p (3 * vertices b) (h₁ .0), ltb-false t (vertices b) (h₂ .0), ltb-false i (4 * faces b) (h₂ .1))
+-- ---- a file of so many bytes with V = v and F = f that can be read into lists of p, t and i places
+pub record Readable (v f bytes p t i : ℕ) : Type 0 where
+  pub vertices-few : v ≤ maxVertices
+  pub faces-few : f ≤ maxFaces
+  pub length-is : bytes ≡ 6 + 13 * v + 8 * f
+  pub positions-long : 3 * v ≤ p
+  pub tags-long : v ≤ t
+  pub indices-long : 4 * f ≤ i
+
+-- one that passes every test, by its sizes as they were read
+pub readable : (b : List ℕ) (p t i : ℕ) {v f : ℕ} → v ≡ vertices b → f ≡ faces b → Whole b → placesShort b p t i ≡ false → Readable v f (length b) p t i
+readable b p t i ev ef w e =
+    let h₁ = or-false (ltb p (3 * vertices b)) _ e in
+    let h₂ = or-false (ltb t (vertices b)) (ltb i (4 * faces b)) (h₁ .1) in
+    rw (ev, ef) (record {
+      vertices-few = w .vertices-high;
+      faces-few = w .faces-high;
+      length-is = w .length-is;
+      positions-long = ltb-false p (3 * vertices b) (h₁ .0);
+      tags-long = ltb-false t (vertices b) (h₂ .0);
+      indices-long = ltb-false i (4 * faces b) (h₂ .1);
+    })
 
 -- ---- the answer of decoding and the lists
 module _ (b : List ℕ) (p : List ℤ) (t i : List ℕ) where

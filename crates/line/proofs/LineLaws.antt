@@ -15,7 +15,7 @@ use Rattle.integer.specs.Nearest.{nearest}
 use Rattle.integer.proofs.Laws.{read-back}
 use Rattle.finite.specs.Filled.{filled}
 use Rattle.finite.proofs.FilledLaws.{filled-start, filled-more, length-filled}
-use Rattle.sample.specs.Refusal.{maxControl, maxSteps}
+use Rattle.sample.specs.Refusal.{maxControl}
 use Rattle.sample.proofs.BernsteinLaws.{cube-small, sixth-small}
 use Rattle.sample.proofs.SampleLaws.{curve-weighted}
 use Rattle.sample.specs.declared.model.Curves.{Curves}

@@ -73,5 +73,6 @@ lines-listing (refusal k) patches = refl
 -- a place of one of the faces comes before their end
 pub place-below : (n faces f b a : ℕ) → a ≤ n → b ≤ n → f < faces → suc ((f * (n + 1) + b) * (n + 1) + a) ≤ faces * (n + 1) * (n + 1)
 place-below n faces f b a la lb lf =
-    let row : f * (n + 1) + b + 1 ≤ faces * (n + 1) = omega (arith, add-mul f 1 (n + 1), mul-le-mul-right (n + 1) (let l : f + 1 ≤ faces = omega arith in l)) in
+    let later : f + 1 ≤ faces = omega arith in
+    let row : f * (n + 1) + b + 1 ≤ faces * (n + 1) = omega (arith, add-mul f 1 (n + 1), mul-le-mul-right (n + 1) later) in
     omega (arith, add-mul (f * (n + 1) + b) 1 (n + 1), mul-le-mul-right (n + 1) row)

@@ -74,7 +74,8 @@ module _ (t : Tessellation) (patches : List ℤ) (line : ℕ) (p : Place) (some 
   row-text : (j : ℕ) → j < t .steps + 1 - p .a → sampleText patches (t .steps) (p .face) (p .b) (p .a + j) ≡ linesFrom (result t) patches line j
   row-text j q =
       sym (text-at patches (t .steps) (p .face) (p .b) (p .a + j) (placed .b-within) (omega (arith, q)))
-      ∙ ap (sampleTextAt patches (t .steps)) (let z : (p .face * (t .steps + 1) + p .b) * (t .steps + 1) + (p .a + j) ≡ line - 1 + j = omega (arith, here) in z)
+      ∙ ap (sampleTextAt patches (t .steps))
+      (let z : (p .face * (t .steps + 1) + p .b) * (t .steps + 1) + (p .a + j) ≡ line - 1 + j = omega (arith, here) in z)
       ∙ sym (line-later t patches line j some)
 
   row-within : t .steps + 1 - p .a ≤ handedCount (result t) - line

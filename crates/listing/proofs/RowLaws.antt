@@ -127,8 +127,10 @@ module _ (answer : Answer Tessellation) (patches : List ℤ) (line : ℕ) {lines
 
   -- where no line is left, or the buffer has no room for one, the stretch is whole
   pub running-stretched : (to < lines → length after - at < linePlaces) → Stretched answer patches line before (record { line = to; length = at }) after
-  running-stretched full =
-      record { line-is = omega (arith, g .on, count); stored = subst (λ (n : ℕ). Stored (joined (linesFrom answer patches line) n) before after at) count (g .stored) }
+  running-stretched full = record {
+    line-is = omega (arith, g .on, count);
+    stored = subst (λ (n : ℕ). Stored (joined (linesFrom answer patches line) n) before after at) count (g .stored);
+  }
     where
       count : to - line ≡ linesFitting answer patches line (length before)
       count =

@@ -11,7 +11,7 @@ ghost use lib.ListN.{length};
 ghost use Rattle.answer.specs.Table.{result};
 ghost use Rattle.sample.specs.Refusal.{maxSteps};
 ghost use Rattle.line.specs.Line.{lineLength, pointIn};
-ghost use Rattle.text.specs.Text.{linePlaces};
+ghost use Rattle.text.specs.Text.{linePlaces, Printed};
 ghost use Rattle.listing.specs.Listing.{lineOf, sampleText, handedCount, linesFrom};
 ghost use Rattle.listing.specs.Place.{index, Placed, Run};
 
@@ -29,6 +29,17 @@ fn place_of(n: usize, i: usize) -> Place
     }
 }
 
+// The line of the point at place a of a row, that of p.
+fn point_line(points: &[i32], p: Place, a: usize, out: &mut [u8]) -> usize
+    requires { ⌜ (a ≤ maxSteps) × (lineLength a ≤ length (now points)) ⌝ }
+    ensures { λ r. ⌜ Printed (lineOf (result (pointIn (now (points .entry)) a)) (p .face) a (p .b)) (now (out .entry)) (now (out .exit)) r ⌝ }
+{
+    let x = points[3 * a];
+    let y = points[3 * a + 1];
+    let z = points[3 * a + 2];
+    text::sample_line(p.face, a, p.b, x, y, z, out)
+}
+
 // The lines of the points of a row from p on, as many as have room.
 fn point_lines(points: &[i32], n: usize, p: Place, out: &mut [u8]) -> Lines
     requires { ⌜ Placed n p × (lineLength n ≤ length (now points)) × (linePlaces ≤ length (now out)) ⌝ }
@@ -38,10 +49,7 @@ fn point_lines(points: &[i32], n: usize, p: Place, out: &mut [u8]) -> Lines
     let mut a = p.a;
     let mut at: usize = 0;
     while a <= n && LINE_PLACES <= out.len() - at {
-        let x = points[3 * a];
-        let y = points[3 * a + 1];
-        let z = points[3 * a + 2];
-        at += text::sample_line(p.face, a, p.b, x, y, z, &mut out[at..]);
+        at += point_line(points, p, a, &mut out[at..]);
         a += 1;
     }
     Lines {

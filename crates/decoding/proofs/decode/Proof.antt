@@ -3,7 +3,7 @@ use mathlib.Core.Path.{_≡_, sym, ap, ap₂, _∙_}
 use mathlib.Core.Bool.{Bool, _||_}
 use mathlib.Core.List.{List}
 use mathlib.Core.Option.{none}
-use Prim.Native.Nat.{ℕ, _+_, _*_, _≤_}
+use Prim.Native.Nat.{ℕ, _+_, _*_}
 use native.Mathlib.Omega.{arith}
 use lib.Dec.{ltb}
 use lib.ListN.{length, getD}
@@ -11,14 +11,16 @@ use borrow.Author.Needs.{needs}
 use Rattle.finite.specs.Filled.{filled}
 use Rattle.answer.specs.Table.{firstMet, refusalOf}
 use Rattle.answer.proofs.TableLaws.{refusal-some}
-use Rattle.limits.specs.Limits.{maxVertices, maxFaces}
 use Rattle.decoding.specs.declared.model.Header.{Header}
 use Rattle.decoding.specs.Bytes.{le16}
 use Rattle.decoding.specs.File.{vertices, faces, positionAt, fileRows}
 use Rattle.decoding.specs.Decoding.{placesShort}
-use Rattle.decoding.proofs.FileLaws.{Whole, file-whole, decode-file, decode-short, decode-read, places-long, file-refused, file-decoded}
+use Rattle.decoding.proofs.FileLaws.{Whole, file-whole, decode-file, decode-short, decode-read, Readable, readable, file-refused, file-decoded}
 use Rattle.decoding.proofs.decode.Statement.{statement}
 use Rattle.decoding.proofs.decode.Tie as tie
+
+abbrev entry : tie.After-file-refusal → tie.Start
+entry c = c .before .before .before .before
 
 -- ---- the file's own refusals have passed
 module _ (c : tie.Else1) where
@@ -26,7 +28,7 @@ module _ (c : tie.Else1) where
   own = c .before
 
   abbrev start : tie.Start
-  start = own .before .before .before .before
+  start = entry own
 
   abbrev file : List ℕ
   file = start .args .bytes .now
@@ -65,7 +67,7 @@ module _ (c : tie.After-places-short) where
   told : placesShort (file (sizes .before)) positions tags indices ≡ c .places-short .result
   told = sym (c .places-short .ensures ∙ ap₂ short (vertices-read sizes) (faces-read sizes))
 
--- ---- all tests have passed: the sizes, and the lengths of the file and of the lists, as the code has them
+-- ---- all tests have passed: the file can be read into the lists, by the sizes as the code has them
 module _ (c : tie.Else2) where
   abbrev read : tie.After-sizes-of
   read = sizes (c .before)
@@ -76,16 +78,8 @@ module _ (c : tie.Else2) where
   abbrev f : ℕ
   f = read .sizes-of .result .faces
 
-  few : (v ≤ maxVertices) × (f ≤ maxFaces)
-  few = let w = whole (read .before) in (omega (arith, vertices-read read, w .vertices-high), omega (arith, faces-read read, w .faces-high))
-
-  length-is : length (file (read .before)) ≡ 6 + 13 * v + 8 * f
-  length-is = whole (read .before) .length-is ∙ ap₂ (λ (n g : ℕ). 6 + 13 * n + 8 * g) (sym (vertices-read read)) (sym (faces-read read))
-
-  long : (3 * v ≤ positions (c .before)) × (v ≤ tags (c .before)) × (4 * f ≤ indices (c .before))
-  long =
-      let h = places-long (file (read .before)) _ _ _ (told (c .before) ∙ c .if2 .left) in
-      (omega (arith, vertices-read read, h .0), omega (arith, vertices-read read, h .1), omega (arith, faces-read read, h .2))
+  fits : Readable v f (length (file (read .before))) (positions (c .before)) (tags (c .before)) (indices (c .before))
+  fits = readable (file (read .before)) _ _ _ (vertices-read read) (faces-read read) (whole (read .before)) (told (c .before) ∙ c .if2 .left)
 
 -- ---- the way back to the tests: from the positions that were written, and from the tags
 abbrev positions-tested : tie.After-fill-i32s → tie.Else2
@@ -99,8 +93,8 @@ file-refusal-requires c κs = tt
 
 returns : tie.Need-returns
 returns c =
-    let f = c .before in
-    let s = f .before .before .before .before in
+    let f : tie.After-file-refusal = c .before in
+    let s = entry f in
     let r = f .file-refusal .result in
     file-refused (s .args .bytes .now) _ _ _ r (decode-file (s .args .bytes .now) _ _ _ (f .file-refusal .ensures ∙ refusal-some r (c .if1 .taken)))
 
@@ -116,31 +110,31 @@ returns-2 c =
     file-refused (file f) _ _ _ 2 (decode-short (file f) _ _ _ (passed f) (told (c .before) ∙ c .if2 .taken))
 
 mul-fill-i32s : tie.Need-mul-fill-i32s
-mul-fill-i32s c = omega (arith, few c .0)
+mul-fill-i32s c = omega (arith, fits c .vertices-few)
 
 fill-i32s-requires : tie.Need-fill-i32s-requires
-fill-i32s-requires c κs = (omega (arith, length-is (c .before)), long (c .before) .0)
+fill-i32s-requires c κs = let r = fits (c .before) in (omega (arith, r .length-is), r .positions-long)
 
 mul-fill-bytes : tie.Need-mul-fill-bytes
-mul-fill-bytes c = omega (arith, few (positions-tested (c .before)) .0)
+mul-fill-bytes c = omega (arith, fits (positions-tested (c .before)) .vertices-few)
 
 add-fill-bytes : tie.Need-add-fill-bytes
-add-fill-bytes c = omega (arith, few (positions-tested (c .before)) .0)
+add-fill-bytes c = omega (arith, fits (positions-tested (c .before)) .vertices-few)
 
 fill-bytes-requires : tie.Need-fill-bytes-requires
-fill-bytes-requires c κs = let e = positions-tested (c .before .before) in (omega (arith, length-is e), long e .1)
+fill-bytes-requires c κs = let r = fits (positions-tested (c .before .before)) in (omega (arith, r .length-is), r .tags-long)
 
 mul-fill-u16s : tie.Need-mul-fill-u16s
-mul-fill-u16s c = omega (arith, few (tags-tested (c .before .before)) .0)
+mul-fill-u16s c = omega (arith, fits (tags-tested (c .before .before)) .vertices-few)
 
 add-fill-u16s : tie.Need-add-fill-u16s
-add-fill-u16s c = omega (arith, few (tags-tested (c .before .before)) .0)
+add-fill-u16s c = omega (arith, fits (tags-tested (c .before .before)) .vertices-few)
 
 mul-fill-u16s-2 : tie.Need-mul-fill-u16s-2
-mul-fill-u16s-2 c = omega (arith, few (tags-tested (c .before .before)) .1)
+mul-fill-u16s-2 c = omega (arith, fits (tags-tested (c .before .before)) .faces-few)
 
 fill-u16s-requires : tie.Need-fill-u16s-requires
-fill-u16s-requires c κs = let e = tags-tested (c .before .before .before) in (omega (arith, length-is e), long e .2)
+fill-u16s-requires c κs = let r = fits (tags-tested (c .before .before .before)) in (omega (arith, r .length-is), r .indices-long)
 
 same-length : tie.Need-same-length
 same-length c = search needs
@@ -153,9 +147,9 @@ same-length-3 c = search needs
 
 returns-3 : tie.Need-returns-3
 returns-3 c =
-    let i = c .before .before in
-    let t = i .before .before .before .before in
-    let p = t .before .before .before in
+    let i : tie.After-fill-u16s = c .before .before in
+    let t : tie.After-fill-bytes = i .before .before .before .before in
+    let p : tie.After-fill-i32s = t .before .before .before in
     let k = positions-tested p in
     let r = read k in
     let b = file (r .before) in

@@ -101,8 +101,10 @@ loop-less c = let w = called (c .before) in omega (arith, leads w, within w)
 loop-again : tie.Need-loop-again Inv-loop μ-loop
 loop-again c =
     let w = called (c .before) in
-    let s = start (here w) .args in
-    running-lines (opened (s .answer)) (s .patches .now) (s .line) (lines-are (here w)) (here w .loop .inv) _ _ (in-loop w .before .loop-test .taken) (w .next-lines .ensures)
+    let l = here w in
+    let s = start l .args in
+    running-lines (opened (s .answer)) (s .patches .now) (s .line) (lines-are l) (l .loop .inv) _ _ (in-loop w .before .loop-test .taken)
+    (w .next-lines .ensures)
 
 same-length : tie.Need-same-length Inv-loop μ-loop
 same-length c = stored-length (c .before .before .loop .inv .stored)

@@ -4,11 +4,8 @@ use mathlib.Core.Logic.{⊎-elim}
 use mathlib.Core.List.{List}
 use Prim.Native.Nat.{ℕ, _+_, _-_, _*_, _≤_}
 use native.Mathlib.Omega.{arith}
-use lib.IntN.{ℤ, pos}
-use lib.ListN.{length, getD, length-take, length-drop}
-use mir.Syntax.{w32}
-use mir.Val.{SFits}
-use mir.Facts.{toZ-ofZ}
+use lib.IntN.{ℤ}
+use lib.ListN.{length, length-take, length-drop}
 use borrow.Author.Needs.{needs}
 use borrow.Author.Tests.{leb-true, leb-false}
 use Rattle.answer.specs.Table.{result}
@@ -58,38 +55,24 @@ module _ (c : tie.Then1 Inv-loop μ-loop) where
   room : linePlaces ≤ length (at-loop .loop .out) - at-loop .loop .at
   room = leb-true linePlaces _ (c .if1 .taken)
 
--- ---- the three numbers are read
-abbrev in-loop : tie.After-z Inv-loop μ-loop → tie.Then1 Inv-loop μ-loop
-in-loop c = c .before .before .before
-
-module _ (c : tie.After-z Inv-loop μ-loop) where
-  abbrev number : ℕ → ℤ
-  number i = getD (start (at-loop (in-loop c)) .args .points .now) i (pos 0)
-
-  abbrev place : ℕ
-  place = 3 * at-loop (in-loop c) .loop .a
-
-  fits : SFits w32 (number place) × SFits w32 (number (place + 1)) × SFits w32 (number (place + 2))
-  fits = (record { sfits = c .before .before .x .given }, record { sfits = c .before .y .given }, record { sfits = c .z .given })
-
 -- ---- the line is stored
-abbrev read : tie.After-sample-line Inv-loop μ-loop → tie.After-z Inv-loop μ-loop
-read c = c .before .before
-
--- it is that of the next place,
+-- that of the next place,
 printed-at : (points : List ℤ) (p : Place) (a : ℕ) {l m : List ℕ} {r : ℕ} → p .a ≤ a
     → Printed (lineOf (result (pointIn points a)) (p .face) a (p .b)) l m r → Printed (lineText points p (a - p .a + 0)) l m r
 printed-at points p a {l} {m} {r} on q =
     subst (λ (i : ℕ). Printed (lineOf (result (pointIn points i)) (p .face) i (p .b)) l m r) (let e : a ≡ p .a + (a - p .a + 0) = omega (arith, on) in e) q
 
--- and ends within the part that was lent
-module _ (c : tie.After-sample-line Inv-loop μ-loop) where
-  abbrev here : tie.At-loop Inv-loop μ-loop
-  here = at-loop (in-loop (read c))
+-- and it ends within the part that was lent
+module _ (c : tie.After-point-line Inv-loop μ-loop) where
+  abbrev in-loop : tie.Then1 Inv-loop μ-loop
+  in-loop = c .before .before
 
-  stored-end : here .loop .at + c .sample-line .result ≤ length (here .loop .out)
+  abbrev here : tie.At-loop Inv-loop μ-loop
+  here = at-loop in-loop
+
+  stored-end : here .loop .at + c .point-line .result ≤ length (here .loop .out)
   stored-end =
-      omega (arith, ends here, simp (length-take, length-drop) at (printed-within (c .sample-line .kept .1 .1 .1 .1 .1 .1 .0) (c .sample-line .ensures)))
+      omega (arith, ends here, simp (length-take, length-drop) at (printed-within (c .point-line .kept .1 .1 .1 .0) (c .point-line .ensures)))
 
 -- ---- the answers, in the order of the code
 loop-holds : tie.Need-loop-holds Inv-loop μ-loop
@@ -98,77 +81,42 @@ loop-holds c = let s = c .before in running-start _ _ _ _ (omega (arith, s .pre 
 sub-if1 : tie.Need-sub-if1 Inv-loop μ-loop
 sub-if1 c = ends (c .before)
 
-mul-x : tie.Need-mul-x Inv-loop μ-loop
-mul-x c = omega (arith, few c)
+sub-point-line : tie.Need-sub-point-line Inv-loop μ-loop
+sub-point-line c = ends (at-loop c)
 
-mul-x-2 : tie.Need-mul-x-2 Inv-loop μ-loop
-mul-x-2 c = search needs
+part-point-line-start : tie.Need-part-point-line-start Inv-loop μ-loop
+part-point-line-start c = omega (arith, ends (at-loop c))
 
-shared-slice-copy-out-x : tie.Need-shared-slice-copy-out-x Inv-loop μ-loop
-shared-slice-copy-out-x c = omega (arith, held c)
+part-point-line-end : tie.Need-part-point-line-end Inv-loop μ-loop
+part-point-line-end c = search needs
 
-mul-y : tie.Need-mul-y Inv-loop μ-loop
-mul-y c = omega (arith, few (c .before))
-
-add-y : tie.Need-add-y Inv-loop μ-loop
-add-y c = omega (arith, few (c .before))
-
-mul-y-2 : tie.Need-mul-y-2 Inv-loop μ-loop
-mul-y-2 c = search needs
-
-shared-slice-copy-out-y : tie.Need-shared-slice-copy-out-y Inv-loop μ-loop
-shared-slice-copy-out-y c = omega (arith, held (c .before))
-
-mul-z : tie.Need-mul-z Inv-loop μ-loop
-mul-z c = omega (arith, few (c .before .before))
-
-add-z : tie.Need-add-z Inv-loop μ-loop
-add-z c = omega (arith, few (c .before .before))
-
-mul-z-2 : tie.Need-mul-z-2 Inv-loop μ-loop
-mul-z-2 c = search needs
-
-shared-slice-copy-out-z : tie.Need-shared-slice-copy-out-z Inv-loop μ-loop
-shared-slice-copy-out-z c = omega (arith, held (c .before .before))
-
-sub-sample-line : tie.Need-sub-sample-line Inv-loop μ-loop
-sub-sample-line c = ends (at-loop (in-loop c))
-
-part-sample-line-start : tie.Need-part-sample-line-start Inv-loop μ-loop
-part-sample-line-start c = omega (arith, ends (at-loop (in-loop c)))
-
-part-sample-line-end : tie.Need-part-sample-line-end Inv-loop μ-loop
-part-sample-line-end c = search needs
-
-sample-line-requires : tie.Need-sample-line-requires Inv-loop μ-loop
-sample-line-requires c κs = tt
+point-line-requires : tie.Need-point-line-requires Inv-loop μ-loop
+point-line-requires c κs = let i : tie.Then1 Inv-loop μ-loop = c .before in (few i, held i)
 
 add-at : tie.Need-add-at Inv-loop μ-loop
 add-at c = let w = c .before .before in omega (arith, stored-end w, stored-length (here w .loop .inv .stored), start (here w) .good)
 
 add-a : tie.Need-add-a Inv-loop μ-loop
-add-a c = omega (arith, few (in-loop (read (c .before .before))))
+add-a c = omega (arith, few (in-loop (c .before .before)))
 
 loop-less : tie.Need-loop-less Inv-loop μ-loop
-loop-less c = omega (arith, on-row (in-loop (read (c .before .before))))
+loop-less c = omega (arith, on-row (in-loop (c .before .before)))
 
 loop-again : tie.Need-loop-again Inv-loop μ-loop
 loop-again c =
     let w = c .before .before in
-    let v = read w in
-    let i = in-loop v in
+    let i = in-loop w in
     let l = here w in
     let s = start l in
     running-more (l .loop .inv) _ _
     (run-one (λ j. lineText (s .args .points .now) (s .args .p) (l .loop .a - s .args .p .a + j)) 1 (omega arith)
     (rw (length-take, length-drop) (omega (arith, room i)))
-    (w .sample-line .kept .1 .1 .1 .1 .1 .1 .0)
-    (printed-at (s .args .points .now) (s .args .p) (l .loop .a) (l .loop .inv .on)
-    (rw (toZ-ofZ (fits v .0), toZ-ofZ (fits v .1), toZ-ofZ (fits v .2)) at (w .sample-line .ensures))))
+    (w .point-line .kept .1 .1 .1 .0)
+    (printed-at (s .args .points .now) (s .args .p) (l .loop .a) (l .loop .inv .on) (w .point-line .ensures)))
     (omega (arith, on-row i))
 
-sub-t24 : tie.Need-sub-t24 Inv-loop μ-loop
-sub-t24 c = c .before .before .loop .inv .on
+sub-t16 : tie.Need-sub-t16 Inv-loop μ-loop
+sub-t16 c = c .before .before .loop .inv .on
 
 same-length : tie.Need-same-length Inv-loop μ-loop
 same-length c = stored-length (c .before .before .loop .inv .stored)
@@ -190,25 +138,14 @@ point-lines-spec =
     μ-loop
     loop-holds
     sub-if1
-    mul-x
-    mul-x-2
-    shared-slice-copy-out-x
-    mul-y
-    add-y
-    mul-y-2
-    shared-slice-copy-out-y
-    mul-z
-    add-z
-    mul-z-2
-    shared-slice-copy-out-z
-    sub-sample-line
-    part-sample-line-start
-    part-sample-line-end
-    sample-line-requires
+    sub-point-line
+    part-point-line-start
+    part-point-line-end
+    point-line-requires
     add-at
     add-a
     loop-less
     loop-again
-    sub-t24
+    sub-t16
     same-length
     returns)

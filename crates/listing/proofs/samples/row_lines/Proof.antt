@@ -91,8 +91,9 @@ returns-2 c =
     let s : tie.After-sample-line = not-sampled k in
     let told = sym (ap outcome (k .k .given .1)) ∙ s .sample-line .ensures .answer-is in
     let p = start s .args .p in
-    let here = line-refused _ _ _ _ _ (p .a + 0) (omega (arith, start s .pre .0 .a-within)) (omega (arith, start s .pre .0 .steps-few)) (refusal-met tt _ told) in
-    run-one _ _ (omega (arith, start s .pre .0 .a-within)) (start s .pre .1) (w .refusal-line .kept .1 .0)
+    let placed = start s .pre .0 in
+    let here = line-refused _ _ _ _ _ (p .a + 0) (omega (arith, placed .a-within)) (omega (arith, placed .steps-few)) (refusal-met tt _ told) in
+    run-one _ _ (omega (arith, placed .a-within)) (start s .pre .1) (w .refusal-line .kept .1 .0)
     (printed-as (λ r. line s r 0) (sym here) (w .refusal-line .ensures))
 
 pub row-lines-spec : {M : Type 1} → statement M
