@@ -6,14 +6,12 @@ use mathlib.Core.Option.{none, some}
 use Prim.Native.Nat.{ℕ, _+_, _*_, _≤_, _<_}
 use lib.Dec.{eqb, ltb}
 use lib.IntN.{ℤ}
-use lib.ListN.{length, take, drop}
-use lib.Seq.{take-at}
+use lib.ListN.{length}
 use borrow.Author.Tests.{lt-ltb, le-ltb, eq-eqb, ne-eqb, ltb-false, eqb-true, not-false}
-use Rattle.finite.specs.Filled.{listBelow, filled}
+use Rattle.finite.specs.Filled.{filled}
 use Rattle.answer.specs.Table.{row, firstMet}
 use Rattle.finite.proofs.AnyAll.{or-false}
 use Rattle.answer.proofs.TableLaws.{met-here, skipped, none-met, some-append, none-append}
-use Rattle.finite.proofs.FilledLaws.{length-listBelow}
 use Rattle.limits.specs.Limits.{minVertices, maxVertices, minFaces, maxFaces}
 use Rattle.limits.specs.Range.{off}
 use Rattle.limits.proofs.RangeLaws.{off-false}
@@ -119,7 +117,3 @@ module _ (b : List ℕ) (p : List ℤ) (t i : List ℕ) where
       → p' ≡ filled (positionAt b) (3 * vertices b) p → t' ≡ filled (tagAt b) (vertices b) t → i' ≡ filled (indexAt b) (4 * faces b) i
       → FileDecoded b p t i (Read h) p' t' i'
   file-decoded e h q p' t' i' ep et ei = record { answer-is = rw (e, q); positions-are = rw e ep; tags-are = rw e et; faces-are = rw e ei }
-
-pub take-filled : {A : Type 0} (f : ℕ → A) (n : ℕ) (d : List A) → take n (filled f n d) ≡ listBelow f n
-unfolding filled listBelow
-take-filled f n d = take-at (listBelow f n) (drop n d) n (length-listBelow f n)

@@ -108,3 +108,24 @@ module _ {A : Type 0} where
   filled-stretch f g m w n d l ys next long h e q =
       let more = filled-tail f g m w d l ys h e q ∙ ap (λ (k : ℕ). filled f k d) (sym next) in
       (ap length more ∙ length-filled f n d long, more)
+
+  -- ---- the front of a filled list, and three stores behind it
+  pub take-filled : (f : ℕ → A) (n : ℕ) (d : List A) → take n (filled f n d) ≡ listBelow f n
+  unfolding filled listBelow
+  take-filled f n d = take-at (listBelow f n) (drop n d) n (length-listBelow f n)
+
+  pub filled-three : (f : ℕ → A) (m : ℕ) {x y z : A} (d l : List A) → m + 3 ≤ length d → l ≡ filled f m d → x ≡ f m → y ≡ f (m + 1) → z ≡ f (m + 2)
+      → set (set (set l m x) (m + 1) y) (m + 2) z ≡ filled f (m + 3) d
+  filled-three f m d l long e p q r =
+      let two : m + 1 + 1 ≡ m + 2 = omega arith in
+      let three : m + 2 + 1 ≡ m + 3 = omega arith in
+      let first = filled-more f m _ d l (omega arith) e p in
+      let second = filled-more f (m + 1) _ d _ (omega arith) first q ∙ ap (λ (i : ℕ). filled f i d) two in
+      filled-more f (m + 2) _ d _ (omega arith) second r ∙ ap (λ (i : ℕ). filled f i d) three
+
+  -- ---- the part of a list from p on, as it is lent: nothing stands behind it
+  pub part-lent : (l : List A) (p : ℕ) → take (length l - p) (drop p l) ≡ drop p l
+  part-lent l p = take-all (length l - p) (drop p l) (le-of-eq (length-drop p l))
+
+  pub behind-lent : (l : List A) (p : ℕ) → drop (length l - p) (drop p l) ≡ []
+  behind-lent l p = drop-of-length-le (drop p l) (le-of-eq (length-drop p l))

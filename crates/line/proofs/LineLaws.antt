@@ -14,7 +14,7 @@ use mir.Val.{toZ, ofZ}
 use Rattle.integer.specs.Nearest.{nearest}
 use Rattle.integer.proofs.Laws.{read-back}
 use Rattle.finite.specs.Filled.{filled}
-use Rattle.finite.proofs.FilledLaws.{filled-start, filled-more, length-filled}
+use Rattle.finite.proofs.FilledLaws.{filled-start, filled-three, length-filled}
 use Rattle.sample.specs.Refusal.{maxControl}
 use Rattle.sample.proofs.BernsteinLaws.{cube-small, sixth-small}
 use Rattle.sample.proofs.SampleLaws.{curve-weighted}
@@ -81,16 +81,6 @@ module _ {n d : ℕ} {curve : List ℤ} (c : Curved n d curve) {a : ℕ} (at : a
   pub sums-next : {x' : List ℤ} → x' ≡ nextOf x → x' ≡ sumsOf n curve (a + 1)
   sums-next e = e ∙ ap nextOf hx ∙ cubic-next h n a
 
--- one point more in a list that is filled from the front
-filled-point : {A : Type 0} (f : ℕ → A) (a : ℕ) {x y z : A} (d m : List A) → 3 * (a + 1) ≤ length d → m ≡ filled f (3 * a) d
-    → x ≡ f (3 * a + 0) → y ≡ f (3 * a + 1) → z ≡ f (3 * a + 2)
-    → set (set (set m (3 * a) x) (3 * a + 1) y) (3 * a + 2) z ≡ filled f (3 * (a + 1)) d
-filled-point f a {x} {y} {z} d m long e p q r =
-    let first = filled-more f (3 * a) x d m (omega arith) e (p ∙ ap f (omega arith)) in
-    let second = filled-more f (3 * a + 1) y d _ (omega arith) first q in
-    let third = filled-more f (3 * a + 2) z d _ (omega arith) (second ∙ ap (λ (i : ℕ). filled f i d) (omega arith)) r in
-    third ∙ ap (λ (i : ℕ). filled f i d) (omega arith)
-
 -- ---- a loop over the points
 --   Drawn curves n before after x y z a   the list has the points before a at its front, and x, y and z are the sums of the three curves at a
 pub record Drawn (curves : Curves) (n : ℕ) (before after x y z : List ℤ) (a : ℕ) : Type 0 where
@@ -131,8 +121,13 @@ module _ {curves : Curves} {n : ℕ} {before after x y z : List ℤ} {a : ℕ} (
         → p ≡ lineOf n curves (3 * a + 0) → q ≡ lineOf n curves (3 * a + 1) → r ≡ lineOf n curves (3 * a + 2)
         → x' ≡ nextOf x → y' ≡ nextOf y → z' ≡ nextOf z
         → Drawn curves n before (set (set (set after (3 * a) p) (3 * a + 1) q) (3 * a + 2) r) x' y' z' (a + 1)
-    drawn-more {x' = x'} {y' = y'} {z' = z'} long hp hq hr hx hy hz = record {
-      within = omega arith;
-      points = filled-point (lineOf n curves) a before after (omega arith) (g .points) hp hq hr;
-      sums = λ k l. sums-next (curved k l) at (g .sums k l) (each-three (λ k. ofThree x' y' z' k ≡ nextOf (ofThree x y z k)) hx hy hz k l);
-    }
+    drawn-more {x' = x'} {y' = y'} {z' = z'} long hp hq hr hx hy hz =
+        let front : 3 * a + 0 ≡ 3 * a = omega arith in
+        let end : 3 * a + 3 ≡ 3 * (a + 1) = omega arith in
+        record {
+          within = omega arith;
+          points =
+              filled-three (lineOf n curves) (3 * a) before after (omega arith) (g .points) (hp ∙ ap (lineOf n curves) front) hq hr
+              ∙ ap (λ (i : ℕ). filled (lineOf n curves) i before) end;
+          sums = λ k l. sums-next (curved k l) at (g .sums k l) (each-three (λ k. ofThree x' y' z' k ≡ nextOf (ofThree x y z k)) hx hy hz k l);
+        }

@@ -14,9 +14,6 @@ use Rattle.text.specs.Text.{linePlaces}
 use Rattle.listing.specs.Listing.{joined, fitting}
 use Rattle.listing.specs.Place.{Room}
 
-pub lt-unless : {a b : ℕ} → a ≤ b → (a ≡ b → ⊥) → a < b
-lt-unless {a} {b} l h = ⊎-elim (λ e. absurd (h e)) (λ q. q) (eq-or-lt-of-le l)
-
 module _ (text : ℕ → List ℕ) (left places : ℕ) where
   -- so many had room, and one more is not left or has none
   pub fitting-is : (count : ℕ) → count ≤ left → ((k : ℕ) → k < count → Room text places k) → (count < left → places - length (joined text count) < linePlaces)
@@ -42,9 +39,9 @@ module _ (text : ℕ → List ℕ) (left places : ℕ) where
   unfolding fitting joined
   fitting-some some room =
       ⊎-elim
-      (λ w. rw (w .1) (lt-unless (omega arith) (λ e.
+      (λ w.
       let full : places - length (joined text (w .0)) < linePlaces = ltb-true _ linePlaces (w .3) in
-      let none : length (joined text (w .0)) ≡ 0 = ap (λ (k : ℕ). length (joined text k)) (sym e) in
-      omega (arith, room, full, none))))
+      let later : 0 ≡ w .0 → ⊥ = λ e. omega (arith, room, full, ap (λ (k : ℕ). length (joined text k)) (sym e)) in
+      rw (w .1) (omega (arith, later)))
       (λ w. rw (w .0) some)
       (least-cases (λ j. ltb (places - length (joined text j)) linePlaces) left)

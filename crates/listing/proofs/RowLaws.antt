@@ -16,7 +16,7 @@ use Rattle.listing.specs.Listing.{joined, lineAt, Stored, handedCount, l
 use Rattle.listing.specs.Place.{Room, Run}
 use Rattle.listing.specs.declared.model.Lines.{Lines}
 use Rattle.listing.proofs.ListingLaws.{joined-ext, joined-add}
-use Rattle.listing.proofs.FittingLaws.{lt-unless, fitting-is}
+use Rattle.listing.proofs.FittingLaws.{fitting-is}
 use Rattle.listing.proofs.StretchLaws.{stored-none, stored-length, stored-behind, printed-stored}
 
 -- ---- a run of lines
@@ -105,7 +105,7 @@ module _ {text : ℕ → List ℕ} {from end : ℕ} {before after : List ℕ} {a
 
   pub running-end : (from ≡ a → ⊥) → Run text (end - from) before (record { count = a - from; length = at }) after
   running-end moved = record {
-    some = let l : from < a = lt-unless (g .on) moved in omega (arith, l);
+    some = omega (arith, g .on, moved);
     within = omega (arith, g .within, g .on);
     room = g .room;
     stored = g .stored;

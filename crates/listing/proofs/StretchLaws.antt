@@ -6,10 +6,11 @@ use Prim.Native.Nat.{ℕ, _+_, _-_, _≤_, _<_}
 use native.Mathlib.Omega.{arith}
 use lib.Dec.{ltb}
 use lib.IntN.{ℤ}
-use lib.ListN.{length, take, drop, length-append, length-drop, drop-of-length-le}
-use lib.Seq.{take-append-seam, drop-append-seam, drop-drop, take-all}
+use lib.ListN.{length, take, drop, length-append, length-drop}
+use lib.Seq.{take-append-seam, drop-append-seam, drop-drop}
 use borrow.Author.Tests.{le-ltb}
 use Rattle.answer.specs.Table.{Answer}
+use Rattle.finite.proofs.FilledLaws.{part-lent, behind-lent}
 use Rattle.meshfile.specs.declared.model.Tessellation.{Tessellation}
 use Rattle.text.specs.Text.{linePlaces, Printed}
 use Rattle.text.proofs.TextLaws.{printed-within}
@@ -24,14 +25,6 @@ stored-none l = record { length-is = refl; fits = omega arith; list = refl }
 
 pub stored-length : {t l m : List ℕ} {r : ℕ} → Stored t l m r → length m ≡ length l
 stored-length {t} {l} s = ap length (s .list) ∙ length-append t (drop (length t) l) ∙ omega (arith, length-drop (length t) l, s .fits)
-
--- the part of a list from p on, as it is lent: nothing stands behind it
-module _ (m : List ℕ) (p : ℕ) where
-  part-is : take (length m - p) (drop p m) ≡ drop p m
-  part-is = take-all (length m - p) (drop p m) (omega (arith, length-drop p m))
-
-  behind-is : drop (length m - p) (drop p m) ≡ []
-  behind-is = drop-of-length-le (drop p m) {i = length m - p} (omega (arith, length-drop p m))
 
 -- a line that had room is stored
 pub printed-stored : {u l k : List ℕ} {r : ℕ} → linePlaces ≤ length l → length k ≡ length l → Printed u l k r → Stored u l k r
@@ -48,8 +41,8 @@ pub stored-behind : {t l m u k : List ℕ} {p r : ℕ} → Stored t l m p → St
     → Stored (t ++ u) l (take p m ++ (k ++ drop (length m - p) (drop p m))) (p + r)
 stored-behind {t} {l} {m} {u} {k} {p} {r} s q = record {
   length-is = omega (arith, s .length-is, q .length-is, length-append t u);
-  fits = omega (arith, length-append t u, s .length-is, q .fits, ap length (part-is m p), length-drop p m, stored-length s);
-  list = ap₂ _++_ front (ap₂ _++_ text (behind-is m p)) ∙ whole;
+  fits = omega (arith, length-append t u, s .length-is, q .fits, ap length (part-lent m p), length-drop p m, stored-length s);
+  list = ap₂ _++_ front (ap₂ _++_ text (behind-lent m p)) ∙ whole;
 }
   where
     front : take p m ≡ t
@@ -59,7 +52,7 @@ stored-behind {t} {l} {m} {u} {k} {p} {r} s q = record {
     rest-is = rw (s .length-is, s .list) (drop-append-seam t (drop (length t) l))
 
     text : k ≡ u ++ drop (length u) (drop (length t) l)
-    text = q .list ∙ ap (λ (x : List ℕ). u ++ drop (length u) x) (part-is m p ∙ rest-is)
+    text = q .list ∙ ap (λ (x : List ℕ). u ++ drop (length u) x) (part-lent m p ∙ rest-is)
 
     whole : t ++ ((u ++ drop (length u) (drop (length t) l)) ++ []) ≡ (t ++ u) ++ drop (length (t ++ u)) l
     whole =

@@ -10,7 +10,7 @@ use lib.ListN.{length, take, length-append, length-replicate, replicate}
 use borrow.Author.Tests.{le-ltb}
 use Rattle.finite.specs.Filled.{listBelow, filled}
 use Rattle.answer.specs.Table.{Row, row, firstMet, result, refusal}
-use Rattle.finite.proofs.FilledLaws.{length-listBelow}
+use Rattle.finite.proofs.FilledLaws.{length-listBelow, take-filled}
 use Rattle.answer.proofs.TableLaws.{skipped, orElse, orElse-none, some-append, none-append, append-none, result-none, refusal-met}
 use Rattle.limits.specs.Limits.{maxVertices, maxFaces}
 use Rattle.mesh.specs.IndexedMesh.{IndexedMesh, indexed, corners}
@@ -28,7 +28,7 @@ use Rattle.meshfile.specs.declared.model.Opened.the-variants.{Refused as
 use Rattle.decoding.specs.Decoding.{headerOf, decoded, placesShort, decodeRefusal, FileDecoded}
 use Rattle.meshfile.specs.Answer.{stepsOff, openRefusal, FileOpened}
 use Rattle.meshfile.specs.Tessellated.{tessellateRefusal, Tessellated}
-use Rattle.decoding.proofs.FileLaws.{Whole, file-whole, decode-file, decode-read, take-filled}
+use Rattle.decoding.proofs.FileLaws.{Whole, file-whole, decode-file, decode-read}
 
 -- the sizes of a mesh and of its lists are in order
 abbrev pub MeshSized : IndexedMesh → Type 0
