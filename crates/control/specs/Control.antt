@@ -3,6 +3,8 @@
 --   units q, exactly q    a fraction of a micrometre in units, rounded once (rules B3 and I1); nothing is left when it is rounded (rule I5)
 --   valueOf q, pointOf q  the control value with its mark; the control point with the coordinates q 0, q 1 and q 2, and its mark
 --   valueAt values k c    coordinate k of the vertex of corner c: the table has four places a corner, the last of them spare
+--   cornerValue positions faces i, valuesAfter positions faces values   what the lists of a mesh give for place i of that table; the table afterwards,
+--                         where it is filled from them for as many corners as there are and as it has room for
 --   weightAt weights c, linkAt links c   the weight of corner c; the twin of half-edge c, `noTwin` where it is sharp
 --   faceAt values k c     coordinate k of the four vertices of the face of corner c, seen from there
 --   innerAt .. w k c, edgeAt .. w k c d   the inner point at corner c of weight w; the edge point on half-edge c, with twin d, near its start
@@ -13,11 +15,12 @@
 -- A place beyond a table is read at its rest by the length of the table; no corner of a mesh is.
 use mathlib.Core.Bool.{Bool, cond, _&&_}
 use mathlib.Core.List.{List}
-use Prim.Native.Nat.{ℕ, _+_, _*_, _%_}
-use lib.Dec.{eqb}
+use Prim.Native.Nat.{ℕ, _+_, _*_, _/_, _%_, min}
+use lib.Dec.{eqb, ltb}
 use lib.IntN.{ℤ, pos, _*ℤ_}
-use lib.ListN.{getD}
+use lib.ListN.{length, getD}
 use Rattle.integer.specs.Nearest.{nearest, whole}
+use Rattle.finite.specs.Filled.{filled}
 use Rattle.limits.specs.Limits.{noTwin}
 use Rattle.corner.specs.Corner.{next, across, prev}
 use Rattle.mask.specs.Mask.{Fraction, innerMask, edgeMask, boundaryEdgeMask}
@@ -39,6 +42,12 @@ pointOf q = record { x = units (q 0); y = units (q 1); z = units (q 2); exact = 
 
 abbrev pub valueAt : List ℤ → ℕ → ℕ → ℤ
 valueAt values k c = getD values (4 * (c % 1024) + k % 4) (pos 0)
+
+unfoldable pub cornerValue : List ℤ → List ℕ → ℕ → ℤ
+cornerValue positions faces i = cond (ltb (i % 4) 3) (getD positions (3 * getD faces (i / 4) 0 + i % 4) (pos 0)) (pos 0)
+
+abbrev pub valuesAfter : List ℤ → List ℕ → List ℤ → List ℤ
+valuesAfter positions faces values = filled (cornerValue positions faces) (4 * min (length faces) (length values / 4)) values
 
 abbrev pub weightAt : List ℕ → ℕ → ℕ
 weightAt weights c = getD weights (c % 1024) 0

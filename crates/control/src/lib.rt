@@ -2,6 +2,7 @@
 //! its rest by the length, so that no list has to be trusted.
 pub mod model;
 pub mod value;
+pub mod values;
 
 use crate::model::ControlPoint;
 use crate::model::Value;
