@@ -3,7 +3,7 @@ use mathlib.Core.Path.{_≡_, sym, ap, _∙_}
 use mathlib.Core.Bool.{false, not, _||_}
 use mathlib.Core.List.{List, [], _∷_}
 use mathlib.Core.Option.{Option, none, some}
-use Prim.Native.Nat.{ℕ, _*_, _/_, _%_, _≤_, _<_}
+use Prim.Native.Nat.{ℕ, _*_, _≤_, _<_}
 use native.Mathlib.Omega.{arith}
 use lib.Dec.{eqb, leb}
 use lib.IntN.{ℤ}
@@ -25,11 +25,10 @@ use Rattle.mesh.specs.Answer.{countsOf, meshRefusal, lentRows, checkAnswer, che
 use Rattle.mesh.proofs.AcceptedLaws.{accepted-from}
 use Rattle.mesh.proofs.SizeLaws.{mesh-sizes-false}
 use Rattle.mesh.proofs.PhaseLaws.{refusal-alike, refusal-split, twins-accepted}
-use Rattle.patch.specs.Lists.{seen, Twins}
-use Rattle.tangent.specs.Tangent.{tangent, tangentNumber, tangentList}
+use Rattle.tangent.specs.Tangent.{tangentNumber, tangentList}
 use Rattle.tangent.specs.Answer.{faceOff, faceOpen, notGiven, tangentRows, tangentRefusal, TangentsGiven}
-use Rattle.tangent.specs.Lists.{openIn}
-use Rattle.tangent.proofs.FaceLaws.{tangent-same}
+use Rattle.tangent.specs.Lists.{Linked, openIn, numberOf}
+use Rattle.tangent.proofs.FillLaws.{number-is}
 
 -- ---- the twins of the call's own, which have room for every mesh whose sizes are in their ranges
 abbrev pub ownTwins : List ℕ
@@ -67,7 +66,7 @@ module _ (M : IndexedMesh) where
       formed = accepted-from M (lentRows M ownTwins) (parts .0) (parts .1)
 
       -- the twins that the check left
-      pub twinned : (t : List ℕ) → t ≡ checkTwins M ownTwins → Twins (M .indices) t
+      pub twinned : (t : List ℕ) → t ≡ checkTwins M ownTwins → Linked (M .indices) t
       twinned t left =
           let whole = formed .sized .indices-are in
           let long : corners M ≤ length ownTwins = omega (arith, formed .sized .faces-high, length-replicate {A = ℕ} (4 * maxFaces) 0) in
@@ -87,9 +86,9 @@ module _ (M : IndexedMesh) where
       open-same = rw (formed .sized .indices-are)
 
       -- r is what the call found of its own
-      module _ (r : ℕ) (own : refusalOf r ≡ firstMet (row (leb (M .faces) g) 12 ∷ (row (openIn (M .indices) g || not (eqb (length d) 72)) 18 ∷ []))) where
+      module _ (r : ℕ) (own : firstMet (row (leb (M .faces) g) 12 ∷ (row (openIn (M .indices) g || not (eqb (length d) 72)) 18 ∷ [])) ≡ refusalOf r) where
         own-is : tangentRefusal M g d ≡ refusalOf r
-        own-is = passed ∙ sym (rw open-same at own)
+        own-is = passed ∙ rw open-same at own
 
         pub own-refused : (r ≡ 0 → ⊥) → tangentRefusal M g d ≡ some r
         own-refused n = own-is ∙ refusal-some r n
@@ -112,12 +111,11 @@ module _ (M : IndexedMesh) where
           pub list-long : length d ≡ 72
           list-long = eqb-true (length d) 72 (not-false (eqb (length d) 72) (or-false (faceOpen M g) (not (eqb (length d) 72)) (rows .1) .1))
 
-          -- and the numbers were written
-          pub done : (r : Outcome) → outcome r ≡ result tt → {d' : List ℤ}
-              → d' ≡ filled (λ i. tangent (seen (M .positions) (M .indices) (i % 3)) (4 * g) (i / 3)) 72 d → TangentsGiven M g d r d'
-          unfolding tangentNumber
-          done r e written = record {
+          -- and the numbers were written, from the twins that are listed
+          pub done : (r : Outcome) → outcome r ≡ result tt → {t : List ℕ} → Linked (M .indices) t → {d' : List ℤ}
+              → d' ≡ filled (numberOf (M .positions) (M .indices) t g) 72 d → TangentsGiven M g d r d'
+          done r e linked written = record {
             answer-is = e ∙ rw unmet;
-            list-is = written ∙ filled-ext 72 d (λ i _. tangent-same formed (i % 3) (4 * g) (i / 3)) ∙ filled-whole (tangentNumber M g) 72 d list-long
+            list-is = written ∙ filled-ext 72 d (number-is formed g face-below face-closed linked) ∙ filled-whole (tangentNumber M g) 72 d list-long
                 ∙ rw unmet;
           }

@@ -1,86 +1,120 @@
--- The numbers that are written are the tangents: the lists that the code has filled say of each side what its six vectors are made of.
+-- The numbers that are written are the tangents: the tables that the code fills render the mesh, and its lists say of each side what its six
+-- vectors are made of.
 use native.Mathlib.Numerals.{add-one}
 use mathlib.Core.Path.{_≡_, sym, ap, _∙_}
+use mathlib.Core.Bool.{false}
 use mathlib.Core.List.{List}
-use Prim.Native.Nat.{ℕ, _+_, _*_, _/_, _%_, _<_}
+use Prim.Native.Nat.{ℕ, _+_, _*_, _/_, _%_, _≤_, _<_}
 use native.Mathlib.Omega.{arith}
-use lib.IntN.{ℤ, pos}
-use lib.ListN.{length, getD}
-use Rattle.finite.specs.Filled.{listBelow, filled}
-use Rattle.finite.proofs.FilledLaws.{length-listBelow, listBelow-at, length-filled, filled-at}
+use lib.Dec.{ltb}
+use lib.IntN.{ℤ, pos, natAbs}
+use lib.ListN.{length, getD, List·getD-eq-default}
+use borrow.Author.Tests.{ltb-true, ltb-false}
+use Rattle.finite.proofs.FoldLaws.{bool-cases}
+use Rattle.finite.proofs.FilledLaws.{listBelow-at}
+use Rattle.limits.specs.Limits.{maxCoordinate}
 use Rattle.corner.specs.Corner.{turn, next}
-use Rattle.mesh.specs.Tables.{vertexOf}
+use Rattle.mesh.specs.Fan.{valence}
+use Rattle.mesh.specs.IndexedMesh.{IndexedMesh, corners, at, coordinate}
+use Rattle.mesh.specs.WellFormed.{WellFormed}
 use Rattle.cosine.specs.Cosine.{cosine}
-use Rattle.cosine.specs.Weight.{allWeights}
-use Rattle.cosine.specs.declared.model.Weights.{Weights}
-use Rattle.cosine.proofs.CosineLaws.{cosine-size}
-use Rattle.patch.specs.Point.{View, valenceAt}
-use Rattle.patch.specs.Lists.{shapeOf, seen}
-use Rattle.tangent.specs.Vector.{middleVector, innerVector, cosineAt, startInto, endInto}
-use Rattle.tangent.specs.Tangent.{Kind, start, middle, end, inner, startIn, endIn, rowOf, signed, vector, tangent}
-use Rattle.tangent.specs.Lists.{valencesIn, Weighing, Face, partOf, partAt, partsIn, listedPart, sideFrom, Known, vectorOf, numberFrom, Drawn}
+use Rattle.patch.specs.Point.{View}
+use Rattle.patch.specs.Patch.{view}
+use Rattle.control.proofs.ValuesLaws.{value-told}
+use Rattle.tangent.specs.Vector.{facesAt, middleVector, innerVector, cosineAt, startInto, endInto}
+use Rattle.tangent.specs.Tangent.{Kind, start, middle, end, inner, startIn, endIn, rowOf, signed, vector, tangent, tangentNumber}
+use Rattle.tangent.specs.Answer.{faceOpen}
+use Rattle.tangent.specs.Told.{partAt, partsTold}
+use Rattle.tangent.specs.Lists.{Linked, listedPart, sideFrom, vectorOf, numberFrom, valuesOf, countsOf, cosinesFrom, partsFrom, numberOf, Drawn}
 use Rattle.tangent.proofs.SeenLaws.{turn-after}
-use Rattle.tangent.proofs.PartLaws.{part-size}
 use Rattle.tangent.proofs.TableLaws.{row-side-below}
+use Rattle.tangent.proofs.RenderLaws.{Renders}
+use Rattle.tangent.proofs.PartLaws.{partOf}
+use Rattle.tangent.proofs.FaceLaws.{least, most, part-told}
+use Rattle.tangent.proofs.DrawnLaws.{blank, blank-room, count-is}
 
-pub weighing : (w : Weights) → w ≡ allWeights → Weighing (w .edge) (w .face)
-weighing w e = record { edges = ap (λ (v : Weights). v .edge) e; faces = ap (λ (v : Weights). v .face) e }
+-- ---- the lists of an accepted mesh
+module _ {M : IndexedMesh} (a : WellFormed M) where
+  whole : length (M .indices) ≡ corners M
+  whole = a .sized .indices-are
 
-module _ {positions : List ℤ} {indices twins : List ℕ} {g : ℕ} (d : Drawn positions indices twins g)
-    (valences : List ℕ) (counted : valences ≡ listBelow (valencesIn indices g) 4) where
-  valence-is : (s : ℕ) → s < 4 → getD valences s 0 ≡ valencesIn indices g s
-  valence-is s l = rw counted (listBelow-at (valencesIn indices g) 4 s 0 l)
+  number-small : (i : ℕ) → natAbs (coordinate M i) ≤ maxCoordinate
+  number-small i =
+      bool-cases (ltb i (3 * M .vertices))
+      (λ t. a .coordinates i (ltb-true i (3 * M .vertices) t))
+      (λ t. let past : length (M .positions) ≤ i = omega (arith, a .sized .positions-are, ltb-false i (3 * M .vertices) t) in
+      rw (List·getD-eq-default (M .positions) (pos 0) past) (omega arith))
 
-  pub valences-long : length valences ≡ 4
-  valences-long = rw counted (length-listBelow (valencesIn indices g) 4)
+  pub renders : {twins : List ℕ} → Linked (M .indices) twins → Renders M (valuesOf (M .positions) (M .indices)) twins
+  renders t = record {
+    values-are = λ k c axis l.
+        value-told (M .positions) (M .indices) blank (blank-room (length (M .indices)) (omega (arith, whole, a .sized .faces-high))) k c axis
+        (omega (arith, whole)) (omega (arith, a .sized .faces-high));
+    twins-are = λ c l.
+        let e : c % 1024 ≡ c = omega (arith, a .sized .faces-high) in
+        rw e (rw whole at (t .are c (omega (arith, whole))));
+  }
 
-  pub face : Face positions indices twins valences g
-  face = d .face valences valences-long valence-is
+-- ---- a face with no corner on the boundary
+module _ {M : IndexedMesh} (a : WellFormed M) (g : ℕ) (l : g < M .faces) (closed : faceOpen M g ≡ false) where
+  pub drawn : (d : List ℤ) → 72 ≤ length d → Drawn (M .positions) (M .indices) g d
+  drawn d long = record {
+    listed = omega (arith, whole a);
+    few = omega (arith, whole a, a .sized .faces-high);
+    small = number-small a;
+    least = λ s b. rw (whole a) (least a g l closed s b);
+    most = λ s b. rw (whole a) (most a g l closed s b);
+    places = long;
+  }
 
-  -- ---- the filled lists
-  module _ (z parts cosines : List ℤ) (long : length z ≡ 72) (filled-in : parts ≡ filled (partsIn positions indices g) 72 z)
-      (turned-in : cosines ≡ listBelow (λ s. cosine (getD valences s 0)) 4) where
-    part-at : (j : ℕ) → j < 72 → getD parts j (pos 0) ≡ partsIn positions indices g j
-    part-at j l = rw filled-in (filled-at (partsIn positions indices g) 72 j z (pos 0) l)
+  -- how many faces are at corner s
+  counted : (s : ℕ) → s < 4 → getD (countsOf (M .indices) g) s 0 ≡ facesAt (view M 0) (turn s (4 * g))
+  counted s b =
+      let e : 4 * g + s ≡ turn s (4 * g) = omega arith in
+      count-is (M .indices) g s b
+      ∙ ap (λ (n : ℕ). valence (at M) n (at M (4 * g + s))) (whole a)
+      ∙ ap (λ (c : ℕ). facesAt (view M 0) c) e
 
-    cosine-is : (s : ℕ) → s < 4 → getD cosines s (pos 0) ≡ cosine (valencesIn indices g s)
-    cosine-is s l = rw turned-in (listBelow-at (λ s. cosine (getD valences s 0)) 4 s (pos 0) l) ∙ ap cosine (valence-is s l)
+  next-counted : (s : ℕ) → s < 4 → getD (countsOf (M .indices) g) ((s + 1) % 4) 0 ≡ facesAt (view M 0) (next (turn s (4 * g)))
+  next-counted s b =
+      counted ((s + 1) % 4) (omega arith)
+      ∙ ap (λ (c : ℕ). facesAt (view M 0) c) (ap (λ (n : ℕ). turn (n % 4) (4 * g)) (add-one s) ∙ sym (turn-after s (4 * g)))
 
-    pub known : Known parts cosines
-    known = record {
-      parts-listed = rw (filled-in, length-filled (partsIn positions indices g) 72 z (omega arith)) long;
-      parts-small = λ j l. rw (part-at j l) (part-size face (j % 12 / 3) (j % 3) (omega arith) (omega arith) (partAt (j / 12)));
-      cosines-listed = rw turned-in (length-listBelow (λ s. cosine (getD valences s 0)) 4);
-      cosines-small = λ s l. rw (cosine-is s l)
-          (cosine-size (valencesIn indices g s) (omega (arith, valence-is s l, face .start-ring s 0 l (omega arith) .most)));
-    }
+  module _ {twins : List ℕ} (t : Linked (M .indices) twins) where
+    abbrev valences : List ℕ
+    valences = countsOf (M .indices) g
+
+    abbrev told : ℕ → ℤ
+    told = partsTold (valuesOf (M .positions) (M .indices)) twins valences g
+
+    abbrev parts : List ℤ
+    parts = partsFrom (valuesOf (M .positions) (M .indices)) twins valences g
+
+    abbrev cosines : List ℤ
+    cosines = cosinesFrom valences
 
     -- ---- one coordinate of a side
     module _ (s k : ℕ) (b : s < 4) (h : k < 3) where
       abbrev S : View
-      S = seen positions indices k
+      S = view M k
 
       abbrev half : ℕ
       half = turn s (4 * g)
 
-      listed-is : (t : ℕ) → t < 6 → listedPart parts t s k ≡ partOf S half (partAt t)
-      listed-is t l =
-          let axis : (12 * t + (3 * s + k)) % 3 ≡ k = omega arith in
-          let which : (12 * t + (3 * s + k)) % 12 / 3 ≡ s = omega arith in
-          let part : (12 * t + (3 * s + k)) / 12 ≡ t = omega arith in
-          part-at (12 * t + (3 * s + k)) (omega arith) ∙ rw (axis, which, part)
+      listed-is : (i : ℕ) → i < 6 → listedPart parts i s k ≡ partOf S half (partAt i)
+      listed-is i q =
+          let axis : (12 * i + (3 * s + k)) % 3 ≡ k = omega arith in
+          let which : (12 * i + (3 * s + k)) % 12 / 3 ≡ s = omega arith in
+          let part : (12 * i + (3 * s + k)) / 12 ≡ i = omega arith in
+          listBelow-at told 72 (12 * i + (3 * s + k)) (pos 0) (omega arith)
+          ∙ rw (axis, which, part)
+          (part-told a g l closed s b (renders a t) k h (getD valences s 0) (getD valences ((s + 1) % 4) 0) (counted s b) (next-counted s b) (partAt i))
 
       cosine-here : getD cosines s (pos 0) ≡ cosineAt S half
-      cosine-here =
-          cosine-is s b
-          ∙ ap (λ (c : ℕ). cosine (valenceAt (shapeOf indices) (vertexOf indices c))) (let e : 4 * g + s ≡ half = omega arith in e)
+      cosine-here = listBelow-at (λ s. cosine (getD valences s 0)) 4 s (pos 0) b ∙ ap cosine (counted s b)
 
       cosine-next : getD cosines ((s + 1) % 4) (pos 0) ≡ cosineAt S (next half)
-      cosine-next =
-          let r = (s + 1) % 4 in
-          let e : 4 * g + r ≡ turn r (4 * g) = omega arith in
-          let f : turn r (4 * g) ≡ next half = ap (λ (n : ℕ). turn (n % 4) (4 * g)) (add-one s) ∙ sym (turn-after s (4 * g)) in
-          cosine-is r (omega arith) ∙ ap (λ (c : ℕ). cosine (valenceAt (shapeOf indices) (vertexOf indices c))) (e ∙ f)
+      cosine-next = listBelow-at (λ s. cosine (getD valences s 0)) 4 ((s + 1) % 4) (pos 0) (omega arith) ∙ ap cosine (next-counted s b)
 
       vector-is : (q : Kind) → vectorOf (sideFrom parts cosines s k) q ≡ vector S half q
       unfolding sideFrom vectorOf vector middleVector innerVector startInto endInto partAt partOf
@@ -93,8 +127,8 @@ module _ {positions : List ℤ} {indices twins : List ℕ} {g : ℕ} (d : Drawn 
       vector-is endIn =
           rw (cosine-here, cosine-next, listed-is 1 (omega arith), listed-is 2 (omega arith), listed-is 5 (omega arith), listed-is 3 (omega arith))
 
-    pub number-is : (i : ℕ) → i < 72 → numberFrom parts cosines i ≡ tangent (seen positions indices (i % 3)) (4 * g) (i / 3)
-    unfolding numberFrom tangent
-    number-is i l =
+    pub number-is : (i : ℕ) → i < 72 → numberOf (M .positions) (M .indices) twins g i ≡ tangentNumber M g i
+    unfolding numberFrom tangent tangentNumber
+    number-is i q =
         let r = rowOf (i / 3) in
         ap (signed (r .reversed)) (vector-is (r .side) (i % 3) (row-side-below (i / 3) (omega arith)) (omega arith) (r .kind))

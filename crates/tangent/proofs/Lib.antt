@@ -5,9 +5,11 @@ pub mod TurnLaws
 pub mod InnerLaws
 pub mod MachineLaws
 pub mod RingLaws
+pub mod RenderLaws
 pub mod PartLaws
 pub mod SideLaws
 pub mod TableLaws
 pub mod FaceLaws
+pub mod DrawnLaws
 pub mod FillLaws
 pub mod AnswerLaws

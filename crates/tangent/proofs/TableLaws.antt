@@ -11,7 +11,8 @@ use Rattle.finite.specs.Filled.{listBelow}
 use Rattle.finite.proofs.AnyAll.{all-true}
 use Rattle.finite.proofs.FilledLaws.{agree}
 use Rattle.tangent.specs.Tangent.{rowOf}
-use Rattle.tangent.specs.Lists.{kindOf, partFor, partAt}
+use Rattle.tangent.specs.Told.{partFor, partAt}
+use Rattle.tangent.specs.Lists.{kindOf}
 use Rattle.tangent.specs.declared.parts.Part as part
 use Rattle.tangent.specs.declared.parts.Part.the-variants.{AtStart, AtEnd, Near, Far, InnerNear, InnerFar}
 use Rattle.tangent.specs.declared.side.Kind as code

@@ -2,14 +2,13 @@
 mod corners;
 mod fill;
 mod parts;
-mod points;
 mod refusal;
 mod ring;
 mod side;
 mod writer;
 
 use crate::fill::fill_tangents;
-use crate::refusal::own_refusal;
+use crate::refusal::face_refusal;
 use answer::model::Outcome;
 use limits::model::Checked;
 use limits::model::Mesh;
@@ -40,7 +39,7 @@ pub fn tangents(
     if let Checked::Refused(k) = answer {
         return Outcome::Refused(k);
     }
-    let own = own_refusal(faces, &twins, f, g, tangents.len());
+    let own = face_refusal(faces, &twins, f, g, tangents.len());
     if own != 0 {
         return Outcome::Refused(own);
     }

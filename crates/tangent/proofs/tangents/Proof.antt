@@ -10,8 +10,8 @@ use Rattle.answer.specs.Table.{result}
 use Rattle.limits.specs.declared.model.Mesh.{Mesh}
 use Rattle.mesh.specs.IndexedMesh.{IndexedMesh, indexed}
 use Rattle.mesh.specs.Answer.{checked, checkAnswer}
-use Rattle.patch.specs.Lists.{Twins}
-use Rattle.tangent.proofs.FaceLaws.{drawn}
+use Rattle.tangent.specs.Lists.{Linked}
+use Rattle.tangent.proofs.FillLaws.{drawn}
 use Rattle.tangent.proofs.AnswerLaws.{ownTwins, refused, check-refused, formed, twinned, own-refused, face-below, face-closed, list-long, done}
 use Rattle.tangent.proofs.tangents.Statement.{statement}
 use Rattle.tangent.proofs.tangents.Tie as tie
@@ -43,7 +43,7 @@ module _ (c : tie.After-enum-told) where
   accepted : (m : Mesh) × (result m ≡ checkAnswer (mesh entry) ownTwins)
   accepted = (_, sym (ap checked (c .enum-told .given .1)) ∙ asked .check .ensures .answer-is)
 
-  twins-left : Twins (mesh entry .indices) (asked .check .last .1 .1 .1 .1 .1 .0)
+  twins-left : Linked (mesh entry .indices) (asked .check .last .1 .1 .1 .1 .1 .0)
   twins-left = twinned (mesh entry) (face entry) (lent entry) (accepted .1) _ (asked .check .ensures .twins-are)
 
 -- ---- nothing of its own is met
@@ -71,11 +71,11 @@ returns c =
 enum-told : tie.Need-enum-told
 enum-told c = search needs
 
-slice-aggregate-own-refusal : tie.Need-slice-aggregate-own-refusal
-slice-aggregate-own-refusal c = search needs
+slice-aggregate-face-refusal : tie.Need-slice-aggregate-face-refusal
+slice-aggregate-face-refusal c = search needs
 
-own-refusal-requires : tie.Need-own-refusal-requires
-own-refusal-requires c κs =
+face-refusal-requires : tie.Need-face-refusal-requires
+face-refusal-requires c κs =
     let k = c .before in
     (twins-left k, formed (mesh (entry k)) (face (entry k)) (lent (entry k)) (accepted k .1) .sized .indices-are)
 
@@ -85,10 +85,7 @@ returns-2 c =
     let k = o .before .before in
     let s = entry k in
     refused (mesh s) (face s) (lent s)
-    (own-refused (mesh s) (face s) (lent s) (accepted k .1) _ (o .own-refusal .ensures) (c .if1 .taken)) _ refl
-
-slice-aggregate-fill-tangents : tie.Need-slice-aggregate-fill-tangents
-slice-aggregate-fill-tangents c = search needs
+    (own-refused (mesh s) (face s) (lent s) (accepted k .1) _ (o .face-refusal .ensures) (c .if1 .taken)) _ refl
 
 fill-tangents-requires : tie.Need-fill-tangents-requires
 fill-tangents-requires c κs =
@@ -97,11 +94,10 @@ fill-tangents-requires c κs =
     let k = told e in
     let s = entry k in
     let w = formed (mesh s) (face s) (lent s) (accepted k .1) in
-    let ok = o .own-refusal .ensures in (
-      drawn w (face s) (face-below (mesh s) (face s) (lent s) (accepted k .1) _ ok (e .if1 .left))
-          (face-closed (mesh s) (face s) (lent s) (accepted k .1) _ ok (e .if1 .left)) (twins-left k),
-      le-of-eq (sym (list-long (mesh s) (face s) (lent s) (accepted k .1) _ ok (e .if1 .left))),
-    )
+    let ok = o .face-refusal .ensures in
+    drawn w (face s) (face-below (mesh s) (face s) (lent s) (accepted k .1) _ ok (e .if1 .left))
+    (face-closed (mesh s) (face s) (lent s) (accepted k .1) _ ok (e .if1 .left)) (lent s)
+    (le-of-eq (sym (list-long (mesh s) (face s) (lent s) (accepted k .1) _ ok (e .if1 .left))))
 
 same-length : tie.Need-same-length
 same-length c = search needs
@@ -112,7 +108,7 @@ returns-3 c =
     let e = f .before .before .before in
     let k = told e in
     let s = entry k in
-    done (mesh s) (face s) (lent s) (accepted k .1) _ (e .before .own-refusal .ensures) (e .if1 .left) _ refl (f .fill-tangents .ensures)
+    done (mesh s) (face s) (lent s) (accepted k .1) _ (e .before .face-refusal .ensures) (e .if1 .left) _ refl (twins-left k) (f .fill-tangents .ensures)
 
 pub tangents-spec : {M : Type 1} → statement M
 tangents-spec =
@@ -123,10 +119,9 @@ tangents-spec =
     enum-known-answer
     returns
     enum-told
-    slice-aggregate-own-refusal
-    own-refusal-requires
+    slice-aggregate-face-refusal
+    face-refusal-requires
     returns-2
-    slice-aggregate-fill-tangents
     fill-tangents-requires
     same-length
     returns-3)

@@ -1,6 +1,5 @@
 -- `along_value` meets its contract: a half-edge without a twin is sharp.
 use mathlib.Core.Path.{sym, ap, ap₂, _∙_}
-use Prim.Native.Nat.{ℕ}
 use mir.Syntax.{w32}
 use Rattle.integer.proofs.Laws.{read-back}
 use Rattle.mask.specs.Mask.{boundaryEdgeMask}

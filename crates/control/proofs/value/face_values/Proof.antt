@@ -1,7 +1,6 @@
 -- `face_values` meets its contract: each of the four is read at its own corner of the face.
 use mathlib.Core.Path.{ap, _∙_}
 use mir.Syntax.{w32}
-use Prim.Native.Nat.{ℕ}
 use Rattle.integer.proofs.Laws.{read-back}
 use Rattle.control.specs.Control.{valueAt}
 use Rattle.control.proofs.ControlLaws.{same-face}

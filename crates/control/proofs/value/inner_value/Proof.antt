@@ -1,11 +1,11 @@
 -- `inner_value` meets its contract: the mask is given the weight and the values that the inner point names.
-use mathlib.Core.Path.{_≡_, sym, ap, _∙_, subst}
-use Prim.Native.Nat.{ℕ, _≤_, _^_}
+use mathlib.Core.Path.{sym, ap, _∙_, subst}
+use Prim.Native.Nat.{_≤_, _^_}
 use native.Mathlib.Omega.{arith}
 use lib.IntN.{natAbs}
 use Rattle.mask.specs.Mask.{Fraction, innerMask}
 use Rattle.mask.specs.declared.model.FaceValues.{FaceValues}
-use Rattle.control.specs.Control.{faceAt, innerAt, valueOf}
+use Rattle.control.specs.Control.{innerAt, valueOf}
 use Rattle.control.proofs.ControlLaws.{narrow, inner-small}
 use Rattle.control.proofs.value.inner_value.Statement.{statement}
 use Rattle.control.proofs.value.inner_value.Tie as tie

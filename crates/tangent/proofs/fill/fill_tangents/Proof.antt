@@ -1,49 +1,80 @@
--- `fill_tangents` meets its contract: the parts of the sides are filled from the mesh and its twins, and the numbers are written from them.
-use mathlib.Core.Path.{refl, _∙_}
+-- `fill_tangents` meets its contract: the values, the counts, the parts and the cosines are filled one from the other, and the numbers are written from
+-- them.
+use mathlib.Core.Path.{_≡_, refl, ap, ap₂, _∙_}
+use mathlib.Core.List.{List}
+use Prim.Native.Nat.{ℕ}
 use native.Mathlib.Omega.{arith}
+use lib.IntN.{ℤ, pos}
+use lib.ListN.{length, replicate}
 use borrow.Author.Needs.{needs}
-use Rattle.finite.proofs.FilledLaws.{filled-ext}
-use Rattle.tangent.specs.Lists.{Face}
-use Rattle.tangent.proofs.FillLaws.{weighing, valences-long, face, known, number-is}
+use Rattle.finite.specs.Filled.{filled}
+use Rattle.finite.proofs.FilledLaws.{length-listBelow, filled-whole}
+use Rattle.tangent.specs.Told.{partsTold}
+use Rattle.tangent.specs.Lists.{numberFrom, valuesOf, countsOf, cosinesFrom, partsFrom}
+use Rattle.tangent.proofs.DrawnLaws.{weighing, source, known}
 use Rattle.tangent.proofs.fill.fill_tangents.Statement.{statement}
 use Rattle.tangent.proofs.fill.fill_tangents.Tie as tie
 
--- ---- the weights are known
-module _ (c : tie.After-weights) where
+-- ---- the values, the counts, the cosines and the weights are known
+module _ (w : tie.After-weights) where
   abbrev cosines-at : tie.After-cosines-of
-  cosines-at = c .before
+  cosines-at = w .before
 
-  abbrev valences-at : tie.After-face-valences
-  valences-at = cosines-at .before .before
+  abbrev counts-at : tie.After-face-valences
+  counts-at = cosines-at .before .before
+
+  abbrev values-at : tie.After-fill-values
+  values-at = counts-at .before .before
 
   abbrev start : tie.Start
-  start = valences-at .before .before .before
+  start = values-at .before .before .before
 
-  whole : Face (start .args .positions .now) (start .args .faces .now) (start .args .twins .now) (valences-at .face-valences .result) (start .args .g)
-  whole = face (start .pre .0) _ (valences-at .face-valences .ensures)
+  abbrev table : List ℤ
+  table = valuesOf (start .args .positions .now) (start .args .faces .now)
+
+  abbrev counts : List ℕ
+  counts = countsOf (start .args .faces .now) (start .args .g)
+
+  abbrev parts : List ℤ
+  parts = partsFrom table (start .args .twins .now) counts (start .args .g)
 
 -- ---- the way back from the list of parts
 abbrev weighed : tie.After-parts → tie.After-weights
-weighed c = let lent : tie.After-valences2 = c .before .before .before in lent .before .before .before
+weighed c = let lent : tie.After-values3 = c .before .before .before .before in lent .before .before .before
 
 -- ---- the parts are filled
-module _ (c : tie.After-write-numbers-arg) where
-  abbrev filled-at : tie.After-fill-parts
-  filled-at = c .before .before .before .before
+module _ (p : tie.After-fill-parts) where
+  abbrev w : tie.After-weights
+  w = weighed (p .before)
 
-  abbrev weights-at : tie.After-weights
-  weights-at = weighed (filled-at .before)
+  parts-are : {l : List ℤ}
+      → l ≡ filled (partsTold (values-at w .fill-values .last .1 .1 .0) (start w .args .twins .now) (counts-at w .face-valences .result) (start w .args .g)) 72
+      (replicate 72 (pos 0))
+      → l ≡ parts w
+  parts-are e =
+      e
+      ∙ ap₂ (λ (v : List ℤ) (n : List ℕ). filled (partsTold v (start w .args .twins .now) n (start w .args .g)) 72 (replicate 72 (pos 0)))
+      (values-at w .fill-values .ensures) (counts-at w .face-valences .ensures)
+      ∙ filled-whole (partsTold (table w) (start w .args .twins .now) (counts w) (start w .args .g)) 72 (replicate 72 (pos 0)) refl
+
+  cosines-are : cosines-at w .cosines-of .result ≡ cosinesFrom (counts w)
+  cosines-are = cosines-at w .cosines-of .ensures ∙ ap cosinesFrom (counts-at w .face-valences .ensures)
 
 -- ---- the answers, in the order of the code
+slice-aggregate-fill-values : tie.Need-slice-aggregate-fill-values
+slice-aggregate-fill-values c = search needs
+
+fill-values-requires : tie.Need-fill-values-requires
+fill-values-requires c κs = tt
+
 face-valences-requires : tie.Need-face-valences-requires
-face-valences-requires c κs = c .before .before .pre .0 .listed
+face-valences-requires c κs = let v : tie.After-fill-values = c .before in v .before .before .before .pre .listed
 
 slice-aggregate-cosines-of : tie.Need-slice-aggregate-cosines-of
 slice-aggregate-cosines-of c = search needs
 
 cosines-of-requires : tie.Need-cosines-of-requires
-cosines-of-requires c κs =
-    let v = c .before in valences-long (v .before .before .before .pre .0) _ (v .face-valences .ensures)
+cosines-of-requires c κs = ap length (c .before .face-valences .ensures) ∙ length-listBelow _ 4
 
 weights-requires : tie.Need-weights-requires
 weights-requires c κs = tt
@@ -57,12 +88,10 @@ slice-aggregate-fill-parts-2 c = search needs
 slice-aggregate-fill-parts-3 : tie.Need-slice-aggregate-fill-parts-3
 slice-aggregate-fill-parts-3 c = search needs
 
-slice-aggregate-fill-parts-4 : tie.Need-slice-aggregate-fill-parts-4
-slice-aggregate-fill-parts-4 c = search needs
-
 fill-parts-requires : tie.Need-fill-parts-requires
 fill-parts-requires c κs =
-    let w = weighed c in (whole w, weighing _ (w .weights .ensures), omega arith)
+    let w = weighed c in
+    (source (start w .pre) (values-at w .fill-values .ensures) (counts-at w .face-valences .ensures) (weighing _ (w .weights .ensures)), omega arith)
 
 slice-aggregate-write-numbers : tie.Need-slice-aggregate-write-numbers
 slice-aggregate-write-numbers c = search needs
@@ -72,11 +101,9 @@ slice-aggregate-write-numbers-2 c = search needs
 
 write-numbers-requires : tie.Need-write-numbers-requires
 write-numbers-requires c κs =
-    let w = weights-at c in (
-      known (start w .pre .0) _ (valences-at w .face-valences .ensures) _ _ _ refl (filled-at c .fill-parts .ensures)
-          (cosines-at w .cosines-of .ensures),
-      start w .pre .1,
-    )
+    let p : tie.After-fill-parts = c .before .before .before .before in
+    let s = start (w p) in
+    (known (s .pre) (s .args .twins .now) (parts-are p (p .fill-parts .ensures)) (cosines-are p), s .pre .places)
 
 same-length : tie.Need-same-length
 same-length c = search needs
@@ -84,17 +111,16 @@ same-length c = search needs
 returns : tie.Need-returns
 returns c =
     let n = c .before in
-    let a = n .before in
-    let w = weights-at a in
+    let p : tie.After-fill-parts = n .before .before .before .before .before in
     n .write-numbers .ensures
-    ∙ filled-ext 72 (start w .args .tangents .now)
-    (number-is (start w .pre .0) _ (valences-at w .face-valences .ensures) _ _ _ refl (filled-at a .fill-parts .ensures)
-    (cosines-at w .cosines-of .ensures))
+    ∙ ap₂ (λ (x y : List ℤ). filled (numberFrom x y) 72 (start (w p) .args .tangents .now)) (parts-are p (p .fill-parts .ensures)) (cosines-are p)
 
 pub fill-tangents-spec : {M : Type 1} → statement M
 fill-tangents-spec =
     tie.close
     (tie.spec
+    slice-aggregate-fill-values
+    fill-values-requires
     face-valences-requires
     slice-aggregate-cosines-of
     cosines-of-requires
@@ -102,7 +128,6 @@ fill-tangents-spec =
     slice-aggregate-fill-parts
     slice-aggregate-fill-parts-2
     slice-aggregate-fill-parts-3
-    slice-aggregate-fill-parts-4
     fill-parts-requires
     slice-aggregate-write-numbers
     slice-aggregate-write-numbers-2

@@ -1,13 +1,16 @@
--- `leaves` meets its contract: it compares the vertex of the corner, and then looks at the twin.
-use mathlib.Core.Path.{sym, _∙_}
+-- `leaves` meets its contract: it compares the vertex of the corner, and looks at the twin.
+use mathlib.Core.Path.{ap}
+use mathlib.Core.Bool.{_&&_}
+use Prim.Native.Nat.{ℕ}
+use lib.Dec.{eqb}
 use borrow.Author.Needs.{needs}
-use borrow.Author.Tests.{eq-eqb, ne-eqb}
-use Rattle.mesh.specs.Tables.{vertexOf}
+use Rattle.limits.specs.Limits.{noTwin}
+use Rattle.mesh.specs.Tables.{twinOf}
 use Rattle.tangent.proofs.refusal.leaves.Statement.{statement}
 use Rattle.tangent.proofs.refusal.leaves.Tie as tie
 
 abbrev start : tie.After-wide → tie.Start
-start c = c .before .before .before .before
+start w = w .before .before .before .before
 
 mul-wide : tie.Need-mul-wide
 mul-wide c = search needs
@@ -26,16 +29,9 @@ shared-slice-read-result c = search needs
 
 returns : tie.Need-returns
 returns c =
-    let t = c .before in
-    let w = t .before in
-    rw (eq-eqb (vertexOf (start w .args .faces .now) (start w .args .c)) (start w .args .p) (sym (w .wide .ensures) ∙ t .if1 .taken))
-
-returns-2 : tie.Need-returns-2
-returns-2 c =
     let w = c .before in
-    rw (ne-eqb (vertexOf (start w .args .faces .now) (start w .args .c)) (start w .args .p) (λ q. c .if1 .left (w .wide .ensures ∙ q)))
+    let s = start w in
+    ap (λ (q : ℕ). eqb q (s .args .p) && eqb (twinOf (s .args .twins .now) (s .args .c)) noTwin) (w .wide .ensures)
 
 pub leaves-spec : {M : Type 1} → statement M
-leaves-spec =
-    tie.close
-    (tie.spec mul-wide shared-slice-read-wide wide-requires mul-result shared-slice-read-result returns returns-2)
+leaves-spec = tie.close (tie.spec mul-wide shared-slice-read-wide wide-requires mul-result shared-slice-read-result returns)

@@ -1,18 +1,19 @@
--- `on_boundary` meets its contract: no half-edge passed leaves p without a twin.
+-- `on_boundary` meets its contract: after c turns it is known whether a half-edge passed leaves p without a twin.
 use mathlib.Core.List.{List}
-use mathlib.Core.Path.{_≡_, ap, _∙_}
-use mathlib.Core.Bool.{Bool, false, cond}
+use mathlib.Core.Path.{_≡_, refl, sym, ap, ap₂, _∙_}
+use mathlib.Core.Bool.{Bool, true, false, cond, _&&_, _||_}
 use Prim.Native.Nat.{ℕ, _-_, _≤_}
+use native.Mathlib.Nat.{le-antisymm}
 use native.Mathlib.Numerals.{add-one-le, add-one-dec}
 use native.Mathlib.Omega.{arith}
 use lib.Dec.{eqb}
 use lib.ListN.{length}
 use Rattle.finite.specs.Fold.{anyBelow}
-use Rattle.finite.proofs.AnyAll.{any-start, any-more, any-found, any-not}
+use Rattle.finite.proofs.FoldLaws.{fold-zero, fold-step}
+use Rattle.limits.specs.Limits.{noTwin}
 use Rattle.mesh.specs.HalfEdge.{boundary}
 use Rattle.mesh.specs.Fan.{onBoundary}
 use Rattle.mesh.specs.Tables.{vertexOf}
-use Rattle.patch.proofs.FacePointLaws.{boundary-in}
 use Rattle.tangent.proofs.refusal.on_boundary.Statement.{statement}
 use Rattle.tangent.proofs.refusal.on_boundary.Tie as tie
 
@@ -20,11 +21,23 @@ use Rattle.tangent.proofs.refusal.on_boundary.Tie as tie
 abbrev leaves-open : List ℕ → ℕ → ℕ → Bool
 leaves-open faces p c = cond (eqb (vertexOf faces c) p) (boundary (vertexOf faces) (length faces) c) false
 
+and-cond : (x y : Bool) → (x && y) ≡ cond x y false
+and-cond true y = refl
+and-cond false y = refl
+
 abbrev Inv-loop : tie.InvT-loop
-Inv-loop faces twins p c₀ c-end c = (c ≤ c-end) × (anyBelow (leaves-open faces p) c ≡ false)
+Inv-loop faces twins p found₀ c₀ c-end found c = (c ≤ c-end) × (found ≡ anyBelow (leaves-open faces p) c)
 
 abbrev μ-loop : tie.MeasureT-loop
-μ-loop faces twins p c₀ c-end c = c-end - c
+μ-loop faces twins p found₀ c₀ c-end found c = c-end - c
+
+-- ---- at the loop's head: whether one of those passed is open
+module _ (l : tie.At-loop Inv-loop μ-loop) where
+  abbrev start : tie.Start Inv-loop μ-loop
+  start = l .before .before .before
+
+  abbrev asked : ℕ → Bool
+  asked = leaves-open (start .args .faces .now) (start .args .p)
 
 -- ---- half-edge c has been asked
 module _ (c : tie.After-leaves Inv-loop μ-loop) where
@@ -34,43 +47,38 @@ module _ (c : tie.After-leaves Inv-loop μ-loop) where
   abbrev head : tie.At-loop Inv-loop μ-loop
   head = passing .before
 
-  abbrev start : tie.Start Inv-loop μ-loop
-  start = head .before .before .before
-
-  abbrev asked : ℕ → Bool
-  asked = leaves-open (start .args .faces .now) (start .args .p)
-
-  told : c .leaves .result ≡ asked (head .loop .c)
+  told : c .leaves .result ≡ asked head (head .loop .c)
+  unfolding boundary
   told =
+      let s = start head in
+      let at = eqb (vertexOf (s .args .faces .now) (head .loop .c)) (s .args .p) in
       c .leaves .ensures
-      ∙ ap (λ (b : Bool). cond (eqb (vertexOf (start .args .faces .now) (head .loop .c)) (start .args .p)) b false)
-      (boundary-in (start .pre) (head .loop .c) (passing .loop-test .taken))
+      ∙ ap (λ (d : ℕ). at && eqb d noTwin) (s .pre .are (head .loop .c) (passing .loop-test .taken))
+      ∙ and-cond at _
 
 -- ---- the answers, in the order of the code
 loop-holds : tie.Need-loop-holds Inv-loop μ-loop
-loop-holds c = (omega arith, any-start _)
+loop-holds c = (omega arith, sym (fold-zero false _||_ _))
 
 leaves-requires : tie.Need-leaves-requires Inv-loop μ-loop
-leaves-requires c κs = (c .loop-test .taken, omega (arith, c .loop-test .taken, c .before .before .before .before .pre .listed))
-
-returns : tie.Need-returns Inv-loop μ-loop
-unfolding onBoundary
-returns c = let d = c .before in any-found (asked d) _ (head d .loop .c) _ (passing d .loop-test .taken) (told d) (c .if1 .taken)
+leaves-requires c κs = (c .loop-test .taken, omega (arith, c .loop-test .taken, start (c .before) .pre .listed))
 
 add-c : tie.Need-add-c Inv-loop μ-loop
 add-c c = omega arith
 
 loop-less : tie.Need-loop-less Inv-loop μ-loop
-loop-less c = add-one-dec _ _ (passing (c .before) .loop-test .taken)
+loop-less c = add-one-dec _ _ (passing c .loop-test .taken)
 
 loop-again : tie.Need-loop-again Inv-loop μ-loop
 loop-again c =
-    let d = c .before in
-    (add-one-le (passing d .loop-test .taken), any-more (asked d) (head d .loop .c) _ (head d .loop .inv .1) (told d) (c .if1 .left))
+    let h = head c in
+    (add-one-le (passing c .loop-test .taken), ap₂ _||_ (h .loop .inv .1) (told c) ∙ sym (fold-step false _||_ (asked h) (h .loop .c)))
 
-returns-2 : tie.Need-returns-2 Inv-loop μ-loop
+returns : tie.Need-returns Inv-loop μ-loop
 unfolding onBoundary
-returns-2 c = let l = c .before .loop in any-not _ _ (l .c) (l .inv .1) (c .loop-test .left)
+returns c =
+    let h = c .before in
+    h .loop .inv .1 ∙ ap (anyBelow (asked h)) (le-antisymm (h .loop .inv .0) (c .loop-test .left))
 
 pub on-boundary-spec : {M : Type 1} → statement M
 on-boundary-spec =
@@ -80,8 +88,7 @@ on-boundary-spec =
     μ-loop
     loop-holds
     leaves-requires
-    returns
     add-c
     loop-less
     loop-again
-    returns-2)
+    returns)

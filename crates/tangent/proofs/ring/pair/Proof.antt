@@ -1,13 +1,14 @@
 -- `pair` meets its contract: the two coordinates are looked up, and all four numbers are small.
 use mathlib.Core.Path.{_≡_, refl, ap, ap₂, _∙_}
-use lib.IntN.{_+ℤ_, _*ℤ_}
+use Prim.Native.Nat.{ℕ}
+use lib.IntN.{ℤ, _+ℤ_, _*ℤ_}
 use mir.Syntax.{w32, w64}
 use mir.Val.{toZ, ofZ}
 use mir.Facts.{toZ-ofZ}
 use Rattle.integer.proofs.Laws.{read-back}
 use Rattle.corner.specs.Corner.{next, across}
-use Rattle.patch.specs.Point.{View, x}
-use Rattle.patch.specs.Lists.{seen}
+use Rattle.control.specs.Control.{valueAt}
+use Rattle.tangent.proofs.RingLaws.{value-small}
 use Rattle.tangent.proofs.ring.pair.Statement.{statement}
 use Rattle.tangent.proofs.ring.pair.Tie as tie
 
@@ -23,44 +24,44 @@ module _ (c : tie.After-value2) where
   next-at = value-at .before
 
   abbrev start : tie.Start
-  start = next-at .before .before
+  start = next-at .before
 
-  abbrev S : View
-  S = seen (start .args .positions .now) (start .args .faces .now) (start .args .k)
+  abbrev at : ℕ → ℤ
+  at = valueAt (start .args .values .now) (start .args .k)
 
   a-is : toZ w32 (ofZ w32 (start .args .a)) ≡ start .args .a
   a-is = toZ-ofZ (start .fits .a)
 
-  x-is : toZ w32 (ofZ w32 (value-at .value .result)) ≡ x S (next (start .args .e))
-  x-is = read-back w32 (value-at .value .ok) (value-at .value .ensures .0 ∙ ap (x S) (next-at .next-corner .ensures))
+  x-is : toZ w32 (ofZ w32 (value-at .value .result)) ≡ at (next (start .args .e))
+  x-is = read-back w32 (value-at .value .ok) (value-at .value .ensures ∙ ap at (next-at .next-corner .ensures))
 
   b-is : toZ w32 (ofZ w32 (start .args .b)) ≡ start .args .b
   b-is = toZ-ofZ (start .fits .b)
 
-  y-is : toZ w32 (ofZ w32 (c .value2 .result)) ≡ x S (across (start .args .e))
-  y-is = read-back w32 (c .value2 .ok) (c .value2 .ensures .0 ∙ ap (x S) (across-at .across-corner .ensures))
+  y-is : toZ w32 (ofZ w32 (c .value2 .result)) ≡ at (across (start .args .e))
+  y-is = read-back w32 (c .value2 .ok) (c .value2 .ensures ∙ ap at (across-at .across-corner .ensures))
 
 -- ---- the answers, in the order of the code
 next-corner-requires : tie.Need-next-corner-requires
 next-corner-requires c κs = tt
 
 value-requires : tie.Need-value-requires
-value-requires c κs = let s = c .before .before in (s .pre .0 .0, rw (c .next-corner .ensures) (s .pre .0 .1))
+value-requires c κs = tt
 
 across-corner-requires : tie.Need-across-corner-requires
 across-corner-requires c κs = tt
 
 value-requires-2 : tie.Need-value-requires-2
-value-requires-2 c κs = let s = c .before .before .before .before in (s .pre .0 .0, rw (c .across-corner .ensures) (s .pre .0 .2))
+value-requires-2 c κs = tt
 
 weighted-requires : tie.Need-weighted-requires
 weighted-requires c κs =
     let s = start c in
-    let small = s .pre .0 .0 .small in (
-      rw (a-is c) (s .pre .1 .0),
-      rw (x-is c) (small (next (s .args .e)) (s .pre .0 .1)),
-      rw (b-is c) (s .pre .1 .1),
-      rw (y-is c) (small (across (s .args .e)) (s .pre .0 .2)),
+    let small = value-small (s .pre .0) (s .args .k) in (
+      rw (a-is c) (s .pre .1),
+      rw (x-is c) (small (next (s .args .e))),
+      rw (b-is c) (s .pre .2),
+      rw (y-is c) (small (across (s .args .e))),
     )
 
 returns : tie.Need-returns

@@ -1,6 +1,5 @@
 -- `into` meets its contract: the cosine term and the difference of the formula are handed on, each with its size.
 use mathlib.Core.Path.{_≡_, refl, ap₂, _∙_}
-use native.Mathlib.Omega.{arith}
 use lib.IntN.{pos, _-ℤ_, _*ℤ_}
 use mir.Syntax.{w64}
 use mir.Val.{toZ, ofZ}
