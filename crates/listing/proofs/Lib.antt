@@ -4,3 +4,4 @@ pub mod FittingLaws
 pub mod StretchLaws
 pub mod RowLaws
 pub mod PlaceLaws
+pub mod OpenedLaws

@@ -11,8 +11,10 @@ use borrow.Author.Tests.{le-ltb}
 use Rattle.finite.specs.Filled.{listBelow, filled}
 use Rattle.answer.specs.Table.{Row, row, firstMet, result, refusal}
 use Rattle.finite.proofs.FilledLaws.{length-listBelow, take-filled}
-use Rattle.answer.proofs.TableLaws.{skipped, orElse, orElse-none, some-append, none-append, append-none, result-none, refusal-met}
+use Rattle.answer.proofs.TableLaws.{skipped, orElse, orElse-none, some-append, none-append, append-none, none-met, result-none, refusal-met}
 use Rattle.limits.specs.Limits.{maxVertices, maxFaces}
+use Rattle.limits.proofs.RangeLaws.{off-false}
+use Rattle.sample.specs.Refusal.{minSteps, maxSteps}
 use Rattle.mesh.specs.IndexedMesh.{IndexedMesh, indexed, corners}
 use Rattle.mesh.specs.Refusal.{earlyRows, lateRows}
 use Rattle.mesh.specs.WellFormed.{Sized}
@@ -23,10 +25,11 @@ use Rattle.patch.specs.Answer.{patchesShort, marksShort, lent, patchRows}
 use Rattle.decoding.specs.File.{vertices, faces, steps, positionAt, tagAt, indexAt, meshOf, fileRows}
 use Rattle.decoding.specs.declared.model.Header.{Header}
 use Rattle.decoding.specs.declared.model.Decoded.{Decoded}
+use Rattle.meshfile.specs.declared.model.Tessellation.{Tessellation}
 use Rattle.meshfile.specs.declared.model.Opened.{Opened}
 use Rattle.meshfile.specs.declared.model.Opened.the-variants.{Refused as OpenRefused}
 use Rattle.decoding.specs.Decoding.{headerOf, decoded, placesShort, decodeRefusal, FileDecoded}
-use Rattle.meshfile.specs.Answer.{stepsOff, openRefusal, FileOpened}
+use Rattle.meshfile.specs.Answer.{opened, stepsOff, openRefusal, FileOpened}
 use Rattle.meshfile.specs.Tessellated.{tessellateRefusal, Tessellated}
 use Rattle.decoding.proofs.FileLaws.{Whole, file-whole, decode-file, decode-read}
 
@@ -181,3 +184,15 @@ whole-sized b w = record {
   tags-are = length-listBelow (tagAt b) (vertices b);
   indices-are = length-listBelow (indexAt b) (4 * faces b);
 }
+
+-- ---- what opening gives: F and N of an accepted file are within their upper limits
+pub opened-within : {b : List ℕ} {d d' : List ℤ} {r : Opened} {t : Tessellation} → FileOpened b d r d' → opened r ≡ result t
+    → (t .mesh .faces ≤ maxFaces) × (t .steps ≤ maxSteps)
+unfolding openRefusal meshOf
+opened-within {b} {d} s e =
+    let given = result-none (openRefusal b d) (sym e ∙ s .answer-is) in
+    let file = append-none (fileRows b) (rowsAfter b d) (given .0) in
+    let early = append-none (earlyRows (meshOf b) (listRow (meshOf b) d)) (lateRows (meshOf b) ++ stepsRow (steps b)) (file .1) in
+    let late = append-none (lateRows (meshOf b)) (stepsRow (steps b)) (early .1) in
+    let on = off-false minSteps maxSteps (steps b) (none-met (stepsOff (steps b)) 14 none (late .1) .0) in
+    rw (given .1) (file-whole b (file .0) .faces-high, on .1)
