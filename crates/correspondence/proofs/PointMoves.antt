@@ -47,7 +47,7 @@ module _ {z : Sense} {M M′ : IndexedMesh} (a : WellFormed M) (r : Alike z M M�
   φ = i .corners .to
 
   abbrev π : ℕ → ℕ
-  π = i .vertices .to
+  π = i .vertexMap .to
 
   -- half-edge c, in M′
   abbrev σ : ℕ → ℕ

@@ -142,7 +142,7 @@ module _ {M : IndexedMesh} (a : WellFormed M) where
     same-indices = length-listBelow _ (corners M) ∙ sym (a .sized .indices-are);
     shape = record {
       corners = reflectedCorners;
-      vertices = same-numbers (M .vertices);
+      vertexMap = same-numbers (M .vertices);
       next-moves = λ c l. reflected-next c;
       at-moves = at-reflected;
     };

@@ -22,7 +22,7 @@ use Rattle.sample.specs.declared.model.Point.{Point}
 use Rattle.sample.specs.declared.model.MarkedPoint.{MarkedPoint}
 use Rattle.patch.specs.Answer.{Lent}
 use Rattle.edit.specs.Mirror.{Outputs, outputsOff, MeshMirrored}
-use Rattle.surface.specs.Claim.{OnMesh, number, pointOf}
+use Rattle.surface.specs.Claim.{OnMesh, sampleCoordinate, samplePoint}
 use Rattle.surface.specs.Witness.{Asked, asked, LongEnough, Evaluated}
 use Rattle.surface.specs.declared.model.SamplePlace.{SamplePlace}
 use Rattle.surface.specs.declared.model.Evaluation.{Evaluation}
@@ -52,7 +52,7 @@ pub record MirrorClaim (n : ℕ) (a a' : Asked) (r : Outcome) (s s' : Evaluation
   pub counted : LongEnough a → checked (s .mesh) ≡ result (countsOf (a .mesh))
   pub image-counted : LongEnough a' → checked (s' .mesh) ≡ result (countsOf (a .mesh))
   -- the sample of the mesh is given, and turns up at (b, a) of the same face with x negated, y and z as they are (rule E4)
-  pub answered : LongEnough a → OnMesh (a .mesh) n (a .place) → sampled (s .sample) ≡ result (pointOf (number (s .sample)))
+  pub answered : LongEnough a → OnMesh (a .mesh) n (a .place) → sampled (s .sample) ≡ result (samplePoint (sampleCoordinate (s .sample)))
   pub reflected : LongEnough a → LongEnough a' → OnMesh (a .mesh) n (a .place)
       → a' .place ≡ exchanged (a .place)
       → sampled (s' .sample) ≡ reflectedAnswer (sampled (s .sample))

@@ -29,7 +29,7 @@ use Rattle.patch.proofs.PointLaws.{patch-divisor}
 use Rattle.symmetry.proofs.WellFormedMoves.{alike-well-formed}
 use Rattle.correspondence.proofs.PointMoves.{patch-moves}
 use Rattle.surface.specs.Renumbering.{Renumbering, Place, matching, onSide}
-use Rattle.surface.specs.Claim.{OnMesh, exact, Multiples, exactSum, pointOf}
+use Rattle.surface.specs.Claim.{OnMesh, unrounded, Multiples, exactSum, samplePoint}
 use Rattle.surface.specs.declared.model.SamplePlace.{SamplePlace}
 use Rattle.surface.proofs.FromRenumbering.{alike, face-begins, position-moves}
 use Rattle.surface.proofs.FaceSamples.{sampleFrom, Within, matching-within, side-within, sample-matching}
@@ -42,13 +42,13 @@ abbrev pub sampleOn : IndexedMesh → List ℤ → ℕ → ℕ → Place → Ans
 sampleOn M d n f p = sampleAnswer (patchesAfter M d) f n (p .a) (p .b)
 
 abbrev pub answerFrom : IndexedMesh → ℕ → ℕ → Place → Answer Point
-answerFrom M n f p = result (pointOf (λ k. sampleFrom (view M k) n (4 * f) p))
+answerFrom M n f p = result (samplePoint (λ k. sampleFrom (view M k) n (4 * f) p))
 
 abbrev pub markedOn : IndexedMesh → List ℤ → List ℕ → ℕ → ℕ → Place → Answer MarkedPoint
 markedOn M d x n f p = markedAnswer (patchesAfter M d) (marksAfter M x) f n (p .a) (p .b)
 
 abbrev pub markedAnswerFrom : IndexedMesh → ℕ → ℕ → Place → Answer MarkedPoint
-markedAnswerFrom M n f p = result (record { point = pointOf (λ k. sampleFrom (view M k) n (4 * f) p); exact = markFrom (view M) n (4 * f) p })
+markedAnswerFrom M n f p = result (record { point = samplePoint (λ k. sampleFrom (view M k) n (4 * f) p); exact = markFrom (view M) n (4 * f) p })
 
 -- answers whose coordinates are equal
 same-answer : (M M′ : IndexedMesh) (n f f′ : ℕ) (p p′ : Place)
@@ -86,25 +86,25 @@ marked-from {M} a d x long room n f p l on =
 
 -- a face of M′ has the control points of the face of M, seen from the corner at which it begins
 module _ {M M′ : IndexedMesh} (r : Renumbering M M′) (a : WellFormed M) (k : ℕ) (axis : k < 3) (f : ℕ) (face : f < M .faces) where
-  patch-renumbered : (m : ℕ) → m < 16 → patchPoint (view M′ k) (4 * r .faces .to f) m ≡ patchPoint (view M k) (turn (r .start f) (4 * f)) m
+  patch-renumbered : (m : ℕ) → m < 16 → patchPoint (view M′ k) (4 * r .faceMap .to f) m ≡ patchPoint (view M k) (turn (r .start f) (4 * f)) m
   patch-renumbered m b =
       ap (λ (c : ℕ). patchPoint (view M′ k) c m) (sym (face-begins r f face))
       ∙ patch-moves a (alike r) (view M k .value) (view M′ k .value) (λ p l. position-moves r p k l axis) (turn (r .start f) (4 * f)) (omega arith) m b
 
   sample-renumbered : (n : ℕ) (p : Place) → Within n p
-      → sampleFrom (view M′ k) n (4 * r .faces .to f) (matching n (r .start f) p) ≡ sampleFrom (view M k) n (4 * f) p
+      → sampleFrom (view M′ k) n (4 * r .faceMap .to f) (matching n (r .start f) p) ≡ sampleFrom (view M k) n (4 * f) p
   sample-renumbered n p w =
       rounded-ext n _ _ (λ m b. ap units (patch-renumbered m b)) ∙ sample-matching (view M k) n (r .start f) (4 * f) p w
 
 mark-renumbered : {M M′ : IndexedMesh} (r : Renumbering M M′) (a : WellFormed M) (f : ℕ) → f < M .faces → (n : ℕ) (p : Place) → Within n p
-    → markFrom (view M′) n (4 * r .faces .to f) (matching n (r .start f) p) ≡ markFrom (view M) n (4 * f) p
+    → markFrom (view M′) n (4 * r .faceMap .to f) (matching n (r .start f) p) ≡ markFrom (view M) n (4 * f) p
 mark-renumbered {M} {M′} r a f face n p w =
     same-marks (view M′) (view M) n _ _ (matching n (r .start f) p) (λ k m h b. patch-renumbered r a k h f face m b)
     ∙ mark-matching (view M) n (r .start f) (4 * f) p w
 
 -- a sample is that of the exact surface's control points, rounded
 exact-rounded : (M : IndexedMesh) (d : List ℤ) (f n x y k : ℕ) → f < M .faces → k < 3
-    → coordinateAt (patchesAfter M d) f n x y k ≡ rounded n x y (λ m. units (exact M k f m))
+    → coordinateAt (patchesAfter M d) f n x y k ≡ rounded n x y (λ m. units (unrounded M k f m))
 exact-rounded M d f n x y k l h = coordinate-written M d f n x y k l h
 
 module _ {M : IndexedMesh} (a : WellFormed M) (d : List ℤ) (long : 48 * M .faces ≤ length d) (n : ℕ) where
@@ -113,7 +113,7 @@ module _ {M : IndexedMesh} (a : WellFormed M) (d : List ℤ) (long : 48 * M .fac
   distance-on q k L x on h common =
       let s = place-on n (q .a) (q .b) (on .1) in
       rw (exact-rounded M d (q .face) n (q .a) (q .b) k (on .0) h)
-      (distance n (q .a) (q .b) (s .0) (s .2) (s .3) (exact M k (q .face)) L x (λ m _. patch-divisor a (q .face) m k (on .0) h) common)
+      (distance n (q .a) (q .b) (s .0) (s .2) (s .3) (unrounded M k (q .face)) L x (λ m _. patch-divisor a (q .face) m k (on .0) h) common)
 
   -- place t of half-edge c
   on-side : (c t : ℕ) → c < corners M → placeOff n t 0 ≡ false → sampleOn M d n (c / 4) (onSide n (c % 4) t) ≡ answerFrom M n (c / 4) (onSide n (c % 4) t)
@@ -131,23 +131,23 @@ module _ {M : IndexedMesh} (a : WellFormed M) (d : List ℤ) (long : 48 * M .fac
 
   pub renumbered-on : {M′ : IndexedMesh} (r : Renumbering M M′) (d′ : List ℤ) → 48 * M′ .faces ≤ length d′
       → (f : ℕ) (p : Place) → f < M .faces → placeOff n (p .a) (p .b) ≡ false
-      → sampleOn M d n f p ≡ sampleOn M′ d′ n (r .faces .to f) (matching n (r .start f) p)
+      → sampleOn M d n f p ≡ sampleOn M′ d′ n (r .faceMap .to f) (matching n (r .start f) p)
   renumbered-on {M′} r d′ long′ f p l on =
       let s = place-on n (p .a) (p .b) on in
       let w = matching-within n (r .start f) p (s .2, s .3) in
       sampled-from a d long n f p l on
       ∙ sym (same-answer M′ M n _ _ _ _ (λ k h. sample-renumbered r a k h f l n p (s .2, s .3)))
-      ∙ sym (sampled-from (alike-well-formed a (alike r)) d′ long′ n (r .faces .to f) (matching n (r .start f) p)
-      (rw (r .same-faces) (r .faces .to-below f l)) (place-none n (p .a) (p .b) _ _ on (w .0) (w .1)))
+      ∙ sym (sampled-from (alike-well-formed a (alike r)) d′ long′ n (r .faceMap .to f) (matching n (r .start f) p)
+      (rw (r .same-faces) (r .faceMap .to-below f l)) (place-none n (p .a) (p .b) _ _ on (w .0) (w .1)))
 
   pub marks-renumbered-on : (x : List ℕ) → 16 * M .faces ≤ length x
       → {M′ : IndexedMesh} (r : Renumbering M M′) (d′ : List ℤ) (x′ : List ℕ) → 48 * M′ .faces ≤ length d′ → 16 * M′ .faces ≤ length x′
       → (f : ℕ) (p : Place) → f < M .faces → placeOff n (p .a) (p .b) ≡ false
-      → markedOn M d x n f p ≡ markedOn M′ d′ x′ n (r .faces .to f) (matching n (r .start f) p)
+      → markedOn M d x n f p ≡ markedOn M′ d′ x′ n (r .faceMap .to f) (matching n (r .start f) p)
   marks-renumbered-on x room {M′} r d′ x′ long′ room′ f p l on =
       let s = place-on n (p .a) (p .b) on in
       let w = matching-within n (r .start f) p (s .2, s .3) in
       marked-from a d x long room n f p l on
       ∙ sym (same-marked M′ M n _ _ _ _ (λ k h. sample-renumbered r a k h f l n p (s .2, s .3)) (mark-renumbered r a f l n p (s .2, s .3)))
-      ∙ sym (marked-from (alike-well-formed a (alike r)) d′ x′ long′ room′ n (r .faces .to f) (matching n (r .start f) p)
-      (rw (r .same-faces) (r .faces .to-below f l)) (place-none n (p .a) (p .b) _ _ on (w .0) (w .1)))
+      ∙ sym (marked-from (alike-well-formed a (alike r)) d′ x′ long′ room′ n (r .faceMap .to f) (matching n (r .start f) p)
+      (rw (r .same-faces) (r .faceMap .to-below f l)) (place-none n (p .a) (p .b) _ _ on (w .0) (w .1)))

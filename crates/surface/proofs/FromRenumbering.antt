@@ -47,17 +47,17 @@ spot-same g r s e = omega arith
 
 module _ {M M′ : IndexedMesh} (r : Renumbering M M′) where
   to : ℕ → ℕ
-  to c = spot (r .faces .to (c / 4)) (c + (4 - r .start (c / 4)))
+  to c = spot (r .faceMap .to (c / 4)) (c + (4 - r .start (c / 4)))
 
   from : ℕ → ℕ
-  from c = spot (r .faces .from (c / 4)) (c + r .start (r .faces .from (c / 4)))
+  from c = spot (r .faceMap .from (c / 4)) (c + r .start (r .faceMap .from (c / 4)))
 
   from-to : (c : ℕ) → c < corners M → from (to c) ≡ c
   unfolding to from
   from-to c l =
       let b : c / 4 < M .faces = omega arith in
-      let q : to c % 4 ≡ (c + (4 - r .start (c / 4))) % 4 = spot-corner (r .faces .to (c / 4)) _ in
-      let f : r .faces .from (to c / 4) ≡ c / 4 = ap (r .faces .from) (spot-face _ _) ∙ r .faces .from-to (c / 4) b in
+      let q : to c % 4 ≡ (c + (4 - r .start (c / 4))) % 4 = spot-corner (r .faceMap .to (c / 4)) _ in
+      let f : r .faceMap .from (to c / 4) ≡ c / 4 = ap (r .faceMap .from) (spot-face _ _) ∙ r .faceMap .from-to (c / 4) b in
       ap (λ (g : ℕ). spot g (to c + r .start g)) f
       ∙ spot-same (c / 4) (to c + r .start (c / 4)) c (omega (arith, r .start-below (c / 4) b))
       ∙ spot-is c
@@ -66,11 +66,11 @@ module _ {M M′ : IndexedMesh} (r : Renumbering M M′) where
   unfolding to from
   to-from c l =
       let b : c / 4 < M .faces = omega arith in
-      let g : ℕ = r .faces .from (c / 4) in
+      let g : ℕ = r .faceMap .from (c / 4) in
       let q : from c % 4 ≡ (c + r .start g) % 4 = spot-corner g _ in
-      ap (λ (h : ℕ). spot (r .faces .to h) (from c + (4 - r .start h))) (spot-face g _)
-      ∙ ap (λ (h : ℕ). spot h (from c + (4 - r .start g))) (r .faces .to-from (c / 4) b)
-      ∙ spot-same (c / 4) (from c + (4 - r .start g)) c (omega (arith, r .start-below g (r .faces .from-below (c / 4) b)))
+      ap (λ (h : ℕ). spot (r .faceMap .to h) (from c + (4 - r .start h))) (spot-face g _)
+      ∙ ap (λ (h : ℕ). spot h (from c + (4 - r .start g))) (r .faceMap .to-from (c / 4) b)
+      ∙ spot-same (c / 4) (from c + (4 - r .start g)) c (omega (arith, r .start-below g (r .faceMap .from-below (c / 4) b)))
       ∙ spot-is c
 
   -- corners, as they are renumbered with their faces
@@ -79,8 +79,8 @@ module _ {M M′ : IndexedMesh} (r : Renumbering M M′) where
   cornerMap = record {
     to = to;
     from = from;
-    to-below = λ c l. spot-below _ _ (M .faces) (r .faces .to-below (c / 4) (omega arith));
-    from-below = λ c l. spot-below _ _ (M .faces) (r .faces .from-below (c / 4) (omega arith));
+    to-below = λ c l. spot-below _ _ (M .faces) (r .faceMap .to-below (c / 4) (omega arith));
+    from-below = λ c l. spot-below _ _ (M .faces) (r .faceMap .from-below (c / 4) (omega arith));
     from-to = from-to;
     to-from = to-from;
   }
@@ -89,12 +89,12 @@ module _ {M M′ : IndexedMesh} (r : Renumbering M M′) where
   unfolding cornerMap to
   next-moves c =
       let e : c / 4 ≡ next c / 4 = omega arith in
-      spot-turn 1 (r .faces .to (c / 4)) (c + (4 - r .start (c / 4)))
-      ∙ spot-same (r .faces .to (c / 4)) _ (next c + (4 - r .start (c / 4))) (omega arith)
-      ∙ ap (λ (g : ℕ). spot (r .faces .to g) (next c + (4 - r .start g))) e
+      spot-turn 1 (r .faceMap .to (c / 4)) (c + (4 - r .start (c / 4)))
+      ∙ spot-same (r .faceMap .to (c / 4)) _ (next c + (4 - r .start (c / 4))) (omega arith)
+      ∙ ap (λ (g : ℕ). spot (r .faceMap .to g) (next c + (4 - r .start g))) e
 
   -- what a list by corner says of the new number of corner c
-  pub corner-moves : {A : Type 0} {z : A} {rename : A → A} {xs ys : List A} → ByCorner z rename (r .faces .to) (r .start) (M .faces) xs ys
+  pub corner-moves : {A : Type 0} {z : A} {rename : A → A} {xs ys : List A} → ByCorner z rename (r .faceMap .to) (r .start) (M .faces) xs ys
       → (c : ℕ) → c < corners M → getD ys (cornerMap .to c) z ≡ rename (getD xs c z)
   unfolding cornerMap to spot
   corner-moves {z = z} {rename = rename} {xs = xs} w c l =
@@ -103,16 +103,16 @@ module _ {M M′ : IndexedMesh} (r : Renumbering M M′) where
       w .moves (c / 4) _ b (omega arith) ∙ ap (λ (d : ℕ). rename (getD xs d z)) e
 
   -- a face of M′ begins at the corner that the renumbering says
-  pub face-begins : (f : ℕ) → f < M .faces → cornerMap .to (turn (r .start f) (4 * f)) ≡ 4 * r .faces .to f
+  pub face-begins : (f : ℕ) → f < M .faces → cornerMap .to (turn (r .start f) (4 * f)) ≡ 4 * r .faceMap .to f
   unfolding cornerMap to spot
   face-begins f b =
       let s = r .start-below f b in
       let e : turn (r .start f) (4 * f) / 4 ≡ f = omega arith in
       let z : (turn (r .start f) (4 * f) + (4 - r .start f)) % 4 ≡ 0 = omega arith in
-      ap (λ (g : ℕ). 4 * r .faces .to g + (turn (r .start f) (4 * f) + (4 - r .start g)) % 4) e ∙ omega arith
+      ap (λ (g : ℕ). 4 * r .faceMap .to g + (turn (r .start f) (4 * f) + (4 - r .start g)) % 4) e ∙ omega arith
 
-  pub position-moves : (p k : ℕ) → p < M .vertices → k < 3 → coordinate M′ (3 * r .vertices .to p + k) ≡ coordinate M (3 * p + k)
-  position-moves p k l h = three-moves (r .vertices .to) (M .vertices) (r .positions-carried) p k l h
+  pub position-moves : (p k : ℕ) → p < M .vertices → k < 3 → coordinate M′ (3 * r .vertexMap .to p + k) ≡ coordinate M (3 * p + k)
+  position-moves p k l h = three-moves (r .vertexMap .to) (M .vertices) (r .positions-carried) p k l h
 
   abbrev pub alike : Alike same M M′
   alike = record {
@@ -120,7 +120,7 @@ module _ {M M′ : IndexedMesh} (r : Renumbering M M′) where
     same-faces = r .same-faces;
     same-positions = r .positions-carried .same-length;
     same-indices = r .faces-carried .same-length;
-    shape = record { corners = cornerMap; vertices = r .vertices; next-moves = λ c l. next-moves c; at-moves = corner-moves (r .faces-carried) };
+    shape = record { corners = cornerMap; vertexMap = r .vertexMap; next-moves = λ c l. next-moves c; at-moves = corner-moves (r .faces-carried) };
     sizes-move = λ p k b h. ap natAbs (position-moves p k b h);
     tags-carried = r .tags-carried;
   }

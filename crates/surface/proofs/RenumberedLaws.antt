@@ -39,8 +39,8 @@ module _ {A : Type 0} (z : A) (rename : A → A) {n : ℕ} (f : Permutation n) (
 -- a renumbering with these very permutations and starts
 pub record Choice (M M′ : IndexedMesh) (v : Permutation (M .vertices)) (f : Permutation (M .faces)) (start : ℕ → ℕ) : Type 0 where
   pub chosen : Renumbering M M′
-  pub vertices-are : chosen .vertices ≡ v
-  pub faces-are : chosen .faces ≡ f
+  pub vertices-are : chosen .vertexMap ≡ v
+  pub faces-are : chosen .faceMap ≡ f
   pub start-is : chosen .start ≡ start
 
 -- the mesh made of a choice, for a mesh whose lists have the lengths of its sizes
@@ -54,8 +54,8 @@ module _ (M : IndexedMesh) (v : Permutation (M .vertices)) (f : Permutation (M .
     chosen = record {
       same-vertices = refl;
       same-faces = refl;
-      vertices = v;
-      faces = f;
+      vertexMap = v;
+      faceMap = f;
       start = start;
       start-below = below;
       positions-carried = carried-list (pos 0) (threesOf v) (M .positions) (sized .positions-are);
@@ -68,12 +68,12 @@ module _ (M : IndexedMesh) (v : Permutation (M .vertices)) (f : Permutation (M .
   }
 
 -- every renumbering is made so
-pub renumbering-made : {M M′ : IndexedMesh} → MeshSized M → (r : Renumbering M M′) → M′ ≡ renumber M (r .vertices) (r .faces) (r .start)
+pub renumbering-made : {M M′ : IndexedMesh} → MeshSized M → (r : Renumbering M M′) → M′ ≡ renumber M (r .vertexMap) (r .faceMap) (r .start)
 unfolding threesOf
 renumbering-made {M} {M′} sized r = λ i. record {
   vertices = r .same-vertices i;
   faces = r .same-faces i;
-  positions = carried-made (pos 0) (threesOf (r .vertices)) (M .positions) (sized .positions-are) (M′ .positions) (r .positions-carried) i;
-  tags = carried-made 0 (r .vertices) (M .tags) (sized .tags-are) (M′ .tags) (r .tags-carried) i;
-  indices = corners-made 0 (r .vertices .to) (r .faces) (r .start) (M .indices) (sized .indices-are) (M′ .indices) (r .faces-carried) i;
+  positions = carried-made (pos 0) (threesOf (r .vertexMap)) (M .positions) (sized .positions-are) (M′ .positions) (r .positions-carried) i;
+  tags = carried-made 0 (r .vertexMap) (M .tags) (sized .tags-are) (M′ .tags) (r .tags-carried) i;
+  indices = corners-made 0 (r .vertexMap .to) (r .faceMap) (r .start) (M .indices) (sized .indices-are) (M′ .indices) (r .faces-carried) i;
 }

@@ -24,7 +24,7 @@ use Rattle.sample.specs.declared.model.Point.{Point}
 use Rattle.patch.specs.Patch.{patchesAfter, marksAfter}
 use Rattle.patch.specs.Answer.{Lent, patchesShort, marksShort, listsShort, patchRows, patchAnswer, patchList, marksList, Patched}
 use Rattle.symmetry.proofs.WellFormedMoves.{alike-well-formed, alike-counts}
-use Rattle.surface.specs.Claim.{OnMesh, coordinateOf, number, pointOf, isExact, Claim}
+use Rattle.surface.specs.Claim.{OnMesh, coordinateOf, sampleCoordinate, samplePoint, isExact, Claim}
 use Rattle.surface.specs.Renumbering.{place}
 use Rattle.surface.specs.Witness.{sampleAt, markedAt, Asked, asked, Evaluated, Witnessed}
 use Rattle.surface.specs.declared.model.SamplePlace.{SamplePlace}
@@ -45,7 +45,7 @@ evaluated {n} {a} patched sample marks = record {
 }
 
 -- a coordinate of three numbers given by their places
-coordinate-of : (g : ℕ → ℤ) (k : ℕ) → k < 3 → coordinateOf (result (pointOf g)) k ≡ g k
+coordinate-of : (g : ℕ → ℤ) (k : ℕ) → k < 3 → coordinateOf (result (samplePoint g)) k ≡ g k
 coordinate-of g zero l = refl
 coordinate-of g (suc zero) l = refl
 coordinate-of g (suc (suc zero)) l = refl
@@ -112,17 +112,17 @@ module _ {M M′ : IndexedMesh} {d d′ b b′ : Lent} {n : ℕ} {q q′ : Sampl
     here : sampled (w .first .sample) ≡ sampleAt after n q
     here = first .sample-is ∙ sample-on d a long n q
 
-    gave : OnMesh M n q → sampled (w .first .sample) ≡ result (pointOf expected)
+    gave : OnMesh M n q → sampled (w .first .sample) ≡ result (samplePoint expected)
     gave on = here ∙ answered a (d .patches) (q .face) n (q .a) (q .b) (patches-long d a long) (on .0) (on .1)
 
-    gave-number : OnMesh M n q → (k : ℕ) → k < 3 → number (w .first .sample) k ≡ expected k
+    gave-number : OnMesh M n q → (k : ℕ) → k < 3 → sampleCoordinate (w .first .sample) k ≡ expected k
     gave-number on k h = ap (λ (t : Answer Point). coordinateOf t k) (gave on) ∙ coordinate-of expected k h
 
     here-marked : marked (w .first .marked) ≡ markedAt after marks n q
     here-marked = first .marked-is ∙ marked-on d a long n q
 
     gave-marked : OnMesh M n q
-        → marked (w .first .marked) ≡ result (record { point = pointOf expected; exact = sampleExact after marks (q .face) n (q .a) (q .b) })
+        → marked (w .first .marked) ≡ result (record { point = samplePoint expected; exact = sampleExact after marks (q .face) n (q .a) (q .b) })
     gave-marked on =
         here-marked
         ∙ marked-answered a (d .patches) (d .marks) (q .face) n (q .a) (q .b) (patches-long d a long) (marks-long d a long) (on .0) (on .1)

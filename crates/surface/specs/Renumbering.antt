@@ -2,7 +2,7 @@
 --
 --   ByCorner z rename to start n xs ys   lists with one entry a corner, of n faces: ys is as long as xs, and where face f gets the number `to f` and
 --                      begins at its corner `start f`, its corner s has there what corner start + s, modulo 4, has in xs, renamed
---   vertices, faces    the permutations: the new number of each vertex and of each face
+--   vertexMap, faceMap   the permutations: the new number of each vertex and of each face
 --   start f            face f, by its old number, begins at this one of its corners in M'
 --   Place              a place (a, b) of a face, for an N
 --   matching n s p     the place that matches p in the face begun s corners later: (a, b) goes to (b, N - a), s times (rule C9)
@@ -23,15 +23,15 @@ pub record ByCorner {A : Type 0} (z : A) (rename : A → A) (to start : ℕ → 
 pub record Renumbering (M M' : IndexedMesh) : Type 0 where
   pub same-vertices : M' .vertices ≡ M .vertices
   pub same-faces : M' .faces ≡ M .faces
-  pub vertices : Permutation (M .vertices)
-  pub faces : Permutation (M .faces)
+  pub vertexMap : Permutation (M .vertices)
+  pub faceMap : Permutation (M .faces)
   pub start : ℕ → ℕ
   pub start-below : (f : ℕ) → f < M .faces → start f < 4
   -- a vertex keeps its position and tag under its new number
-  pub positions-carried : Carried (pos 0) (threes (vertices .to)) (3 * M .vertices) (M .positions) (M' .positions)
-  pub tags-carried : Carried 0 (vertices .to) (M .vertices) (M .tags) (M' .tags)
+  pub positions-carried : Carried (pos 0) (threes (vertexMap .to)) (3 * M .vertices) (M .positions) (M' .positions)
+  pub tags-carried : Carried 0 (vertexMap .to) (M .vertices) (M .tags) (M' .tags)
   -- corner s of the new face is corner start + s, modulo 4, of the old one, and names that vertex's new number
-  pub faces-carried : ByCorner 0 (vertices .to) (faces .to) start (M .faces) (M .indices) (M' .indices)
+  pub faces-carried : ByCorner 0 (vertexMap .to) (faceMap .to) start (M .faces) (M .indices) (M' .indices)
 
 pub record Place : Type 0 where
   pub a : ℕ

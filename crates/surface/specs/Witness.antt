@@ -1,6 +1,6 @@
 -- What the patch call and the two sample calls give for one mesh and for two, whatever they are passed, and with it the claim.
 --
---   sampleAt patches n q, markedAt patches exact n q   the answers of the sample call and of the marked one at place q
+--   sampleAt patches n q, markedAt patches marks n q   the answers of the sample call and of the marked one at place q
 --   Asked             what the calls for one mesh are passed: the mesh, the lists lent for it, and the place of the sample
 --   LongEnough a      the lent lists have the places that the patch call asks for (rule R2, row 2)
 --   Evaluated n a r b   r holds the answers of the patch call on the mesh with its lent lists, and of the sample calls at the place on the lists that
@@ -29,7 +29,7 @@ abbrev pub sampleAt : List ℤ → ℕ → SamplePlace → Answer Point
 sampleAt patches n q = sampleAnswer patches (q .face) n (q .a) (q .b)
 
 abbrev pub markedAt : List ℤ → List ℕ → ℕ → SamplePlace → Answer MarkedPoint
-markedAt patches exact n q = markedAnswer patches exact (q .face) n (q .a) (q .b)
+markedAt patches marks n q = markedAnswer patches marks (q .face) n (q .a) (q .b)
 
 pub record Asked : Type 0 where
   pub mesh : IndexedMesh

@@ -75,7 +75,7 @@ module _ {z : Sense} {n v : ℕ} {at at′ : ℕ → ℕ} (s : Sound at n v) (i 
   iterate-moves zero c l = inl (l, refl)
   iterate-moves (suc k) c l = step-moves (iterate (step z at n) k c) (iterate step′ k (φ c)) (iterate-moves k c l)
 
-  pub fan-moves : (p : ℕ) → p < v → fan at′ n (i .vertices .to p) ≡ fan at n p
+  pub fan-moves : (p : ℕ) → p < v → fan at′ n (i .vertexMap .to p) ≡ fan at n p
   unfolding fan fanBy
   fan-moves p b =
       gather-moves s i any-monoid _ _ (λ c l.

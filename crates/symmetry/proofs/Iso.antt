@@ -1,7 +1,7 @@
 -- Two meshes of one shape: the corners and the vertices renumbered, each face in the old turn or each in the opposite one. Half-edges keep their twins.
 --
 --   Sound at n v      what is asked of the n corners of a mesh with v vertices: whole faces, known vertices, no half-edge twice
---   Iso z at at′ n v  corner c of the one is corner `corners .to c` of the other, and vertex p is `vertices .to p`
+--   Iso z at at′ n v  corner c of the one is corner `corners .to c` of the other, and vertex p is `vertexMap .to p`
 --   halfEdges s i     half-edge c of the one is half-edge `halfEdges s i .to c` of the other: that of the corner which it leaves there
 --   Moved to n e e′   e is one of the n corners and e′ is the one that it has become, or both are `noTwin`
 use mathlib.Core.Path.{_≡_, sym, ap, _∙_}
@@ -28,9 +28,9 @@ pub record Sound (at : ℕ → ℕ) (n v : ℕ) : Type 0 where
 
 pub record Iso (z : Sense) (at at′ : ℕ → ℕ) (n v : ℕ) : Type 0 where
   pub corners : Permutation n
-  pub vertices : Permutation v
+  pub vertexMap : Permutation v
   pub next-moves : (c : ℕ) → c < n → next (corners .to c) ≡ corners .to (ahead z c)
-  pub at-moves : (c : ℕ) → c < n → at′ (corners .to c) ≡ vertices .to (at c)
+  pub at-moves : (c : ℕ) → c < n → at′ (corners .to c) ≡ vertexMap .to (at c)
 
 abbrev pub Moved : (ℕ → ℕ) → ℕ → ℕ → ℕ → Type 0
 Moved to n e e′ = ((e < n) × (e′ ≡ to e)) ⊎ ((e ≡ noTwin) × (e′ ≡ noTwin))
@@ -60,7 +60,7 @@ module _ {z : Sense} {n v : ℕ} {at at′ : ℕ → ℕ} (s : Sound at n v) (i 
   φ = i .corners .to
 
   abbrev π : ℕ → ℕ
-  π = i .vertices .to
+  π = i .vertexMap .to
 
   -- ---- corners
   pub turn-moves : (k c : ℕ) → c < n → turn k (φ c) ≡ φ (turned z k c)
@@ -82,7 +82,7 @@ module _ {z : Sense} {n v : ℕ} {at at′ : ℕ → ℕ} (s : Sound at n v) (i 
 
   -- corners at one vertex in the other mesh are at one vertex here
   pub at-reflects : (c d : ℕ) → c < n → d < n → π (at c) ≡ π (at d) → at c ≡ at d
-  at-reflects c d l k = to-injective (i .vertices) (at c) (at d) (s .named c l) (s .named d k)
+  at-reflects c d l k = to-injective (i .vertexMap) (at c) (at d) (s .named c l) (s .named d k)
 
   -- ---- half-edges
   unfoldable pub halfEdges : Permutation n
@@ -134,7 +134,7 @@ module _ {z : Sense} {n v : ℕ} {at at′ : ℕ → ℕ} (s : Sound at n v) (i 
   unfolding halfEdges
   sound-moves = record {
     whole = s .whole;
-    named = λ c l. rw (origin-from c l) (i .vertices .to-below _ (s .named (origin z (τ c)) (origin-below z (s .whole) (τ c) (halfEdges .from-below c l))));
+    named = λ c l. rw (origin-from c l) (i .vertexMap .to-below _ (s .named (origin z (τ c)) (origin-below z (s .whole) (τ c) (halfEdges .from-below c l))));
     simple = λ c d lc ld e f.
         let a = halfEdges .from-below c lc in
         let b = halfEdges .from-below d ld in

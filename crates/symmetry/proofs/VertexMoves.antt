@@ -26,11 +26,11 @@ module _ {z : Sense} {n v : ℕ} {at at′ : ℕ → ℕ} (s : Sound at n v) (i 
   φ = i .corners .to
 
   abbrev π : ℕ → ℕ
-  π = i .vertices .to
+  π = i .vertexMap .to
 
   -- vertex p of the mesh is at corner c exactly when it is at the same corner of the other
   same-vertex : (c p : ℕ) → c < n → p < v → eqb (at′ (φ c)) (π p) ≡ eqb (at c) p
-  same-vertex c p l b = rw (i .at-moves c l) (to-same (i .vertices) (at c) p (s .named c l) b)
+  same-vertex c p l b = rw (i .at-moves c l) (to-same (i .vertexMap) (at c) p (s .named c l) b)
 
   pub gather-moves : {A : Type 0} {e : A} {op : A → A → A} → Monoid e op → (f f′ : ℕ → A) → ((c : ℕ) → c < n → f′ (φ c) ≡ f c)
       → (p : ℕ) → p < v → gather e op at′ f′ n (π p) ≡ gather e op at f n p

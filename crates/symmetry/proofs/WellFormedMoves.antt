@@ -30,8 +30,8 @@ pub record Alike (z : Sense) (M M′ : IndexedMesh) : Type 0 where
   pub same-positions : length (M′ .positions) ≡ length (M .positions)
   pub same-indices : length (M′ .indices) ≡ length (M .indices)
   pub shape : Iso z (at M) (at M′) (corners M) (M .vertices)
-  pub sizes-move : (p k : ℕ) → p < M .vertices → k < 3 → natAbs (coordinate M′ (3 * shape .vertices .to p + k)) ≡ natAbs (coordinate M (3 * p + k))
-  pub tags-carried : Carried 0 (shape .vertices .to) (M .vertices) (M .tags) (M′ .tags)
+  pub sizes-move : (p k : ℕ) → p < M .vertices → k < 3 → natAbs (coordinate M′ (3 * shape .vertexMap .to p + k)) ≡ natAbs (coordinate M (3 * p + k))
+  pub tags-carried : Carried 0 (shape .vertexMap .to) (M .vertices) (M .tags) (M′ .tags)
 
 pub sound : {M : IndexedMesh} → WellFormed M → Sound (at M) (corners M) (M .vertices)
 sound a = record { whole = accepted-corners a; named = a .named; simple = a .simple }
@@ -53,7 +53,7 @@ module _ {z : Sense} {M M′ : IndexedMesh} (a : WellFormed M) (r : Alike z M M�
 
   moved-coordinate : (p : ℕ) → p < M .vertices → (k : ℕ) → k < 3 → natAbs (coordinate M′ (3 * p + k)) ≤ maxCoordinate
   moved-coordinate =
-      to-every (i .vertices) (λ p. (k : ℕ) → k < 3 → natAbs (coordinate M′ (3 * p + k)) ≤ maxCoordinate) (λ p l k b.
+      to-every (i .vertexMap) (λ p. (k : ℕ) → k < 3 → natAbs (coordinate M′ (3 * p + k)) ≤ maxCoordinate) (λ p l k b.
       rw (r .sizes-move p k l b) (a .coordinates (3 * p + k) (omega arith)))
 
   moved-distinct : (c : ℕ) → c < corners M → (j : ℕ) → j < 3 → at M′ (turn (suc j) c) ≡ at M′ c → ⊥
@@ -63,7 +63,7 @@ module _ {z : Sense} {M M′ : IndexedMesh} (a : WellFormed M) (r : Alike z M M�
       let one = at-reflects s i (turned z (suc j) c) c (turned-below z (s .whole) (suc j) c l) l (sym (at-turn s i (suc j) c l) ∙ e ∙ i .at-moves c l) in
       a .distinct c (w .0) l (w .1) (ap (at M) (sym (w .2)) ∙ one))
 
-  abbrev on-boundary : (p : ℕ) → p < M .vertices → onBoundary (at M′) (corners M) (i .vertices .to p) ≡ onBoundary (at M) (corners M) p
+  abbrev on-boundary : (p : ℕ) → p < M .vertices → onBoundary (at M′) (corners M) (i .vertexMap .to p) ≡ onBoundary (at M) (corners M) p
   on-boundary p l = on-boundary-moves s i p l (a .fans p l)
 
   -- M′, with the sizes of M
@@ -73,21 +73,21 @@ module _ {z : Sense} {M M′ : IndexedMesh} (a : WellFormed M) (r : Alike z M M�
     coordinates = λ j l.
         let e : 3 * (j / 3) + j % 3 ≡ j = omega arith in
         rw (← e) (moved-coordinate (j / 3) (omega arith) (j % 3) (omega arith));
-    tags-known = to-every (i .vertices) (λ p. tag M′ p ≤ cornerTag) (λ p l. rw (r .tags-carried .moves p l) (a .tags-known p l));
+    tags-known = to-every (i .vertexMap) (λ p. tag M′ p ≤ cornerTag) (λ p l. rw (r .tags-carried .moves p l) (a .tags-known p l));
     named = sound-moves s i .named;
     distinct = λ c j l b. moved-distinct c l j b;
     simple = sound-moves s i .simple;
-    used = to-every (i .vertices) (λ p. 0 < valence (at M′) (corners M) p) (λ p l. rw (valence-moves s i p l) (a .used p l));
-    fans = to-every (i .vertices) (λ p. fan (at M′) (corners M) p ≡ true) (λ p l. fan-moves s i p l ∙ a .fans p l);
-    inner-low = to-every (i .vertices) (λ p. onBoundary (at M′) (corners M) p ≡ false → minValence ≤ valence (at M′) (corners M) p) (λ p l e.
+    used = to-every (i .vertexMap) (λ p. 0 < valence (at M′) (corners M) p) (λ p l. rw (valence-moves s i p l) (a .used p l));
+    fans = to-every (i .vertexMap) (λ p. fan (at M′) (corners M) p ≡ true) (λ p l. fan-moves s i p l ∙ a .fans p l);
+    inner-low = to-every (i .vertexMap) (λ p. onBoundary (at M′) (corners M) p ≡ false → minValence ≤ valence (at M′) (corners M) p) (λ p l e.
         rw (valence-moves s i p l) (a .inner-low p l (sym (on-boundary p l) ∙ e)));
-    inner-high = to-every (i .vertices) (λ p. onBoundary (at M′) (corners M) p ≡ false → valence (at M′) (corners M) p ≤ maxValence) (λ p l e.
+    inner-high = to-every (i .vertexMap) (λ p. onBoundary (at M′) (corners M) p ≡ false → valence (at M′) (corners M) p ≤ maxValence) (λ p l e.
         rw (valence-moves s i p l) (a .inner-high p l (sym (on-boundary p l) ∙ e)));
-    boundary-low = to-every (i .vertices) (λ p. onBoundary (at M′) (corners M) p ≡ true → minBoundaryFaces ≤ valence (at M′) (corners M) p) (λ p l e.
+    boundary-low = to-every (i .vertexMap) (λ p. onBoundary (at M′) (corners M) p ≡ true → minBoundaryFaces ≤ valence (at M′) (corners M) p) (λ p l e.
         rw (valence-moves s i p l) (a .boundary-low p l (sym (on-boundary p l) ∙ e)));
-    boundary-high = to-every (i .vertices) (λ p. onBoundary (at M′) (corners M) p ≡ true → valence (at M′) (corners M) p ≤ maxBoundaryFaces) (λ p l e.
+    boundary-high = to-every (i .vertexMap) (λ p. onBoundary (at M′) (corners M) p ≡ true → valence (at M′) (corners M) p ≤ maxBoundaryFaces) (λ p l e.
         rw (valence-moves s i p l) (a .boundary-high p l (sym (on-boundary p l) ∙ e)));
-    tagged-boundary = to-every (i .vertices) (λ p. tag M′ p ≡ cornerTag → onBoundary (at M′) (corners M) p ≡ true) (λ p l e.
+    tagged-boundary = to-every (i .vertexMap) (λ p. tag M′ p ≡ cornerTag → onBoundary (at M′) (corners M) p ≡ true) (λ p l e.
         on-boundary p l ∙ a .tagged-boundary p l (sym (r .tags-carried .moves p l) ∙ e));
   }
 

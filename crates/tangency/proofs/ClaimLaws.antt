@@ -20,7 +20,7 @@ use Rattle.tangent.specs.Answer.{faceOpen, TangentsGiven}
 use Rattle.surface.specs.Renumbering.{Renumbering}
 use Rattle.surface.proofs.FromRenumbering.{alike}
 use Rattle.surface.proofs.Seam.{twin-inside, inner-twin}
-use Rattle.tangency.specs.Claim.{along, Across, Written, Edge, TangentClaim}
+use Rattle.tangency.specs.Claim.{vectorAlong, Across, Written, Edge, TangentClaim}
 use Rattle.tangency.proofs.ListLaws.{across-lists}
 use Rattle.tangency.proofs.GivenLaws.{nothing-met, written-closed, written-list}
 use Rattle.tangency.proofs.RenumberedLaws.{open-moves, renumbered-lists}
@@ -59,20 +59,20 @@ module _ {M : IndexedMesh} {g h : ℕ} {d e d′ e′ : List ℤ} {r s : Outcome
 
 -- ---- of a renumbered mesh
 module _ {M M′ : IndexedMesh} {g g′ : ℕ} {d x d′ x′ : List ℤ} {r r′ : Outcome} (a : WellFormed M) (first : TangentsGiven M g d r d′)
-    (second : TangentsGiven M′ g′ x r′ x′) (m : Renumbering M M′) (l : g < M .faces) (at-face : g′ ≡ m .faces .to g) (one : Written r)
+    (second : TangentsGiven M′ g′ x r′ x′) (m : Renumbering M M′) (l : g < M .faces) (at-face : g′ ≡ m .faceMap .to g) (one : Written r)
     (long : length x ≡ 72) where
   closed : faceOpen M g ≡ false
   closed = written-closed first one
 
   below : g′ < M′ .faces
-  below = rw (at-face, m .same-faces) (m .faces .to-below g l)
+  below = rw (at-face, m .same-faces) (m .faceMap .to-below g l)
 
   taken : Written r′
   taken =
       second .answer-is
       ∙ rw (nothing-met (alike-well-formed a (alike m)) g′ x below (ap (faceOpen M′) at-face ∙ open-moves m a g l closed) long)
 
-  renumbered : (q : Kind) (s k : ℕ) → s < 4 → k < 3 → along x′ q s k ≡ along d′ q ((m .start g + s) % 4) k
+  renumbered : (q : Kind) (s k : ℕ) → s < 4 → k < 3 → vectorAlong x′ q s k ≡ vectorAlong d′ q ((m .start g + s) % 4) k
   renumbered q s k b axis =
       rw (written-list second taken, written-list first one, at-face) (renumbered-lists m a g l closed q s k b axis)
 

@@ -19,7 +19,7 @@ use Rattle.mesh.proofs.AcceptedLaws.{accepted-corners}
 use Rattle.patch.specs.Patch.{view}
 use Rattle.tangent.specs.Tangent as table
 use Rattle.tangent.specs.Tangent.{Kind, start, middle, end, inner, startIn, endIn, Row, rowOf, signed, vector, tangent, tangentNumber, tangentList}
-use Rattle.tangency.specs.Claim.{number, along, Across}
+use Rattle.tangency.specs.Claim.{vectorNumber, vectorAlong, Across}
 use Rattle.tangency.proofs.AcrossLaws.{terms-same, across-edge}
 
 -- ---- the number of a vector leads back to its side and its kind
@@ -27,8 +27,8 @@ use Rattle.tangency.proofs.AcrossLaws.{terms-same, across-edge}
 abbrev found : ℕ → Row × Bool
 found m = (table.along (rowOf m .side) (rowOf m .kind), ltb m 24)
 
-all-found : (q : Kind) → listBelow (λ s. found (number q s)) 4 ≡ listBelow (λ s. (table.along s q, true)) 4
-unfolding rowOf number listBelow
+all-found : (q : Kind) → listBelow (λ s. found (vectorNumber q s)) 4 ≡ listBelow (λ s. (table.along s q, true)) 4
+unfolding rowOf vectorNumber listBelow
 all-found start = refl
 all-found middle = refl
 all-found end = refl
@@ -36,21 +36,21 @@ all-found inner = refl
 all-found startIn = refl
 all-found endIn = refl
 
-number-found : (q : Kind) (s : ℕ) → s < 4 → found (number q s) ≡ (table.along s q, true)
-number-found q s l = agree (λ s. found (number q s)) (λ s. (table.along s q, true)) 4 (all-found q) s l
+number-found : (q : Kind) (s : ℕ) → s < 4 → found (vectorNumber q s) ≡ (table.along s q, true)
+number-found q s l = agree (λ s. found (vectorNumber q s)) (λ s. (table.along s q, true)) 4 (all-found q) s l
 
-number-below : (q : Kind) (s : ℕ) → s < 4 → number q s < 24
-number-below q s l = ltb-true (number q s) 24 (ap (λ (y : Row × Bool). y .1) (number-found q s l))
+number-below : (q : Kind) (s : ℕ) → s < 4 → vectorNumber q s < 24
+number-below q s l = ltb-true (vectorNumber q s) 24 (ap (λ (y : Row × Bool). y .1) (number-found q s l))
 
 signed-signed : (b : Bool) (z : ℤ) → signed b (signed b z) ≡ z
 signed-signed true z = negℤ-negℤ z
 signed-signed false z = refl
 
 -- ---- a vector of the list, along its side
-pub along-is : (M : IndexedMesh) (g : ℕ) (q : Kind) (s k : ℕ) → s < 4 → k < 3 → along (tangentList M g) q s k ≡ vector (view M k) (turn s (4 * g)) q
+pub along-is : (M : IndexedMesh) (g : ℕ) (q : Kind) (s k : ℕ) → s < 4 → k < 3 → vectorAlong (tangentList M g) q s k ≡ vector (view M k) (turn s (4 * g)) q
 unfolding tangentNumber tangent
 along-is M g q s k l h =
-    let m : ℕ = number q s in
+    let m : ℕ = vectorNumber q s in
     let b = number-below q s l in
     let e : (3 * m + k) % 3 ≡ k = omega arith in
     let f : (3 * m + k) / 3 ≡ m = omega arith in
@@ -61,7 +61,7 @@ along-is M g q s k l h =
     ∙ ap (λ (y : Row × Bool). vector (view M k) (turn (y .0 .side) (4 * g)) (y .0 .kind)) (number-found q s l)
 
 -- of half-edge c itself
-along-edge : (M : IndexedMesh) (q : Kind) (c k : ℕ) → k < 3 → along (tangentList M (c / 4)) q (c % 4) k ≡ vector (view M k) c q
+along-edge : (M : IndexedMesh) (q : Kind) (c k : ℕ) → k < 3 → vectorAlong (tangentList M (c / 4)) q (c % 4) k ≡ vector (view M k) c q
 along-edge M q c k h =
     along-is M (c / 4) q (c % 4) k (mod-lt c (omega arith)) h ∙ ap (λ (d : ℕ). vector (view M k) d q) (turn-first c)
 

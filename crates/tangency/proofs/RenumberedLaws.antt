@@ -19,7 +19,7 @@ use Rattle.tangent.specs.Answer.{faceOpen}
 use Rattle.tangent.proofs.InnerLaws.{side-inner}
 use Rattle.surface.specs.Renumbering.{Renumbering}
 use Rattle.surface.proofs.FromRenumbering.{cornerMap, face-begins, position-moves, alike}
-use Rattle.tangency.specs.Claim.{along}
+use Rattle.tangency.specs.Claim.{vectorAlong}
 use Rattle.tangency.proofs.ListLaws.{along-is}
 use Rattle.tangency.proofs.VectorMoves.{vector-moves}
 
@@ -37,24 +37,24 @@ module _ {M M′ : IndexedMesh} (r : Renumbering M M′) (a : WellFormed M) (g :
   abbrev was : ℕ → ℕ
   was s = (r .start g + s) % 4
 
-  pub open-moves : faceOpen M′ (r .faces .to g) ≡ false
+  pub open-moves : faceOpen M′ (r .faceMap .to g) ≡ false
   unfolding faceOpen
   open-moves =
       any-none _ 4 (λ s b.
       let p = at M (4 * g + was s) in
       let named = a .named (4 * g + was s) (omega arith) in
-      ap (λ (f : ℕ). onBoundary (at M′) (4 * f) (at M′ (4 * r .faces .to g + s))) (r .same-faces)
+      ap (λ (f : ℕ). onBoundary (at M′) (4 * f) (at M′ (4 * r .faceMap .to g + s))) (r .same-faces)
       ∙ ap (onBoundary (at M′) (corners M)) (r .faces-carried .moves g s l b)
       ∙ on-boundary-moves (sound a) (alike r .shape) p named (a .fans p named)
       ∙ any-false _ 4 closed (was s) (mod-lt (r .start g + s) (omega arith)))
 
-  side-begins : (s : ℕ) → turn s (4 * r .faces .to g) ≡ cornerMap r .to (turn (was s) (4 * g))
+  side-begins : (s : ℕ) → turn s (4 * r .faceMap .to g) ≡ cornerMap r .to (turn (was s) (4 * g))
   side-begins s =
       ap (turn s) (sym (face-begins r g l))
       ∙ turn-moves (sound a) (alike r .shape) s (turn (r .start g) (4 * g)) (turn-inside g (r .start g) (M .faces) l)
       ∙ ap (cornerMap r .to) (turn-turn s (r .start g) (4 * g) ∙ sym (turn-mod (r .start g + s) (4 * g)))
 
-  vector-renumbered : (q : Kind) (s k : ℕ) → s < 4 → k < 3 → vector (view M′ k) (turn s (4 * r .faces .to g)) q ≡ vector (view M k) (turn (was s) (4 * g)) q
+  vector-renumbered : (q : Kind) (s k : ℕ) → s < 4 → k < 3 → vector (view M′ k) (turn s (4 * r .faceMap .to g)) q ≡ vector (view M k) (turn (was s) (4 * g)) q
   vector-renumbered q s k b axis =
       let ends = side-inner a g l closed (was s) (mod-lt (r .start g + s) (omega arith)) in
       ap (λ (c : ℕ). vector (view M′ k) c q) (side-begins s)
@@ -62,8 +62,8 @@ module _ {M M′ : IndexedMesh} (r : Renumbering M M′) (a : WellFormed M) (g :
       (turn (was s) (4 * g)) (turn-inside g (was s) (M .faces) l) (ends .0) (ends .1) q
 
   pub renumbered-lists : (q : Kind) (s k : ℕ) → s < 4 → k < 3
-      → along (tangentList M′ (r .faces .to g)) q s k ≡ along (tangentList M g) q ((r .start g + s) % 4) k
+      → vectorAlong (tangentList M′ (r .faceMap .to g)) q s k ≡ vectorAlong (tangentList M g) q ((r .start g + s) % 4) k
   renumbered-lists q s k b axis =
-      along-is M′ (r .faces .to g) q s k b axis
+      along-is M′ (r .faceMap .to g) q s k b axis
       ∙ vector-renumbered q s k b axis
       ∙ sym (along-is M g q (was s) k (mod-lt (r .start g + s) (omega arith)) axis)

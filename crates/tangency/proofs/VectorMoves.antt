@@ -29,7 +29,7 @@ use Rattle.tangent.specs.Tangent.{Kind, start, middle, end, inner, startIn, end
 use Rattle.tangent.proofs.InnerLaws.{ring-closed}
 
 module _ {M M′ : IndexedMesh} (a : WellFormed M) (r : Alike same M M′) (X X′ : ℕ → ℤ)
-    (carried : (p : ℕ) → p < M .vertices → X′ (r .shape .vertices .to p) ≡ X p) where
+    (carried : (p : ℕ) → p < M .vertices → X′ (r .shape .vertexMap .to p) ≡ X p) where
   abbrev n : ℕ
   n = corners M
 

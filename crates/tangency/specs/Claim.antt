@@ -1,7 +1,7 @@
 -- The tangents of the two faces of an edge, and of a renumbered mesh: one claim about the numbers that the tangent call handed back.
 --
---   number q s         the place among the 24 of the vector of kind q of side s
---   along r q s k      coordinate k of that vector in the list r of a face, turned to run along the side, or from it into the face
+--   vectorNumber q s         the place among the 24 of the vector of kind q of side s
+--   vectorAlong r q s k      coordinate k of that vector in the list r of a face, turned to run along the side, or from it into the face
 --   cosineOf M c       the cosine of the vertex of corner c (rule D1)
 --   edgeTerm M r c k   the cosine term near the start of half-edge c, times 3 * 2^20, from the list r of the face of c
 --   farTerm M r c k    the one near its end, likewise
@@ -30,30 +30,30 @@ use Rattle.tangent.specs.Tangent.{Kind, start, middle, end, inner, startIn, end
 use Rattle.tangent.specs.Answer.{faceOpen, TangentsGiven}
 use Rattle.surface.specs.Renumbering.{Renumbering}
 
-unfoldable pub number : Kind → ℕ → ℕ
-number start s = getD (0 ∷ 15 ∷ 11 ∷ 20 ∷ []) s 0
-number middle s = getD (1 ∷ 19 ∷ 10 ∷ 16 ∷ []) s 0
-number end s = getD (2 ∷ 23 ∷ 9 ∷ 12 ∷ []) s 0
-number inner s = getD (4 ∷ 18 ∷ 7 ∷ 17 ∷ []) s 0
-number startIn s = getD (13 ∷ 5 ∷ 22 ∷ 6 ∷ []) s 0
-number endIn s = getD (14 ∷ 8 ∷ 21 ∷ 3 ∷ []) s 0
+unfoldable pub vectorNumber : Kind → ℕ → ℕ
+vectorNumber start s = getD (0 ∷ 15 ∷ 11 ∷ 20 ∷ []) s 0
+vectorNumber middle s = getD (1 ∷ 19 ∷ 10 ∷ 16 ∷ []) s 0
+vectorNumber end s = getD (2 ∷ 23 ∷ 9 ∷ 12 ∷ []) s 0
+vectorNumber inner s = getD (4 ∷ 18 ∷ 7 ∷ 17 ∷ []) s 0
+vectorNumber startIn s = getD (13 ∷ 5 ∷ 22 ∷ 6 ∷ []) s 0
+vectorNumber endIn s = getD (14 ∷ 8 ∷ 21 ∷ 3 ∷ []) s 0
 
-abbrev pub along : List ℤ → Kind → ℕ → ℕ → ℤ
-along r q s k = signed (rowOf (number q s) .reversed) (getD r (3 * number q s + k) (pos 0))
+abbrev pub vectorAlong : List ℤ → Kind → ℕ → ℕ → ℤ
+vectorAlong r q s k = signed (rowOf (vectorNumber q s) .reversed) (getD r (3 * vectorNumber q s + k) (pos 0))
 
 abbrev pub cosineOf : IndexedMesh → ℕ → ℤ
 cosineOf M c = cosine (valence (at M) (corners M) (at M c))
 
 abbrev pub edgeTerm : IndexedMesh → List ℤ → ℕ → ℕ → ℤ
-edgeTerm M r c k = firstTerm (cosineOf M c) (cosineOf M (next c)) (along r start (c % 4) k) (along r middle (c % 4) k)
+edgeTerm M r c k = firstTerm (cosineOf M c) (cosineOf M (next c)) (vectorAlong r start (c % 4) k) (vectorAlong r middle (c % 4) k)
 
 abbrev pub farTerm : IndexedMesh → List ℤ → ℕ → ℕ → ℤ
-farTerm M r c k = secondTerm (cosineOf M c) (cosineOf M (next c)) (along r middle (c % 4) k) (along r end (c % 4) k)
+farTerm M r c k = secondTerm (cosineOf M c) (cosineOf M (next c)) (vectorAlong r middle (c % 4) k) (vectorAlong r end (c % 4) k)
 
 pub record Across (M : IndexedMesh) (c : ℕ) (r r' : List ℤ) : Type 0 where
   pub common : (k : ℕ) → k < 3 → farTerm M r' (twin (at M) (corners M) c) k ≡ edgeTerm M r c k
   pub sum : (k : ℕ) → k < 3
-      → natAbs (pos correctedDivisor *ℤ (along r startIn (c % 4) k +ℤ along r' endIn (twin (at M) (corners M) c % 4) k) -ℤ pos 2 *ℤ edgeTerm M r c k)
+      → natAbs (pos correctedDivisor *ℤ (vectorAlong r startIn (c % 4) k +ℤ vectorAlong r' endIn (twin (at M) (corners M) c % 4) k) -ℤ pos 2 *ℤ edgeTerm M r c k)
       ≤ 7 * correctedDivisor
 
 abbrev pub Written : Outcome → Type 0
@@ -75,5 +75,5 @@ pub record TangentClaim : Type 0 where
       → Across M c d' e' × Across M (twin (at M) (corners M) c) e' d'
   -- a renumbered face gets its tangents as well, and they are those of the face, each on the side that it was on (rule D11)
   pub renumbered : {M M' : IndexedMesh} {g g' : ℕ} {d d' x x' : List ℤ} {r r' : Outcome} → Accepted M → TangentsGiven M g d r d' → TangentsGiven M' g' x r' x'
-      → (m : Renumbering M M') → g < M .faces → g' ≡ m .faces .to g → Written r → length x ≡ 72
-      → Written r' × ((q : Kind) (s k : ℕ) → s < 4 → k < 3 → along x' q s k ≡ along d' q ((m .start g + s) % 4) k)
+      → (m : Renumbering M M') → g < M .faces → g' ≡ m .faceMap .to g → Written r → length x ≡ 72
+      → Written r' × ((q : Kind) (s k : ℕ) → s < 4 → k < 3 → vectorAlong x' q s k ≡ vectorAlong d' q ((m .start g + s) % 4) k)
