@@ -25,9 +25,9 @@ module _ (M : IndexedMesh) (d : List ℤ) (x : List ℕ) (n : ℕ) (q : SamplePl
       all-true _ 3 (indicator-set (pointExact M (q .face) m) (sym (mark-at M x (q .face) m face l) ∙ byte)) k h
 
   -- so each control value is the fraction itself
-  unrounded : (m k : ℕ) → m < 16 → k < 3
+  as-written : (m k : ℕ) → m < 16 → k < 3
       → pos 256 *ℤ unrounded M k (q .face) m .num ≡ controlAt (patchesAfter M d) (q .face) k m *ℤ pos (unrounded M k (q .face) m .den)
-  unrounded m k l h =
+  as-written m k l h =
       whole-product (pos 256 *ℤ unrounded M k (q .face) m .num) (unrounded M k (q .face) m .den) (left-nothing m k l h)
       ∙ ap (λ (z : ℤ). z *ℤ pos (unrounded M k (q .face) m .den)) (sym (written-at M d (q .face) m k face l h))
 
@@ -36,5 +36,5 @@ module _ (M : IndexedMesh) (d : List ℤ) (x : List ℕ) (n : ℕ) (q : SamplePl
   exact-on k L y h common =
       exact-sample n (q .a) (q .b) (λ m. pos 256 *ℤ unrounded M k (q .face) m .num) (λ m. unrounded M k (q .face) m .den) y L
       (controlAt (patchesAfter M d) (q .face) k) (coordinateAt (patchesAfter M d) (q .face) n (q .a) (q .b) k) common
-      (λ m l. unrounded m k l h)
+      (λ m l. as-written m k l h)
       (exact-division (patchesAfter M d) (marksAfter M x) (q .face) n (q .a) (q .b) set k h)
