@@ -13,16 +13,16 @@ use borrow.Author.Tests.{eqb-true, eqb-false}
 use Rattle.finite.specs.Fold.{allBelow, indicator}
 use Rattle.finite.proofs.FoldLaws.{bool-cases, fold-step}
 use Rattle.mask.specs.Mask.{Fraction, cornerMask}
-use Rattle.patch.specs.Point.{View, ringSum}
+use Rattle.patch.specs.Point.{ringSum}
 use Rattle.patch.specs.Patch.{units, exactly}
 use Rattle.patch.specs.Lists.{sharpSumBy}
-use Rattle.patch.specs.PatchTables.{ruledPoint, Coordinate, CornerPoints}
+use Rattle.patch.specs.PatchTables.{CornerLists, seenIn, ruledPoint, Coordinate, CornerPoints}
 
 -- the corner point, from the entries of the tables
-pub ruled-entries : (S : View) (ends rules : List ℕ) (p : ℕ) (z r s : ℤ) → z ≡ S .value p → r ≡ ringSum S p → s ≡ sharpSumBy S ends p
-    → cornerMask (getD rules p 0) z r s ≡ ruledPoint S ends rules p
+pub ruled-entries : (D : CornerLists) (k p : ℕ) (z r s : ℤ) → z ≡ seenIn D k .value p → r ≡ ringSum (seenIn D k) p
+    → s ≡ sharpSumBy (seenIn D k) (D .ends) p → cornerMask (getD (D .rules) p 0) z r s ≡ ruledPoint D k p
 unfolding ruledPoint
-ruled-entries S ends rules p z r s hz hr hs = rw (hz, hr, hs)
+ruled-entries D k p z r s hz hr hs = rw (hz, hr, hs)
 
 -- ---- one coordinate of the points, with 3 numbers a point: one store
 module _ (k i : ℕ) (v : ℤ) (points : List ℤ) (axis : k < 3) where

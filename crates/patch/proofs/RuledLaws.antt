@@ -29,7 +29,7 @@ use Rattle.patch.specs.Point.{valenceAt, inside, weight, sharp, sharpSum
 use Rattle.patch.specs.Patch.{shape, view, units, exactly}
 use Rattle.patch.specs.Lists.{shapeOf, seen, endsIn, sharpSumBy}
 use Rattle.patch.specs.PatchTables.{Counts, rule, ruleBy, tagged, endsOf, Renderable, Roomy, Rendered}
-use Rattle.patch.specs.PatchTables.{Allowed, ruledPoint, CornerSource, CornerPoints, Tables}
+use Rattle.patch.specs.PatchTables.{Allowed, CornerLists, cornerLists, ruledPoint, CornerSource, CornerPoints, Tables}
 use Rattle.patch.proofs.FacePointLaws.{boundary-in, sharp-in}
 use Rattle.patch.proofs.TableLaws.{ring-seen, sharp-seen, ring-size, sharp-most, sharp-size}
 use Rattle.patch.proofs.TableLaws.{accepted-whole, accepted-indices, accepted-coordinates, valence-range}
@@ -109,7 +109,10 @@ module _ {M : IndexedMesh} (a : WellFormed M) {rules weights ends : List ℕ} wh
     sharp-told : (k p : ℕ) → sharpSumBy (seen (M .positions) (M .indices) k) ends p ≡ sharpSum (view M k) p
     sharp-told = sharp-seen M (accepted-whole a) ends (r .ends-are)
 
-    pub corner-source : Roomy (M .vertices) (corners M) rules weights ends → CornerSource (M .vertices) (M .positions) (M .indices) ends rules
+    abbrev made : CornerLists
+    made = cornerLists (M .positions) (M .indices) ends rules
+
+    pub corner-source : Roomy (M .vertices) (corners M) rules weights ends → CornerSource (M .vertices) made
     corner-source room = record {
       few = a .sized .vertices-high;
       positions-listed = omega (arith, a .sized .positions-are);
@@ -121,14 +124,14 @@ module _ {M : IndexedMesh} (a : WellFormed M) {rules weights ends : List ℕ} wh
           rw (ring-seen M (accepted-whole a) k p, sharp-told k p) (rule-allowed a k p (getD rules p 0) axis l (r .rules-are p l));
     }
 
-    ruled-scaled : (k p : ℕ) → p < M .vertices → Scaled (cornerPoint (view M k) p) (ruledPoint (seen (M .positions) (M .indices) k) ends rules p)
+    ruled-scaled : (k p : ℕ) → p < M .vertices → Scaled (cornerPoint (view M k) p) (ruledPoint made k p)
     unfolding cornerPoint fixed ruledPoint rule
     ruled-scaled k p l =
         rw (r .rules-are p l, ring-seen M (accepted-whole a) k p, sharp-told k p)
         (rule-scaled (inside (shape M) p) (tag M p) (valenceAt (shape M) p) (view M k .value p) (ringSum (view M k) p) (sharpSum (view M k) p) (a .used p l))
 
     pub ruled-tables : {points : List ℤ} {marks : List ℕ}
-        → CornerPoints (λ k. ruledPoint (seen (M .positions) (M .indices) k) ends rules) (M .vertices) 3 points marks → Tables M weights points marks
+        → CornerPoints (ruledPoint made) (M .vertices) 3 points marks → Tables M weights points marks
     ruled-tables c = record {
       weights-are = r .weights-are;
       corners-are = record {

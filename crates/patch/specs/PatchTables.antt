@@ -19,10 +19,12 @@
 --   Sums S ends ring sharp   the two sums at each vertex
 --   Allowed r p ring sharp   by the rule r, the coordinate p and the two sums make a corner point within the range of the coordinates: the sum that r
 --                      takes is small enough, and both fit 32 bits
---   ruledPoint S ends rules p   the corner point of vertex p by its rule
---   CornerSource v positions faces ends rules   all that the corner points of v vertices are made from
---   ForCorners v positions faces ends rules points marks   what is asked to write the corner points over marks of 1: they can be made, and there is room
---   ForCoordinate v positions faces ends rules k points marks   the same for coordinate k, over any marks
+--   CornerLists        the lists that the corner points are made from: positions and faces, and the tables of ends and rules
+--   seenIn D k         their coordinate k
+--   ruledPoint D k p   coordinate k of the corner point of vertex p by its rule
+--   CornerSource v D   the lists serve every corner, and each of v vertices
+--   ForCorners v D points marks   what is asked to write the corner points over marks of 1: the lists serve, and there is room
+--   ForCoordinate v D k points marks   the same for coordinate k, over any marks
 --   Coordinate q v k ..   coordinate k of the corner points q below v is written: each in units at place 3p + k, with the other places of `points` as they
 --                      were; their marks are kept where nothing is left, and become 0 elsewhere, with the marks from v on as they were
 --   CornerPoints q v n points marks   of v vertices, the coordinates below n of the corner points, and whether nothing is left in any of these
@@ -142,27 +144,39 @@ pub record Allowed (r : ℕ) (p ring sharp : ℤ) : Type 0 where
   pub ring-small : maxSharpness < r → natAbs ring ≤ 5 * maxCoordinate * (r - maxSharpness)
   pub sharp-small : r < maxSharpness → natAbs sharp ≤ 2 * maxCoordinate
 
-unfoldable pub ruledPoint : View → List ℕ → List ℕ → ℕ → Fraction
-ruledPoint S ends rules p = cornerMask (getD rules p 0) (S .value p) (ringSum S p) (sharpSumBy S ends p)
+pub record CornerLists : Type 0 where
+  pub positions : List ℤ
+  pub faces : List ℕ
+  pub ends : List ℕ
+  pub rules : List ℕ
 
-pub record CornerSource (v : ℕ) (positions : List ℤ) (faces ends rules : List ℕ) : Type 0 where
+abbrev pub cornerLists : List ℤ → List ℕ → List ℕ → List ℕ → CornerLists
+cornerLists positions faces ends rules = record { positions = positions; faces = faces; ends = ends; rules = rules }
+
+abbrev pub seenIn : CornerLists → ℕ → View
+seenIn D k = seen (D .positions) (D .faces) k
+
+unfoldable pub ruledPoint : CornerLists → ℕ → ℕ → Fraction
+ruledPoint D k p = cornerMask (getD (D .rules) p 0) (seenIn D k .value p) (ringSum (seenIn D k) p) (sharpSumBy (seenIn D k) (D .ends) p)
+
+pub record CornerSource (v : ℕ) (D : CornerLists) : Type 0 where
   pub few : v ≤ maxVertices
-  pub positions-listed : 3 * v ≤ length positions
-  pub rules-listed : v ≤ length rules
-  pub indices : Indices faces (length faces)
-  pub ends-listed : length faces ≤ length ends
-  pub placed : (k : ℕ) → k < 3 → Coordinates positions faces k
+  pub positions-listed : 3 * v ≤ length (D .positions)
+  pub rules-listed : v ≤ length (D .rules)
+  pub indices : Indices (D .faces) (length (D .faces))
+  pub ends-listed : length (D .faces) ≤ length (D .ends)
+  pub placed : (k : ℕ) → k < 3 → Coordinates (D .positions) (D .faces) k
   pub allowed : (k p : ℕ) → k < 3 → p < v
-      → Allowed (getD rules p 0) (seen positions faces k .value p) (ringSum (seen positions faces k) p) (sharpSumBy (seen positions faces k) ends p)
+      → Allowed (getD (D .rules) p 0) (seenIn D k .value p) (ringSum (seenIn D k) p) (sharpSumBy (seenIn D k) (D .ends) p)
 
-pub record ForCoordinate (v : ℕ) (positions : List ℤ) (faces ends rules : List ℕ) (k : ℕ) (points : List ℤ) (marks : List ℕ) : Type 0 where
-  pub source : CornerSource v positions faces ends rules
+pub record ForCoordinate (v : ℕ) (D : CornerLists) (k : ℕ) (points : List ℤ) (marks : List ℕ) : Type 0 where
+  pub source : CornerSource v D
   pub axis : k < 3
   pub points-room : 3 * v ≤ length points
   pub marks-room : v ≤ length marks
 
-pub record ForCorners (v : ℕ) (positions : List ℤ) (faces ends rules : List ℕ) (points : List ℤ) (marks : List ℕ) : Type 0 where
-  pub source : CornerSource v positions faces ends rules
+pub record ForCorners (v : ℕ) (D : CornerLists) (points : List ℤ) (marks : List ℕ) : Type 0 where
+  pub source : CornerSource v D
   pub points-room : 3 * v ≤ length points
   pub marks-room : v ≤ length marks
   pub marked : Holds 0 marks v (λ p. 1)

@@ -5,8 +5,7 @@ use crate::values::coordinate;
 use limits::model::Mesh;
 ghost use mathlib.Core.Path.{_≡_};
 ghost use mathlib.Core.Bool.{cond};
-ghost use Rattle.patch.specs.Lists.{seen};
-ghost use Rattle.patch.specs.PatchTables.{ForCoordinate, ForCorners, Coordinate, CornerPoints, ruledPoint};
+ghost use Rattle.patch.specs.PatchTables.{cornerLists, ForCoordinate, ForCorners, Coordinate, CornerPoints, ruledPoint};
 
 // The mark of a point after one more coordinate: as it was where nothing is left in it, else 0.
 fn kept(exact: bool, mark: u8) -> u8
@@ -29,8 +28,8 @@ fn fill_coordinate(
     points: &mut [i32],
     marks: &mut [u8],
 )
-    requires { ⌜ ForCoordinate v (now positions) (now faces) (now ends) (now rules) k (now points) (now marks) ⌝ }
-    ensures { λ _. ⌜ Coordinate (ruledPoint (seen (now (positions .entry)) (now (faces .entry)) k) (now (ends .entry)) (now (rules .entry))) v k
+    requires { ⌜ ForCoordinate v (cornerLists (now positions) (now faces) (now ends) (now rules)) k (now points) (now marks) ⌝ }
+    ensures { λ _. ⌜ Coordinate (ruledPoint (cornerLists (now (positions .entry)) (now (faces .entry)) (now (ends .entry)) (now (rules .entry))) k) v k
         (now (points .entry)) (now (points .exit)) (now (marks .entry)) (now (marks .exit)) ⌝ }
 {
     let mut ring = [0i64; Mesh::MAX_VERTICES];
@@ -56,8 +55,8 @@ pub(crate) fn fill_corners(
     points: &mut [i32],
     marks: &mut [u8],
 )
-    requires { ⌜ ForCorners v (now positions) (now faces) (now ends) (now rules) (now points) (now marks) ⌝ }
-    ensures { λ _. ⌜ CornerPoints (λ k. ruledPoint (seen (now (positions .entry)) (now (faces .entry)) k) (now (ends .entry)) (now (rules .entry))) v 3
+    requires { ⌜ ForCorners v (cornerLists (now positions) (now faces) (now ends) (now rules)) (now points) (now marks) ⌝ }
+    ensures { λ _. ⌜ CornerPoints (ruledPoint (cornerLists (now (positions .entry)) (now (faces .entry)) (now (ends .entry)) (now (rules .entry)))) v 3
         (now (points .exit)) (now (marks .exit)) ⌝ }
 {
     for k in 0..3 {

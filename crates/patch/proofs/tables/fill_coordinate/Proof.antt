@@ -15,9 +15,9 @@ use Rattle.limits.specs.Limits.{maxVertices}
 use Rattle.mask.specs.Mask.{Fraction}
 use Rattle.patch.specs.Point.{View, ringSum}
 use Rattle.patch.specs.Patch.{units}
-use Rattle.patch.specs.Lists.{seen, sharpSumBy}
+use Rattle.patch.specs.Lists.{sharpSumBy}
 use Rattle.patch.specs.Values.{valueOf}
-use Rattle.patch.specs.PatchTables.{Coordinate, ruledPoint}
+use Rattle.patch.specs.PatchTables.{CornerLists, cornerLists, seenIn, Coordinate, ruledPoint}
 use Rattle.patch.specs.declared.fraction.Value.{Value}
 use Rattle.patch.proofs.TableLaws.{blank}
 use Rattle.patch.proofs.CornerTableLaws.{ruled-entries, coordinate-none, coordinate-more}
@@ -33,7 +33,7 @@ record Passed (q : ℕ → Fraction) (v k : ℕ) (points₀ : List ℤ) (marks�
 
 abbrev Inv-loop : tie.InvT-loop
 Inv-loop v positions faces ends rules k points₀ marks₀ ring sharp p₀ points marks p =
-    Passed (ruledPoint (seen positions faces k) ends rules) v k points₀ marks₀ points marks p
+    Passed (ruledPoint (cornerLists positions faces ends rules) k) v k points₀ marks₀ points marks p
 
 abbrev μ-loop : tie.MeasureT-loop
 μ-loop v positions faces ends rules k points₀ marks₀ ring sharp p₀ points marks p = v - p
@@ -74,11 +74,14 @@ module _ (l : tie.At-loop Inv-loop μ-loop) where
   abbrev sharp : List ℤ
   sharp = summed .add-sums .last .1 .1 .1 .1 .1 .0
 
+  abbrev lists : CornerLists
+  lists = cornerLists (start .args .positions .now) (start .args .faces .now) (start .args .ends .now) (start .args .rules .now)
+
   abbrev S : View
-  S = seen (start .args .positions .now) (start .args .faces .now) (start .args .k)
+  S = seenIn lists (start .args .k)
 
   abbrev point : ℕ → Fraction
-  point = ruledPoint S (start .args .ends .now) (start .args .rules .now)
+  point = ruledPoint lists (start .args .k)
 
   abbrev p : ℕ
   p = l .loop .p
@@ -156,9 +159,8 @@ module _ (c : tie.After-struct-told Inv-loop μ-loop) where
 
   value-is : c .before .corner-point .result ≡ valueOf (point at (p at))
   value-is =
-      let s = start at in
       c .before .corner-point .ensures
-      ∙ ap valueOf (ruled-entries (S at) (s .args .ends .now) (s .args .rules .now) (p at) _ _ _ (value-read asked) (ring-read asked) (sharp-read asked))
+      ∙ ap valueOf (ruled-entries (lists at) (start at .args .k) (p at) _ _ _ (value-read asked) (ring-read asked) (sharp-read asked))
 
   units-is : toZ w32 (ofZ w32 (c .before .corner-point .result .units)) ≡ units (point at (p at))
   units-is = read-back w32 (c .struct-told .given .0 .1) (ap (λ (v : Value). v .units) value-is)

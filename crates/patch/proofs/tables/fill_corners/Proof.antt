@@ -9,8 +9,7 @@ use lib.IntN.{ℤ}
 use lib.ListN.{length}
 use Rattle.finite.specs.Fold.{foldBelow}
 use Rattle.mask.specs.Mask.{Fraction}
-use Rattle.patch.specs.Lists.{seen}
-use Rattle.patch.specs.PatchTables.{CornerPoints, ruledPoint}
+use Rattle.patch.specs.PatchTables.{cornerLists, CornerPoints, ruledPoint}
 use Rattle.patch.proofs.CornerTableLaws.{corners-more}
 use Rattle.patch.proofs.tables.fill_corners.Statement.{statement}
 use Rattle.patch.proofs.tables.fill_corners.Tie as tie
@@ -24,7 +23,7 @@ record Passed (q : ℕ → ℕ → Fraction) (v : ℕ) (points₀ : List ℤ) (m
 
 abbrev Inv-loop : tie.InvT-loop
 Inv-loop v positions faces ends rules points₀ marks₀ k₀ points marks k =
-    Passed (λ j. ruledPoint (seen positions faces j) ends rules) v points₀ marks₀ points marks k
+    Passed (ruledPoint (cornerLists positions faces ends rules)) v points₀ marks₀ points marks k
 
 abbrev μ-loop : tie.MeasureT-loop
 μ-loop v positions faces ends rules points₀ marks₀ k₀ points marks k = 3 - k
@@ -88,7 +87,7 @@ loop-again c =
       points-long = one .kept .1 .1 .1 .1 .1 .1 .0 ∙ inv .points-long;
       marks-long = one .kept .1 .1 .1 .1 .1 .1 .1 .0 ∙ inv .marks-long;
       written =
-          corners-more (λ j. ruledPoint (seen (s .args .positions .now) (s .args .faces .now) j) (s .args .ends .now) (s .args .rules .now))
+          corners-more (ruledPoint (cornerLists (s .args .positions .now) (s .args .faces .now) (s .args .ends .now) (s .args .rules .now)))
           (s .args .v) (head t .loop .k) (below t) (inv .written) (one .ensures);
     }
 
