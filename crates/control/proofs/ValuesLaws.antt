@@ -41,11 +41,11 @@ module _ (positions : List ℤ) (faces : List ℕ) where
       → set (set (set (set m (4 * c) x) (4 * c + 1) y) (4 * c + 2) z) (4 * c + 3) (pos 0) ≡ filled (cornerValue positions faces) (4 * (c + 1)) d
   corner-stored c d m long e p q r =
       let f : ℕ → ℤ = cornerValue positions faces in
-      let to : (i j : ℕ) → i ≡ j → filled f i d ≡ filled f j d = λ i j h. ap (λ (i : ℕ). filled f i d) h in
+      let to : (i j : ℕ) → i + 1 ≡ j → filled f (i + 1) d ≡ filled f j d = λ i j h. ap (λ (i : ℕ). filled f i d) h in
       let first = filled-more f (4 * c) _ d m (omega arith) e (p ∙ sym (place-first c)) in
-      let second = filled-more f (4 * c + 1) _ d _ (omega arith) first (q ∙ sym (place-value c 1 (omega arith))) ∙ to (4 * c + 1 + 1) (4 * c + 2) (omega arith) in
-      let third = filled-more f (4 * c + 2) _ d _ (omega arith) second (r ∙ sym (place-value c 2 (omega arith))) ∙ to (4 * c + 2 + 1) (4 * c + 3) (omega arith) in
-      filled-more f (4 * c + 3) _ d _ (omega arith) third (sym (place-spare c)) ∙ to (4 * c + 3 + 1) (4 * (c + 1)) (omega arith)
+      let second = filled-more f (4 * c + 1) _ d _ (omega arith) first (q ∙ sym (place-value c 1 (omega arith))) ∙ to (4 * c + 1) (4 * c + 2) (omega arith) in
+      let third = filled-more f (4 * c + 2) _ d _ (omega arith) second (r ∙ sym (place-value c 2 (omega arith))) ∙ to (4 * c + 2) (4 * c + 3) (omega arith) in
+      filled-more f (4 * c + 3) _ d _ (omega arith) third (sym (place-spare c)) ∙ to (4 * c + 3) (4 * (c + 1)) (omega arith)
 
   entry-small : (B : ℕ) → ((i : ℕ) → natAbs (getD positions i (pos 0)) ≤ B) → (i : ℕ) → natAbs (cornerValue positions faces i) ≤ B
   unfolding cornerValue
@@ -68,6 +68,8 @@ module _ (positions : List ℤ) (faces : List ℕ) where
     pub values-small : (B : ℕ) → ((i : ℕ) → natAbs (getD positions i (pos 0)) ≤ B) → ((i : ℕ) → natAbs (getD table i (pos 0)) ≤ B)
         → (i : ℕ) → natAbs (getD (valuesAfter positions faces table) i (pos 0)) ≤ B
     values-small B small others i =
-        bool-cases (ltb i (4 * length faces))
-        (λ t. rw (all-corners, filled-at (cornerValue positions faces) (4 * length faces) i table (pos 0) (ltb-true i (4 * length faces) t)) (entry-small B small i))
-        (λ t. rw (all-corners, filled-past (cornerValue positions faces) (4 * length faces) i table (pos 0) (ltb-false i (4 * length faces) t)) (others i))
+        let f : ℕ → ℤ = cornerValue positions faces in
+        let n : ℕ = 4 * length faces in
+        bool-cases (ltb i n)
+        (λ t. rw (all-corners, filled-at f n i table (pos 0) (ltb-true i n t)) (entry-small B small i))
+        (λ t. rw (all-corners, filled-past f n i table (pos 0) (ltb-false i n t)) (others i))

@@ -3,10 +3,12 @@
 --   Linked faces twins   the twins of all the half-edges are listed
 --   openIn faces g     face g has a corner at a boundary vertex, by the list of faces
 --   valencesIn faces g s   how many faces the vertex of corner s of face g has
---   listedPart parts t s k   part t of side s, coordinate k, in their list
+--   listedPart parts t s k, Placed parts t s k   part t of side s, coordinate k, in their list; that place is in the list
 --   sideFrom parts cosines s k   coordinate k of side s, from the lists of the parts and of the cosines
 --   Known parts cosines   these lists as the code keeps them
 --   Sized a            the numbers of a side are so small that the code can work with them
+--   Turning k0 k1 u0 u1, Entering k0 k1 u0 x y z   and so are those of a cosine term, and of a vector into the face, near an end of the side: the
+--                      cosines there and at the other end, the corner vector there, the middle vector; the edge points near both ends, and the inner point
 --   kindOf q           the kind of vector, for each case of the code's enum `Kind`
 --   vectorOf a q       vector q of a side of which the code knows a
 --   numberFrom .. i    number i of the 72
@@ -48,6 +50,12 @@ valencesIn indices g s = valence (vertexOf indices) (length indices) (vertexOf i
 abbrev pub listedPart : List ℤ → ℕ → ℕ → ℕ → ℤ
 listedPart parts t s k = getD parts (12 * t + (3 * s + k)) (pos 0)
 
+pub record Placed (parts : List ℤ) (t s k : ℕ) : Type 0 where
+  pub listed : length parts ≡ 72
+  pub part : t < 6
+  pub side : s < 4
+  pub axis : k < 3
+
 unfoldable pub sideFrom : List ℤ → List ℤ → ℕ → ℕ → known.Side
 sideFrom parts cosines s k = record {
   start = listedPart parts 0 s k;
@@ -75,6 +83,20 @@ pub record Sized (a : known.Side) : Type 0 where
   pub inner-far : natAbs (a .«inner_far») ≤ 2 ^ 35
   pub start-cosine : natAbs (a .«start_cosine») ≤ 2 ^ 20
   pub end-cosine : natAbs (a .«end_cosine») ≤ 2 ^ 20
+
+pub record Turning (k0 k1 u0 u1 : ℤ) : Type 0 where
+  pub cosine : natAbs k0 ≤ 2 ^ 20
+  pub other-cosine : natAbs k1 ≤ 2 ^ 20
+  pub corner : natAbs u0 ≤ 2 ^ 35
+  pub middle : natAbs u1 ≤ 2 ^ 38
+
+pub record Entering (k0 k1 u0 x y z : ℤ) : Type 0 where
+  pub cosine : natAbs k0 ≤ 2 ^ 20
+  pub other-cosine : natAbs k1 ≤ 2 ^ 20
+  pub corner : natAbs u0 ≤ 2 ^ 35
+  pub near : natAbs x ≤ 2 ^ 35
+  pub far : natAbs y ≤ 2 ^ 35
+  pub inner : natAbs z ≤ 2 ^ 35
 
 abbrev pub kindOf : enum.Kind → Kind
 kindOf Start = start

@@ -3,6 +3,7 @@
 --
 --   Small values       every entry of the table of values is within the range of a coordinate
 --   Weighing edge face   the two lists of all weights
+--   Addends a x b y    two weights and two values, as the weights of the sum and the coordinates are
 --   RingSource .. n    what a corner vector at a vertex of n faces is made from
 --   turnedAt twins c i   the corner i steps about its vertex from corner c
 --   termAt .. n k c i  what edge i and face i add to the sum about the vertex of corner c, which has n faces, of coordinate k
@@ -14,7 +15,7 @@
 --   partsTold .. valences g j   part j / 12 of side j % 12 / 3 of face g, coordinate j % 3
 use mathlib.Core.Path.{_≡_}
 use mathlib.Core.List.{List, [], _∷_}
-use Prim.Native.Nat.{ℕ, _+_, _*_, _/_, _%_, _≤_, _<_}
+use Prim.Native.Nat.{ℕ, _+_, _*_, _/_, _%_, _^_, _≤_, _<_}
 use lib.IntN.{ℤ, pos, negℤ, natAbs, _+ℤ_, _*ℤ_}
 use lib.ListN.{getD}
 use Rattle.integer.specs.Nearest.{nearest}
@@ -34,6 +35,12 @@ pub record Small (values : List ℤ) : Type 0 where
 pub record Weighing (edge face : List ℤ) : Type 0 where
   pub edges : edge ≡ weightsBy edgeNumerator
   pub faces : face ≡ weightsBy faceNumerator
+
+pub record Addends (a x b y : ℤ) : Type 0 where
+  pub edge-weight : natAbs a ≤ 2 ^ 22
+  pub edge-value : natAbs x ≤ maxCoordinate
+  pub face-weight : natAbs b ≤ 2 ^ 22
+  pub face-value : natAbs y ≤ maxCoordinate
 
 pub record RingSource (values edge face : List ℤ) (n : ℕ) : Type 0 where
   pub small : Small values

@@ -9,14 +9,13 @@ ghost use Prim.Native.Nat.{_≤_, _<_, _^_};
 ghost use lib.IntN.{natAbs, _+ℤ_, _*ℤ_};
 ghost use Rattle.finite.specs.Fold.{sumBelowℤ};
 ghost use Rattle.corner.specs.Corner.{next, across, prev};
-ghost use Rattle.limits.specs.Limits.{maxCoordinate};
 ghost use Rattle.cosine.specs.Weight.{edgeWeight, faceWeight};
 ghost use Rattle.control.specs.Control.{valueAt, linkAt};
-ghost use Rattle.tangent.specs.Told.{Small, RingSource, termAt, vectorAt};
+ghost use Rattle.tangent.specs.Told.{Small, Addends, RingSource, termAt, vectorAt};
 
 // Two values, each with its weight.
 fn weighted(a: i32, x: i32, b: i32, y: i32) -> i64
-    requires { ⌜ (natAbs a ≤ 2 ^ 22) × (natAbs x ≤ maxCoordinate) × (natAbs b ≤ 2 ^ 22) × (natAbs y ≤ maxCoordinate) ⌝ }
+    requires { ⌜ Addends a x b y ⌝ }
     ensures { λ r. ⌜ (r ≡ a *ℤ x +ℤ b *ℤ y) × (natAbs r ≤ 2 ^ 43) ⌝ }
 {
     a as i64 * x as i64 + b as i64 * y as i64

@@ -3,7 +3,7 @@ ghost use mathlib.Core.Path.{_≡_};
 ghost use Prim.Native.Nat.{_≤_, _^_};
 ghost use lib.IntN.{pos, negℤ, natAbs, _-ℤ_, _*ℤ_};
 ghost use Rattle.tangent.specs.Vector.{firstTerm, corrected as correctedBy};
-ghost use Rattle.tangent.specs.Lists.{kindOf, vectorOf, Sized};
+ghost use Rattle.tangent.specs.Lists.{kindOf, vectorOf, Sized, Turning, Entering};
 
 // The six vectors of a side.
 pub enum Kind {
@@ -37,7 +37,7 @@ fn steps(y: i64, z: i64) -> i64
 
 // The cosine term near an end of a side, times 3 * 2^20.
 fn cosine_term(k0: i32, k1: i32, u0: i64, u1: i64) -> i64
-    requires { ⌜ (natAbs k0 ≤ 2 ^ 20) × (natAbs k1 ≤ 2 ^ 20) × (natAbs u0 ≤ 2 ^ 35) × (natAbs u1 ≤ 2 ^ 38) ⌝ }
+    requires { ⌜ Turning k0 k1 u0 u1 ⌝ }
     ensures { λ r. ⌜ (r ≡ firstTerm k0 k1 u0 u1) × (natAbs r ≤ 2 ^ 60) ⌝ }
 {
     2 * k0 as i64 * u1 - k1 as i64 * u0
@@ -54,8 +54,7 @@ fn corrected(term: i64, x: i64) -> i64
 // The vector into the face near an end of a side: the cosines there and at the other end, the corner vector there, the edge points near that end
 // and near the other, and the inner point near it.
 fn into(k0: i32, k1: i32, u0: i64, near: i64, far: i64, inner: i64) -> i64
-    requires { ⌜ (natAbs k0 ≤ 2 ^ 20) × (natAbs k1 ≤ 2 ^ 20) × (natAbs u0 ≤ 2 ^ 35) ⌝ }
-    requires { ⌜ (natAbs near ≤ 2 ^ 35) × (natAbs far ≤ 2 ^ 35) × (natAbs inner ≤ 2 ^ 35) ⌝ }
+    requires { ⌜ Entering k0 k1 u0 near far inner ⌝ }
     ensures { λ r. ⌜ (r ≡ correctedBy (firstTerm k0 k1 u0 (pos 3 *ℤ (far -ℤ near))) (pos 3 *ℤ (inner -ℤ near))) × (natAbs r ≤ 2 ^ 61) ⌝ }
 {
     let term = cosine_term(k0, k1, u0, steps(far, near));

@@ -8,7 +8,7 @@ ghost use lib.IntN.{natAbs};
 ghost use lib.ListN.{length};
 ghost use Rattle.finite.specs.Filled.{filled};
 ghost use Rattle.tangent.specs.Tangent.{signed as signedBy};
-ghost use Rattle.tangent.specs.Lists.{Known, listedPart, sideFrom, numberFrom};
+ghost use Rattle.tangent.specs.Lists.{Known, Placed, listedPart, sideFrom, numberFrom};
 
 // The side, the kind and the sense of each of the 24 vectors.
 const SIDES: [u8; 24] = [
@@ -93,7 +93,7 @@ const REVERSED: [bool; 24] = [
 ];
 // Part t of side s, coordinate k.
 fn listed(parts: &[i64], t: usize, s: usize, k: usize) -> i64
-    requires { ⌜ (length (now parts) ≡ 72) × (t < 6) × (s < 4) × (k < 3) ⌝ }
+    requires { ⌜ Placed (now parts) t s k ⌝ }
     ensures { λ r. ⌜ r ≡ listedPart (now (parts .entry)) t s k ⌝ }
 {
     parts[12 * t + (3 * s + k)]

@@ -21,7 +21,8 @@ in-units-requires c κs =
     let v = c .before in
     let a = v .face-values .result in
     let ok = v .face-values .ok in
-    let small = inner-small (v .before .args .w) a (omega (arith, v .before .fits .w)) (narrow a (omega (arith, ok)) (omega (arith, ok)) (omega (arith, ok)) (omega (arith, ok))) in
+    let faces = narrow a (omega (arith, ok)) (omega (arith, ok)) (omega (arith, ok)) (omega (arith, ok)) in
+    let small = inner-small (v .before .args .w) a (omega (arith, v .before .fits .w)) faces in
     subst (λ (q : Fraction). natAbs (q .num) ≤ 2 ^ 54) (sym (c .inner-mask .ensures)) small
 
 returns : tie.Need-returns

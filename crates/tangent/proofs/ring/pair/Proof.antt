@@ -57,12 +57,13 @@ value-requires-2 c κs = tt
 weighted-requires : tie.Need-weighted-requires
 weighted-requires c κs =
     let s = start c in
-    let small = value-small (s .pre .0) (s .args .k) in (
-      rw (a-is c) (s .pre .1),
-      rw (x-is c) (small (next (s .args .e))),
-      rw (b-is c) (s .pre .2),
-      rw (y-is c) (small (across (s .args .e))),
-    )
+    let small = value-small (s .pre .0) (s .args .k) in
+    record {
+      edge-weight = rw (a-is c) (s .pre .1);
+      edge-value = rw (x-is c) (small (next (s .args .e)));
+      face-weight = rw (b-is c) (s .pre .2);
+      face-value = rw (y-is c) (small (across (s .args .e)));
+    }
 
 returns : tie.Need-returns
 returns c =

@@ -21,7 +21,7 @@ module _ (s : tie.Start) where
   y = narrow (s .args .y) maxCoordinate
 
   ranged : Ranged (a ⊠ x ⊞ b ⊠ y)
-  ranged = (((s .fits .a, s .pre .0), (s .fits .x, s .pre .1)), ((s .fits .b, s .pre .2), (s .fits .y, s .pre .3)))
+  ranged = (((s .fits .a, s .pre .edge-weight), (s .fits .x, s .pre .edge-value)), ((s .fits .b, s .pre .face-weight), (s .fits .y, s .pre .face-value)))
 
 cast-result : tie.Need-cast-result
 cast-result s = fits (a s) (ranged s .0 .0) refl

@@ -20,13 +20,13 @@ module _ (s : tie.Start) where
   right = there ⊠ wide (s .args .u0) (2 ^ 35)
 
   here-ranged : Ranged here
-  here-ranged = (s .fits .k0, s .pre .0)
+  here-ranged = (s .fits .k0, s .pre .cosine)
 
   there-ranged : Ranged there
-  there-ranged = (s .fits .k1, s .pre .1)
+  there-ranged = (s .fits .k1, s .pre .other-cosine)
 
   ranged : Ranged (left ⊟ right)
-  ranged = ((here-ranged, s .pre .3), (there-ranged, s .pre .2))
+  ranged = ((here-ranged, s .pre .middle), (there-ranged, s .pre .corner))
 
 cast-result : tie.Need-cast-result
 cast-result s = fits (here s) (here-ranged s) refl

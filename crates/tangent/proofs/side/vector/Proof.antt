@@ -76,18 +76,15 @@ negated-requires c κs = let s = c .before .before .before in rw (toZ-ofZ (whole
 
 into-requires-2 : tie.Need-into-requires-2
 into-requires-2 c κs =
-    let s = entry c in (
-      (
-        rw (toZ-ofZ (whole s .end-cosine)) (s .pre .end-cosine),
-        rw (toZ-ofZ (whole s .start-cosine)) (s .pre .start-cosine),
-        rw (reversed-is (turned c)) (omega (arith, abs-neg (s .args .a .end), s .pre .end)),
-      ),
-      (
-        rw (toZ-ofZ (whole s .far)) (s .pre .far),
-        rw (toZ-ofZ (whole s .near)) (s .pre .near),
-        rw (toZ-ofZ (whole s .inner-far)) (s .pre .inner-far),
-      ),
-    )
+    let s = entry c in
+    record {
+      cosine = rw (toZ-ofZ (whole s .end-cosine)) (s .pre .end-cosine);
+      other-cosine = rw (toZ-ofZ (whole s .start-cosine)) (s .pre .start-cosine);
+      corner = rw (reversed-is (turned c)) (omega (arith, abs-neg (s .args .a .end), s .pre .end));
+      near = rw (toZ-ofZ (whole s .far)) (s .pre .far);
+      far = rw (toZ-ofZ (whole s .near)) (s .pre .near);
+      inner = rw (toZ-ofZ (whole s .inner-far)) (s .pre .inner-far);
+    }
 
 returns : tie.Need-returns
 unfolding vectorOf

@@ -20,7 +20,7 @@ mul-result-3 : tie.Need-mul-result-3
 mul-result-3 c = omega arith
 
 shared-slice-copy-out-result : tie.Need-shared-slice-copy-out-result
-shared-slice-copy-out-result c = omega (arith, c .pre .0)
+shared-slice-copy-out-result c = omega (arith, c .pre .listed)
 
 returns : tie.Need-returns
 returns c = toZ-ofZ (record { sfits = c .result .given })

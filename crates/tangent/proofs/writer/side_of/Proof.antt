@@ -1,19 +1,17 @@
 -- `side_of` meets its contract: the lists have the places that are read.
-use mathlib.Core.Path.{_≡_}
 use Prim.Native.Nat.{ℕ, _<_}
 use native.Mathlib.Omega.{arith}
-use lib.ListN.{length}
 use mir.Syntax.{w64}
 use mir.Facts.{toZ-ofZ}
 use Rattle.integer.proofs.Laws.{read-back}
-use Rattle.tangent.specs.Lists.{sideFrom}
+use Rattle.tangent.specs.Lists.{Placed, sideFrom}
 use Rattle.tangent.proofs.writer.side_of.Statement.{statement}
 use Rattle.tangent.proofs.writer.side_of.Tie as tie
 
 -- ---- what each look-up asks, and the function's entry from behind two, four and six of them
 module _ (s : tie.Start) where
-  asked : {t : ℕ} → t < 6 → (length (s .args .parts .now) ≡ 72) × (t < 6) × (s .args .s < 4) × (s .args .k < 3)
-  asked l = (s .pre .0 .parts-listed, l, s .pre .1, s .pre .2)
+  asked : {t : ℕ} → t < 6 → Placed (s .args .parts .now) t (s .args .s) (s .args .k)
+  asked l = record { listed = s .pre .0 .parts-listed; part = l; side = s .pre .1; axis = s .pre .2 }
 
 abbrev start₂ : tie.After-listed2 → tie.Start
 start₂ c = c .before .before
