@@ -14,7 +14,7 @@ use Rattle.finite.specs.Fold.{allBelow, indicator}
 use Rattle.finite.proofs.FoldLaws.{bool-cases, fold-step}
 use Rattle.mask.specs.Mask.{Fraction, cornerMask}
 use Rattle.patch.specs.Point.{View, ringSum}
-use Rattle.patch.specs.Patch.{units, exactly}
+use Rattle.control.specs.Control.{units, exactly}
 use Rattle.patch.specs.Lists.{sharpSumBy}
 use Rattle.patch.specs.PatchTables.{ruledPoint, Coordinate, CornerPoints}
 

@@ -23,7 +23,8 @@ use Rattle.mask.specs.Mask.{Fraction, innerMask, edgeMask}
 use Rattle.mask.specs.declared.model.Fraction as code
 use Rattle.mask.specs.declared.model.FaceValues.{FaceValues}
 use Rattle.patch.specs.Point.{View, weight, sharp, ringTerm, innerPoint, edgePoint}
-use Rattle.patch.specs.Patch.{owner, kind, units, exactly}
+use Rattle.control.specs.Control.{units, exactly}
+use Rattle.patch.specs.Patch.{owner, kind}
 use Rattle.patch.specs.Lists.{shapeOf, boundaryIn, sharpIn, Twins, innerBy, edgeBy}
 use Rattle.patch.specs.Values.{SeenFrom, Made, inUnits}
 use Rattle.patch.specs.Written.{PatchLists, Source, pointFrom, numberFrom}

@@ -26,7 +26,8 @@ use Rattle.mesh.proofs.SizeLaws.{indices-corners}
 use Rattle.mask.specs.Mask.{Fraction, maxSharpness, cornerRule}
 use Rattle.mask.proofs.RuleLaws.{Scaled, rule-inside, rule-boundary, rule-scaled}
 use Rattle.patch.specs.Point.{valenceAt, inside, weight, sharp, sharpSum, ringSum, fixed, cornerPoint}
-use Rattle.patch.specs.Patch.{shape, view, units, exactly}
+use Rattle.control.specs.Control.{units, exactly}
+use Rattle.patch.specs.Patch.{shape, view}
 use Rattle.patch.specs.Lists.{shapeOf, seen, endsIn, sharpSumBy}
 use Rattle.patch.specs.PatchTables.{Counts, rule, ruleBy, tagged, endsOf, Renderable, Roomy, Rendered}
 use Rattle.patch.specs.PatchTables.{Allowed, ruledPoint, CornerSource, CornerPoints, Tables}

@@ -17,7 +17,8 @@ use Rattle.mesh.specs.WellFormed.{WellFormed}
 use Rattle.mesh.proofs.CornerLaws.{turn-below, prev-below}
 use Rattle.mesh.proofs.AcceptedLaws.{accepted-corners}
 use Rattle.patch.specs.Point.{Kind, corner, along, before, inner, weight, sharp, alongPoint, beforePoint, innerPoint, edgePoint, point}
-use Rattle.patch.specs.Patch.{owner, kind, patchPoint, view, units, exactly, patchNumber, pointExact, patchMark}
+use Rattle.control.specs.Control.{units, exactly}
+use Rattle.patch.specs.Patch.{owner, kind, patchPoint, view, patchNumber, pointExact, patchMark}
 use Rattle.patch.specs.Lists.{shapeOf, seen, Twins, innerBy, edgeBy, alongBy, beforeBy}
 use Rattle.patch.specs.PatchTables.{Weights, Tables}
 use Rattle.patch.specs.Written.{PatchLists, patchLists, Source, pointFrom, exactFrom, numberFrom, markFrom, writtenNumber, writtenMark}

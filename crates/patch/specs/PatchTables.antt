@@ -46,7 +46,8 @@ use Rattle.mesh.specs.Tables.{Corners, Holds, Indices, vertexOf}
 use Rattle.mesh.specs.WellFormed.{WellFormed}
 use Rattle.mask.specs.Mask.{Fraction, maxSharpness, cornerRule, cornerMask}
 use Rattle.patch.specs.Point.{Shape, View, valenceAt, inside, weight, sharp, ringSum, cornerPoint}
-use Rattle.patch.specs.Patch.{shape, view, units, exactly}
+use Rattle.control.specs.Control.{units, exactly}
+use Rattle.patch.specs.Patch.{shape, view}
 use Rattle.patch.specs.Answer.{Lent}
 use Rattle.patch.specs.Lists.{shapeOf, seen, Coordinates, Twins, endsByte, sharpSumBy}
 

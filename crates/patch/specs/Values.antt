@@ -17,7 +17,7 @@ use Rattle.mask.specs.FractionOf.{fractionOf}
 use Rattle.mask.specs.declared.model.Fraction as code
 use Rattle.mask.specs.declared.model.FaceValues.{FaceValues}
 use Rattle.patch.specs.Point.{View, x}
-use Rattle.patch.specs.Patch.{units, exactly}
+use Rattle.control.specs.Control.{units, exactly}
 use Rattle.patch.specs.declared.fraction.Value.{Value}
 use Rattle.patch.specs.declared.fraction.ControlPoint.{ControlPoint}
 

@@ -26,7 +26,8 @@ use Rattle.finite.specs.Filled.{filled}
 use Rattle.corner.specs.Corner.{turn}
 use Rattle.mesh.specs.Tables.{vertexOf}
 use Rattle.patch.specs.Point.{Kind, corner, along, before, inner}
-use Rattle.patch.specs.Patch.{owner, kind, units, exactly}
+use Rattle.control.specs.Control.{units, exactly}
+use Rattle.patch.specs.Patch.{owner, kind}
 use Rattle.patch.specs.Lists.{seen, Coordinates, Linked, innerBy, alongBy, beforeBy}
 use Rattle.patch.specs.Values.{pointOf}
 use Rattle.patch.specs.declared.fraction.ControlPoint.{ControlPoint}

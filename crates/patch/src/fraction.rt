@@ -3,7 +3,7 @@ use mask::model::Fraction;
 ghost use mathlib.Core.Path.{_≡_};
 ghost use mathlib.Core.Bool.{_&&_};
 ghost use Rattle.mask.specs.FractionOf.{fractionOf};
-ghost use Rattle.patch.specs.Patch.{units, exactly};
+ghost use Rattle.control.specs.Control.{units, exactly};
 ghost use Rattle.patch.specs.Values.{Within, valueOf};
 
 // A control value in units, and whether nothing was left when it was rounded.

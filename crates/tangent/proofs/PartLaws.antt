@@ -12,7 +12,8 @@ use Rattle.mesh.proofs.CornerLaws.{turn-none, turn-below, prev-next}
 use Rattle.mask.specs.Mask.{Fraction}
 use Rattle.mask.proofs.LinearLaws.{bounds, inner-mask, edge-mask}
 use Rattle.patch.specs.Point.{View, x, weight, point, innerPoint, edgePoint, alongPoint, beforePoint}
-use Rattle.patch.specs.Patch.{owner, kind, patchPoint, units, controlValue}
+use Rattle.control.specs.Control.{units}
+use Rattle.patch.specs.Patch.{owner, kind, patchPoint, controlValue}
 use Rattle.patch.specs.Lists.{shapeOf, seen}
 use Rattle.patch.proofs.MaskLaws.{Sized}
 use Rattle.tangent.specs.Vector.{twinOf, endVector}

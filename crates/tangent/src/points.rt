@@ -10,7 +10,7 @@ ghost use Prim.Native.Nat.{_≤_, _<_};
 ghost use lib.ListN.{length};
 ghost use Rattle.mask.specs.FractionOf.{fractionOf};
 ghost use Rattle.patch.specs.Point.{weight, innerPoint, edgePoint};
-ghost use Rattle.patch.specs.Patch.{units};
+ghost use Rattle.control.specs.Control.{units};
 ghost use Rattle.patch.specs.Lists.{shapeOf, seen, Coordinates};
 ghost use Rattle.patch.specs.Values.{SeenFrom, Within};
 

@@ -11,7 +11,7 @@ use Rattle.integer.specs.Nearest.{nearest, whole}
 use Rattle.integer.proofs.Laws.{abs-*, sfits-abs, read-back}
 use Rattle.integer.proofs.NearestLaws.{nearest-bounded}
 use Rattle.limits.specs.Limits.{maxCoordinate}
-use Rattle.patch.specs.Patch.{units, exactly}
+use Rattle.control.specs.Control.{units, exactly}
 use Rattle.mask.specs.FractionOf.{fractionOf}
 use Rattle.patch.proofs.FacePointLaws.{same-value}
 use Rattle.patch.proofs.fraction.in_units.Statement.{statement}

@@ -14,7 +14,7 @@ use Rattle.integer.proofs.Laws.{read-back}
 use Rattle.limits.specs.Limits.{maxVertices}
 use Rattle.mask.specs.Mask.{Fraction}
 use Rattle.patch.specs.Point.{View, ringSum}
-use Rattle.patch.specs.Patch.{units}
+use Rattle.control.specs.Control.{units}
 use Rattle.patch.specs.Lists.{seen, sharpSumBy}
 use Rattle.patch.specs.Values.{valueOf}
 use Rattle.patch.specs.PatchTables.{Coordinate, ruledPoint}

@@ -9,7 +9,7 @@ use borrow.Author.Needs.{needs}
 use Rattle.integer.proofs.Laws.{read-back}
 use Rattle.corner.specs.Corner.{turn, next}
 use Rattle.patch.specs.Point.{View, innerPoint, edgePoint}
-use Rattle.patch.specs.Patch.{units}
+use Rattle.control.specs.Control.{units}
 use Rattle.patch.specs.Lists.{seen}
 use Rattle.tangent.specs.Vector.{twinOf, cornerVector, endVector}
 use Rattle.tangent.specs.Lists.{Ring, partOf}

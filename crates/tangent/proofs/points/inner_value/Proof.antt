@@ -4,7 +4,7 @@ use native.Mathlib.Omega.{arith}
 use mir.Syntax.{w64}
 use Rattle.integer.proofs.Laws.{read-back}
 use Rattle.patch.specs.Point.{innerPoint}
-use Rattle.patch.specs.Patch.{units}
+use Rattle.control.specs.Control.{units}
 use Rattle.patch.specs.Lists.{seen}
 use Rattle.patch.specs.Values.{Made}
 use Rattle.patch.proofs.MaskLaws.{made, inner-sized}
