@@ -94,10 +94,9 @@ fn fill_ends(twins: &[u16], n: usize, ends: &mut [u8])
     ensures { λ _. ⌜ now (ends .exit) ≡ filled (endsIn (now (twins .entry))) n (now (ends .entry)) ⌝ }
 {
     for c in 0..n {
-        ends[c] = ends_byte(
-            is_sharp(twins, c),
-            is_boundary(twins, corner::prev_corner(c)),
-        );
+        let before = corner::prev_corner(c);
+        let enters = is_boundary(twins, before);
+        ends[c] = ends_byte(is_sharp(twins, c), enters);
     }
 }
 

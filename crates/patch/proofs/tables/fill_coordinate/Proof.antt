@@ -138,7 +138,8 @@ module _ (c : tie.After-corner-point-arg2 Inv-loop μ-loop) where
   ring-read : toZ w64 (ofZ w64 (getD (ring head) (p head) (pos 0))) ≡ ringSumBy (lists head .faces) (lists head .values) (start head .args .k) (p head)
   ring-read = read-back w64 (c .before .corner-point-arg .given) (summed head .add-sums .ensures .ring-are (p head) (few turn))
 
-  sharp-read : toZ w64 (ofZ w64 (getD (sharp head) (p head) (pos 0))) ≡ sharpSumBy (lists head .faces) (lists head .values) (lists head .ends) (start head .args .k) (p head)
+  sharp-read : toZ w64 (ofZ w64 (getD (sharp head) (p head) (pos 0)))
+      ≡ sharpSumBy (lists head .faces) (lists head .values) (lists head .ends) (start head .args .k) (p head)
   sharp-read = read-back w64 (c .corner-point-arg2 .given) (summed head .add-sums .ensures .sharp-are (p head) (few turn))
 
 corner-point-requires : tie.Need-corner-point-requires Inv-loop μ-loop
