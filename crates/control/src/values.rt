@@ -6,8 +6,8 @@ ghost use lib.IntN.{pos};
 ghost use lib.ListN.{length, getD, set};
 ghost use Rattle.control.specs.Control.{valuesAfter};
 
-// Number i of the positions, 0 beyond their end.
-fn position(positions: &[i32], i: usize) -> i32
+// Number i of the positions, 0 beyond their end. Writes: nothing. Refuses: nothing.
+pub fn position(positions: &[i32], i: usize) -> i32
     ensures { λ r. ⌜ r ≡ getD (now (positions .entry)) i (pos 0) ⌝ }
 {
     if i < positions.len() {

@@ -26,7 +26,8 @@ use Rattle.mesh.specs.WellFormed.{WellFormed}
 use Rattle.sample.specs.Bernstein.{rounded}
 use Rattle.sample.proofs.SampleLaws.{numerator-ext, numerator-swap, rounded-ext, rounded-swap}
 use Rattle.mask.proofs.LinearLaws.{Linear}
-use Rattle.patch.specs.Patch.{patchPoint, units, exactly, controlValue, view}
+use Rattle.control.specs.Control.{units, exactly}
+use Rattle.patch.specs.Patch.{patchPoint, controlValue, view}
 use Rattle.patch.proofs.Related.{valued, patch-related}
 use Rattle.symmetry.proofs.CarriedLaws.{carried-list}
 use Rattle.symmetry.proofs.Sense.{reversed}

@@ -13,16 +13,20 @@ use borrow.Author.Tests.{eqb-true, eqb-false}
 use Rattle.finite.specs.Fold.{allBelow, indicator}
 use Rattle.finite.proofs.FoldLaws.{bool-cases, fold-step}
 use Rattle.mask.specs.Mask.{Fraction, cornerMask}
-use Rattle.patch.specs.Point.{ringSum}
-use Rattle.patch.specs.Patch.{units, exactly}
-use Rattle.patch.specs.Lists.{sharpSumBy}
-use Rattle.patch.specs.PatchTables.{CornerLists, seenIn, ruledPoint, Coordinate, CornerPoints}
+use Rattle.control.specs.Control.{units, exactly}
+use Rattle.patch.specs.Lists.{ringSumBy, sharpSumBy}
+use Rattle.patch.specs.PatchTables.{CornerLists, ruledPoint, Coordinate, CornerPoints}
+use Rattle.patch.specs.declared.tables.Stored.{Stored}
 
 -- the corner point, from the entries of the tables
-pub ruled-entries : (D : CornerLists) (k p : ℕ) (z r s : ℤ) → z ≡ seenIn D k .value p → r ≡ ringSum (seenIn D k) p
-    → s ≡ sharpSumBy (seenIn D k) (D .ends) p → cornerMask (getD (D .rules) p 0) z r s ≡ ruledPoint D k p
+pub ruled-entries : (D : CornerLists) (k p : ℕ) (z r s : ℤ) → z ≡ getD (D .positions) (3 * p + k) (pos 0) → r ≡ ringSumBy (D .faces) (D .values) k p
+    → s ≡ sharpSumBy (D .faces) (D .values) (D .ends) k p → cornerMask (getD (D .rules) p 0) z r s ≡ ruledPoint D k p
 unfolding ruledPoint
 ruled-entries D k p z r s hz hr hs = rw (hz, hr, hs)
+
+-- control values as they are stored, part by part
+pub same-stored : {u u' : ℤ} {e e' : Bool} → u ≡ u' → e ≡ e' → _≡_ {A = Stored} (record { units = u; exact = e }) (record { units = u'; exact = e' })
+same-stored p q = cc
 
 -- ---- one coordinate of the points, with 3 numbers a point: one store
 module _ (k i : ℕ) (v : ℤ) (points : List ℤ) (axis : k < 3) where

@@ -1,13 +1,13 @@
 -- What the points of a patch are read from: the listed twins tell which half-edges are sharp, the values of the faces at a corner make its
--- points and its ring term, two tables tell which point of which corner each of the sixteen is, and three coordinates make a point.
+-- points, two tables tell which point of which corner each of the sixteen is, and three coordinates make a point.
 use mathlib.Core.Path.{_≡_, refl, ap, subst}
-use mathlib.Core.Bool.{Bool, false, _&&_}
+use mathlib.Core.Bool.{Bool}
 use mathlib.Core.List.{List, [], _∷_, map}
 use Prim.Native.Nat.{ℕ, zero, suc, _+_, _*_, _/_, _%_, _≤_, _<_}
 use native.Mathlib.Nat.{not-suc-le-zero}
 use native.Mathlib.Omega.{arith}
 use lib.Dec.{eqb, ltb}
-use lib.IntN.{ℤ, pos, _+ℤ_, _*ℤ_}
+use lib.IntN.{ℤ}
 use lib.ListN.{length, getD, set}
 use borrow.Author.Tests.{ltb-true}
 use Rattle.finite.specs.Fold.{foldBelow}
@@ -18,18 +18,16 @@ use Rattle.limits.specs.Limits.{noTwin}
 use Rattle.corner.specs.Corner.{turn}
 use Rattle.mesh.specs.HalfEdge.{boundary}
 use Rattle.mesh.proofs.CornerLaws.{turn-below}
-use Rattle.mesh.specs.Tables.{vertexOf, twinOf}
+use Rattle.mesh.specs.Tables.{vertexOf}
 use Rattle.mask.specs.Mask.{Fraction, innerMask, edgeMask}
 use Rattle.mask.specs.declared.model.Fraction as code
 use Rattle.mask.specs.declared.model.FaceValues.{FaceValues}
-use Rattle.patch.specs.Point.{View, weight, sharp, ringTerm, innerPoint, edgePoint}
-use Rattle.patch.specs.Patch.{owner, kind, units, exactly}
-use Rattle.patch.specs.Lists.{shapeOf, boundaryIn, sharpIn, Twins, innerBy, edgeBy}
-use Rattle.patch.specs.Values.{SeenFrom, Made, inUnits}
+use Rattle.patch.specs.Point.{View, weight, sharp, innerPoint, edgePoint}
+use Rattle.patch.specs.Patch.{owner, kind}
+use Rattle.patch.specs.Lists.{shapeOf, boundaryIn, sharpIn, Twins}
+use Rattle.patch.specs.Values.{SeenFrom, Made}
 use Rattle.patch.specs.Written.{PatchLists, Source, pointFrom, numberFrom}
-use Rattle.patch.specs.declared.fraction.Value.{Value}
-use Rattle.patch.specs.declared.fraction.ControlPoint.{ControlPoint}
-use Rattle.patch.proofs.NeighbourLaws.{twin-below}
+use Rattle.patch.specs.declared.writer.PatchPoint.{PatchPoint}
 
 -- ---- twins
 module _ {faces twins : List ℕ} (t : Twins faces twins) (c : ℕ) (l : c < length faces) where
@@ -41,22 +39,9 @@ module _ {faces twins : List ℕ} (t : Twins faces twins) (c : ℕ) (l : c < len
   unfolding sharp
   sharp-in = boundary-in
 
-  pub twin-listed : sharp (shapeOf faces) c ≡ false → twinOf twins c < length faces
-  twin-listed e = rw (t .are c l) (twin-below (shapeOf faces) c e)
-
 -- ---- the points, from the values of the faces
 pub made-is : {q q' : Fraction} {r : code.Fraction} → q ≡ q' → Made q r → Made q' r
 made-is {r = r} e m = subst (λ (q : Fraction). Made q r) e m
-
-pub inner-told : (S : View) (weights : List ℕ) (c : ℕ) (a : FaceValues) → SeenFrom S c a
-    → innerMask (getD weights c 0) (a .here) (a .next) (a .prev) (a .across) ≡ innerBy S weights c
-unfolding innerBy
-inner-told S weights c a h = rw (h .here-is, h .next-is, h .prev-is, h .across-is)
-
-pub edge-told : (S : View) (weights : List ℕ) (c d : ℕ) (a b : FaceValues) → SeenFrom S c a → SeenFrom S d b
-    → edgeMask (getD weights c 0) (a .here) (a .next) (a .prev) (b .across) (a .across) (b .prev) ≡ edgeBy S weights c d
-unfolding edgeBy
-edge-told S weights c d a b h g = rw (h .here-is, h .next-is, h .prev-is, g .across-is, h .across-is, g .prev-is)
 
 pub inner-seen : (S : View) (c w : ℕ) (a : FaceValues) → w ≡ weight (S .shape) c → SeenFrom S c a
     → innerMask w (a .here) (a .next) (a .prev) (a .across) ≡ innerPoint S c
@@ -68,14 +53,10 @@ pub edge-seen : (S : View) (c d w : ℕ) (a b : FaceValues) → w ≡ weight (S 
 unfolding edgePoint
 edge-seen S c d w a b e h g = rw (e, h .here-is, h .next-is, h .prev-is, g .across-is, h .across-is, g .prev-is)
 
-pub ring-term-seen : (S : View) (c : ℕ) (a : FaceValues) → SeenFrom S c a
-    → pos 2 *ℤ a .next +ℤ pos 2 *ℤ a .prev +ℤ a .across ≡ ringTerm S c
-ring-term-seen S c a h = rw (h .next-is, h .prev-is, h .across-is)
-
 -- ---- the two tables of a patch
 -- the corner of a face that owns a point is one of its corners
 pub owner-listed : {D : PatchLists} → Source D → (g m c : ℕ) → 4 * g + 4 ≤ length (D .faces) → c ≡ turn m (4 * g) → c < length (D .faces)
-owner-listed t g m c l e = rw e (turn-below (t .placed 0 (omega arith) .corners) m (4 * g) (omega arith))
+owner-listed t g m c l e = rw e (turn-below (t .whole) m (4 * g) (omega arith))
 
 -- number 3m + k of a patch is coordinate k of its point m
 pub number-point : (D : PatchLists) (g m k : ℕ) → k < 3 → numberFrom D g (3 * m + k) ≡ pointFrom D k (turn (owner m) (4 * g)) (kind m)
@@ -95,21 +76,10 @@ table-at f b [] a m l = absurd (not-suc-le-zero l)
 table-at f b (x ∷ xs) a zero l = refl
 table-at f b (x ∷ xs) a (suc m) l = table-at f b xs a m (omega arith)
 
--- ---- control values and points
-pub same-value : {u u' : ℤ} {e e' : Bool} → u ≡ u' → e ≡ e' → _≡_ {A = Value} (record { units = u; exact = e }) (record { units = u'; exact = e' })
-same-value p q = cc
-
+-- ---- points
 pub same-point : {x y z x' y' z' : ℤ} {e e' : Bool} → x ≡ x' → y ≡ y' → z ≡ z' → e ≡ e'
-    → _≡_ {A = ControlPoint} (record { x = x; y = y; z = z; exact = e }) (record { x = x'; y = y'; z = z'; exact = e' })
+    → _≡_ {A = PatchPoint} (record { x = x; y = y; z = z; exact = e }) (record { x = x'; y = y'; z = z'; exact = e' })
 same-point p q r s = cc
-
--- three coordinates
-pub point-of-three : (q : ℕ → Fraction) {x y z : Fraction} → x ≡ q 0 → y ≡ q 1 → z ≡ q 2
-    → _≡_ {A = ControlPoint}
-    (record { x = units x; y = units y; z = units z; exact = (exactly x && exactly y) && exactly z })
-    (inUnits q)
-unfolding foldBelow
-point-of-three q p r s = rw (p, r, s)
 
 -- three stores
 pub filled-three : {A : Type 0} (f : ℕ → A) (d : List A) {x y z : A} → 3 ≤ length d → x ≡ f 0 → y ≡ f 1 → z ≡ f 2

@@ -1,8 +1,9 @@
 -- What the masks give of coordinates within their range: a fraction within it, as the code's `Fraction` of it.
 --
 --   Sized q        the divisor of q is above 0, and q within the range of the coordinates: `bounds` of `LinearLaws`, for a mask
-use mathlib.Core.Path.{_≡_, refl, sym, ap₂, _∙_, subst}
-use Prim.Native.Nat.{ℕ, _-_, _*_, _≤_}
+use mathlib.Core.Path.{_≡_, refl, sym, subst}
+use mathlib.Core.List.{List}
+use Prim.Native.Nat.{ℕ, _+_, _-_, _*_, _%_, _≤_}
 use native.Mathlib.Omega.{arith}
 use lib.Dec.{eqb, ltb}
 use lib.IntN.{ℤ, pos, natAbs, _*ℤ_}
@@ -11,15 +12,20 @@ use mir.Val.{toZ, ofZ}
 use mir.Facts.{toZ-ofZ}
 use borrow.Author.Tests.{eqb-true, eqb-false, ltb-true, ltb-false}
 use Rattle.integer.proofs.Laws.{sfits-abs, abs-+, abs-*}
+use Rattle.integer.proofs.NearestLaws.{nearest-bounded}
 use Rattle.finite.proofs.FoldLaws.{bool-cases}
-use Rattle.limits.specs.Limits.{maxCoordinate}
-use Rattle.mask.specs.Mask.{Fraction, innerMask, edgeMask, boundaryEdgeMask, sharpCornerMask, maxSharpness, cornerMask}
+use Rattle.limits.specs.Limits.{maxCoordinate, noTwin}
+use Rattle.corner.specs.Corner.{next, across, prev}
+use Rattle.mask.specs.Mask.{Fraction, innerMask, edgeMask, sharpCornerMask, maxSharpness, cornerMask}
 use Rattle.mask.specs.FractionOf.{fractionOf}
 use Rattle.mask.specs.declared.model.Fraction as code
 use Rattle.mask.specs.declared.model.FaceValues.{FaceValues}
 use Rattle.mask.proofs.LinearLaws.{Related, bounds, inner-mask, edge-mask, boundary-edge-mask, smooth-corner-mask, sharp-corner-mask}
+use Rattle.control.specs.Control.{units, pointOf, valueAt, weightAt, linkAt, faceAt, innerAt, edgeAt, linked, alongAt, beforeAt}
+use Rattle.control.specs.declared.model.ControlPoint.{ControlPoint}
 use Rattle.patch.specs.Values.{Small, Within, Made}
-use Rattle.patch.specs.PatchTables.{Allowed}
+use Rattle.patch.specs.PatchTables.{Bounded, Allowed}
+use Rattle.patch.specs.Written.{Narrow}
 
 abbrev pub Sized : Fraction → Type 0
 Sized q = Related (λ k z _. natAbs z ≤ maxCoordinate * k) q q
@@ -61,10 +67,43 @@ corner-sized r p ring sharp h =
 pub stored-is : (z y : ℤ) → natAbs z ≤ maxCoordinate → z ≡ y → toZ w32 (ofZ w32 z) ≡ y
 stored-is z y l e = rw (toZ-ofZ (sfits-abs {w = w32} z (omega arith))) e
 
--- the edge point of two values p and q that are known as y and z
-pub boundary-edge-made : (r : code.Fraction) (p q y z : ℤ) → natAbs p ≤ maxCoordinate → natAbs q ≤ maxCoordinate → p ≡ y → q ≡ z
-    → fractionOf r ≡ boundaryEdgeMask (toZ w32 (ofZ w32 p)) (toZ w32 (ofZ w32 q)) → Made (boundaryEdgeMask y z) r
-boundary-edge-made r p q y z hp hq e f g =
-    let ly : natAbs y ≤ maxCoordinate = rw e at hp in
-    let lz : natAbs z ≤ maxCoordinate = rw f at hq in
-    made r (boundary-edge-mask (bounds maxCoordinate) ly lz) (g ∙ ap₂ boundaryEdgeMask (stored-is p y hp e) (stored-is q z hq f))
+-- the one or the other of two fractions
+linked-sized : (d : ℕ) (p q : Fraction) → Sized p → Sized q → Sized (linked d p q)
+linked-sized d p q s t = bool-cases (eqb d noTwin) (λ e. rw e s) (λ e. rw e t)
+
+-- ---- the points that a corner owns, by a table of values within the range of the coordinates
+module _ {values : List ℤ} (b : Bounded values) (k : ℕ) where
+  pub value-small : (c : ℕ) → natAbs (valueAt values k c) ≤ maxCoordinate
+  value-small c = b .entries (4 * (c % 1024) + k % 4)
+
+  face-small : (c : ℕ) → Small (faceAt values k c)
+  face-small c =
+      record { here = value-small c; next = value-small (next c); across = value-small (across c); prev = value-small (prev c) }
+
+  pub inner-at-sized : (w c : ℕ) → Sized (innerAt values w k c)
+  unfolding innerAt
+  inner-at-sized w c = inner-sized w (faceAt values k c) (face-small c)
+
+  edge-at-sized : (w c d : ℕ) → Sized (edgeAt values w k c d)
+  unfolding edgeAt
+  edge-at-sized w c d = edge-sized w (faceAt values k c) (faceAt values k d) (face-small c) (face-small d)
+
+  pub along-at-sized : (links weights : List ℕ) (c : ℕ) → Sized (alongAt values links weights k c)
+  along-at-sized links weights c =
+      linked-sized (linkAt links c) _ _ (boundary-edge-mask (bounds maxCoordinate) (value-small c) (value-small (next c)))
+      (edge-at-sized (weightAt weights c) c (linkAt links c))
+
+  pub before-at-sized : (links weights : List ℕ) (c : ℕ) → Sized (beforeAt values links weights k c)
+  before-at-sized links weights c =
+      let d = linkAt links (prev c) in
+      linked-sized d _ _ (boundary-edge-mask (bounds maxCoordinate) (value-small c) (value-small (prev c)))
+      (edge-at-sized (weightAt weights d) d (prev c))
+
+-- ---- a fraction within the range of the coordinates, in units
+pub units-small : (q : Fraction) → Sized q → natAbs (units q) ≤ 256 * maxCoordinate
+units-small q s =
+    nearest-bounded (pos 256 *ℤ q .num) (q .den) (256 * maxCoordinate) (s .positive) (omega (arith, s .related, abs-* (pos 256) (q .num)))
+
+pub point-narrow : (q : ℕ → Fraction) {r : ControlPoint} → ((k : ℕ) → Sized (q k)) → r ≡ pointOf q → Narrow r
+point-narrow q s e =
+    subst Narrow (sym e) (record { x-small = units-small (q 0) (s 0); y-small = units-small (q 1) (s 1); z-small = units-small (q 2) (s 2) })

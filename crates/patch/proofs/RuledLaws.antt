@@ -18,21 +18,24 @@ use Rattle.finite.proofs.FoldLaws.{bool-cases, fold-ext}
 use Rattle.finite.proofs.FilledLaws.{filled-at}
 use Rattle.limits.specs.Limits.{maxValence, maxCoordinate}
 use Rattle.corner.specs.Corner.{prev}
-use Rattle.mesh.specs.IndexedMesh.{IndexedMesh, corners, tag}
-use Rattle.mesh.specs.Tables.{Holds}
+use Rattle.mesh.specs.HalfEdge.{twin}
+use Rattle.mesh.specs.IndexedMesh.{IndexedMesh, corners, at, tag}
+use Rattle.mesh.specs.Tables.{Holds, vertexOf, twinOf}
 use Rattle.mesh.specs.WellFormed.{WellFormed}
 use Rattle.mesh.proofs.CornerLaws.{prev-below}
+use Rattle.mesh.proofs.AcceptedLaws.{accepted-corners}
 use Rattle.mesh.proofs.SizeLaws.{indices-corners}
 use Rattle.mask.specs.Mask.{Fraction, maxSharpness, cornerRule}
 use Rattle.mask.proofs.RuleLaws.{Scaled, rule-inside, rule-boundary, rule-scaled}
+use Rattle.control.specs.Control.{units, exactly}
 use Rattle.patch.specs.Point.{valenceAt, inside, weight, sharp, sharpSum, ringSum, fixed, cornerPoint}
-use Rattle.patch.specs.Patch.{shape, view, units, exactly}
-use Rattle.patch.specs.Lists.{shapeOf, seen, endsIn, sharpSumBy}
+use Rattle.patch.specs.Patch.{shape, view}
+use Rattle.patch.specs.Lists.{shapeOf, Twins, endsIn, ringSumBy, sharpSumBy}
 use Rattle.patch.specs.PatchTables.{Counts, rule, ruleBy, tagged, endsOf, Renderable, Roomy, Rendered}
-use Rattle.patch.specs.PatchTables.{Allowed, CornerLists, cornerLists, ruledPoint, CornerSource, CornerPoints, Tables}
+use Rattle.patch.specs.PatchTables.{Allowed, CornerLists, cornerLists, ruledPoint, CornerSource, CornerPoints, Valued}
 use Rattle.patch.proofs.FacePointLaws.{boundary-in, sharp-in}
-use Rattle.patch.proofs.TableLaws.{ring-seen, sharp-seen, ring-size, sharp-most, sharp-size}
-use Rattle.patch.proofs.TableLaws.{accepted-whole, accepted-indices, accepted-coordinates, valence-range}
+use Rattle.patch.proofs.TableLaws.{ring-told, sharp-told, ring-size, sharp-most, sharp-size}
+use Rattle.patch.proofs.TableLaws.{accepted-whole, accepted-indices, valence-range}
 
 -- ---- a fraction with both parts multiplied has the same value and the same mark
 module _ {q q' : Fraction} (s : Scaled q q') where
@@ -70,6 +73,12 @@ module _ {tags faces twins : List ℕ} (t : Renderable tags faces twins) where
       held _ _ (length faces) ends₀ ends
       (λ c l. rw (sharp-in (t .twinned) c l, boundary-in (t .twinned) (prev c) (prev-below (indices-corners (t .indices)) c l)))
 
+-- the links, as they are filled
+pub rendered-links : {M : IndexedMesh} → WellFormed M → {twins links : List ℕ} (links₀ : List ℕ) → Twins (M .indices) twins
+    → links ≡ filled (twinOf twins) (length (M .indices)) links₀ → Holds 0 links (corners M) (twin (at M) (corners M))
+rendered-links {M} a {twins} {links} links₀ t e =
+    rw (accepted-whole a) at (held (twinOf twins) (twin (vertexOf (M .indices)) (length (M .indices))) (length (M .indices)) links₀ links (t .are) e)
+
 -- ---- what they give
 module _ {M : IndexedMesh} (a : WellFormed M) where
   -- the rule of a vertex tells which of its sums makes its corner point
@@ -105,37 +114,35 @@ module _ {M : IndexedMesh} (a : WellFormed M) {rules weights ends : List ℕ} wh
   pub rendered-mesh : Rendered (tagged (M .tags) (M .indices)) (length (M .tags)) rules weights ends → Rendered (shape M) (M .vertices) rules weights ends
   rendered-mesh r = rw (accepted-whole a, a .sized .tags-are) at r
 
-  module _ (r : Rendered (shape M) (M .vertices) rules weights ends) where
-    sharp-told : (k p : ℕ) → sharpSumBy (seen (M .positions) (M .indices) k) ends p ≡ sharpSum (view M k) p
-    sharp-told = sharp-seen M (accepted-whole a) ends (r .ends-are)
+  module _ (r : Rendered (shape M) (M .vertices) rules weights ends) {values : List ℤ} (t : Valued M values) where
+    abbrev lists : CornerLists
+    lists = cornerLists (M .positions) (M .indices) values ends rules
 
-    abbrev made : CornerLists
-    made = cornerLists (M .positions) (M .indices) ends rules
+    ring-is : (k p : ℕ) → k < 3 → ringSumBy (M .indices) values k p ≡ ringSum (view M k) p
+    ring-is k p axis = ring-told M (accepted-whole a) (accepted-corners a) t k axis p
 
-    pub corner-source : Roomy (M .vertices) (corners M) rules weights ends → CornerSource (M .vertices) made
+    sharp-is : (k p : ℕ) → k < 3 → sharpSumBy (M .indices) values ends k p ≡ sharpSum (view M k) p
+    sharp-is k p axis = sharp-told M (accepted-whole a) (accepted-corners a) t k axis ends (r .ends-are) p
+
+    pub corner-source : Roomy (M .vertices) (corners M) rules weights ends → CornerSource lists (M .vertices)
     corner-source room = record {
       few = a .sized .vertices-high;
-      positions-listed = omega (arith, a .sized .positions-are);
       rules-listed = room .rules-listed;
       indices = accepted-indices a;
       ends-listed = omega (arith, accepted-whole a, room .ends-listed);
-      placed = accepted-coordinates a;
-      allowed = λ k p axis l.
-          rw (ring-seen M (accepted-whole a) k p, sharp-told k p) (rule-allowed a k p (getD rules p 0) axis l (r .rules-are p l));
+      bounded = t .bounded;
+      allowed = λ k p axis l. rw (ring-is k p axis, sharp-is k p axis) (rule-allowed a k p (getD rules p 0) axis l (r .rules-are p l));
     }
 
-    ruled-scaled : (k p : ℕ) → p < M .vertices → Scaled (cornerPoint (view M k) p) (ruledPoint made k p)
+    ruled-scaled : (k p : ℕ) → k < 3 → p < M .vertices → Scaled (cornerPoint (view M k) p) (ruledPoint lists k p)
     unfolding cornerPoint fixed ruledPoint rule
-    ruled-scaled k p l =
-        rw (r .rules-are p l, ring-seen M (accepted-whole a) k p, sharp-told k p)
+    ruled-scaled k p axis l =
+        rw (r .rules-are p l, ring-is k p axis, sharp-is k p axis)
         (rule-scaled (inside (shape M) p) (tag M p) (valenceAt (shape M) p) (view M k .value p) (ringSum (view M k) p) (sharpSum (view M k) p) (a .used p l))
 
-    pub ruled-tables : {points : List ℤ} {marks : List ℕ}
-        → CornerPoints (ruledPoint made) (M .vertices) 3 points marks → Tables M weights points marks
-    ruled-tables c = record {
-      weights-are = r .weights-are;
-      corners-are = record {
-        points-are = λ k p b l. c .points-are k p b l ∙ units-scaled (ruled-scaled k p l);
-        marks-are = λ p l. c .marks-are p l ∙ ap indicator (fold-ext true _&&_ 3 (λ k b. exactly-scaled (ruled-scaled k p l)));
-      };
+    pub ruled-points : {points : List ℤ} {marks : List ℕ} → CornerPoints (ruledPoint lists) (M .vertices) 3 points marks
+        → CornerPoints (λ k. cornerPoint (view M k)) (M .vertices) 3 points marks
+    ruled-points c = record {
+      points-are = λ k p b l. c .points-are k p b l ∙ units-scaled (ruled-scaled k p b l);
+      marks-are = λ p l. c .marks-are p l ∙ ap indicator (fold-ext true _&&_ 3 (λ k b. exactly-scaled (ruled-scaled k p b l)));
     }

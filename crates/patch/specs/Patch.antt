@@ -7,8 +7,8 @@
 --                           0 corner 0    1 along 0     2 before 1    3 corner 1        +--> i
 --                      (rules B1 and B5)
 --   patchPoint S c m   point m of the patch of the face of corner c, where c counts as the face's first corner
---   controlValue S c m   the control value, which the user calls a patch number: 256 times the fraction, rounded once (rules B3 and I1)
---   exactly q          nothing is left when 256 times the fraction is rounded (rule I5)
+--   controlValue S c m   the control value, which the user calls a patch number: 256 times the fraction, rounded once (rules B3 and I1), by `units` of
+--                      `control`, as `exactly` is
 --   shape M            the mesh M without its coordinates
 --   view M k           coordinate k (x, y, z) of the mesh M
 --   patchNumber M i    what stands at place i of the patch list: coordinate i % 3 of point i % 48 / 3 of face i / 48
@@ -19,14 +19,14 @@
 use mathlib.Core.Bool.{Bool}
 use mathlib.Core.List.{List, [], _∷_}
 use Prim.Native.Nat.{ℕ, _+_, _*_, _/_, _%_}
-use lib.IntN.{ℤ, pos, _*ℤ_}
+use lib.IntN.{ℤ}
 use lib.ListN.{getD}
-use Rattle.integer.specs.Nearest.{nearest, whole}
 use Rattle.finite.specs.Fold.{allBelow, indicator}
 use Rattle.finite.specs.Filled.{filled}
 use Rattle.corner.specs.Corner.{turn}
 use Rattle.mesh.specs.IndexedMesh.{IndexedMesh, corners, at, tag, coordinate}
 use Rattle.mask.specs.Mask.{Fraction}
+use Rattle.control.specs.Control.{units, exactly}
 use Rattle.patch.specs.Point.{Shape, View, Kind, corner, along, before, inner, point}
 
 unfoldable pub owner : ℕ → ℕ
@@ -39,12 +39,6 @@ kind m =
 
 unfoldable pub patchPoint : View → ℕ → ℕ → Fraction
 patchPoint S c m = point S (turn (owner m) c) (kind m)
-
-abbrev pub units : Fraction → ℤ
-units q = nearest (pos 256 *ℤ q .num) (q .den)
-
-abbrev pub exactly : Fraction → Bool
-exactly q = whole (pos 256 *ℤ q .num) (q .den)
 
 abbrev pub controlValue : View → ℕ → ℕ → ℤ
 controlValue S c m = units (patchPoint S c m)

@@ -13,24 +13,24 @@
 --   ForRender tags faces twins rules weights ends   both
 --   Rendered G v rules weights ends   the rule of each of v vertices, and of each corner its weight and its far ends of sharp edges: all that is kept
 --                      of the tags and of the counts
---   ForTerm positions faces ends k c   what the terms of corner c in the two sums are read from
---   ForSharp positions faces ends k c p sharp   what is asked to add the term of corner c to the sharp sum at place p
---   ForSums positions faces ends k ring sharp   what the two sums are made from, and where
---   Sums S ends ring sharp   the two sums at each vertex
+--   Bounded values     every entry of the table is within the range of a coordinate
+--   ForTerm values ends c   what the term of corner c in the sharp sum is read from
+--   ForSharp values ends c p sharp   what is asked to add the term of corner c to the sharp sum at place p
+--   ForSums faces values ends ring sharp   what the two sums are made from, and where
+--   Sums faces values ends k ring sharp   the two sums at each vertex, of coordinate k
 --   Allowed r p ring sharp   by the rule r, the coordinate p and the two sums make a corner point within the range of the coordinates: the sum that r
 --                      takes is small enough, and both fit 32 bits
---   CornerLists        the lists that the corner points are made from: positions and faces, and the tables of ends and rules
---   seenIn D k         their coordinate k
+--   storedOf q         the fraction q as it is stored: in units, and whether nothing was left
+--   CornerLists        the lists that the corner points are made from: positions and faces of the mesh, and the tables of values, ends and rules
 --   ruledPoint D k p   coordinate k of the corner point of vertex p by its rule
---   CornerSource v D   the lists serve every corner, and each of v vertices
---   ForCorners v D points marks   what is asked to write the corner points over marks of 1: the lists serve, and there is room
---   ForCoordinate v D k points marks   the same for coordinate k, over any marks
+--   CornerSource D v   these lists serve every one of v vertices
+--   ForCorners D v points marks   what is asked to write the corner points over marks of 1: they can be made, and there is room
+--   ForCoordinate D v k points marks   the same for coordinate k, over any marks
 --   Coordinate q v k ..   coordinate k of the corner points q below v is written: each in units at place 3p + k, with the other places of `points` as they
 --                      were; their marks are kept where nothing is left, and become 0 elsewhere, with the marks from v on as they were
 --   CornerPoints q v n points marks   of v vertices, the coordinates below n of the corner points, and whether nothing is left in any of these
---   Weights faces weights   the weights of all the corners are listed
 --   Ready M d          an accepted mesh with its twins, and room in the lists d for its patches and their marks
---   Tables M weights points marks   the weight of each corner of the mesh M, the corner point of each vertex, and its mark
+--   Valued M values    the table of values tells every coordinate of every corner of the mesh M, and all its entries are within their range
 use mathlib.Core.Path.{_≡_}
 use mathlib.Core.Bool.{cond}
 use mathlib.Core.List.{List}
@@ -47,10 +47,12 @@ use Rattle.mesh.specs.IndexedMesh.{IndexedMesh, corners}
 use Rattle.mesh.specs.Tables.{Corners, Holds, Indices, vertexOf}
 use Rattle.mesh.specs.WellFormed.{WellFormed}
 use Rattle.mask.specs.Mask.{Fraction, maxSharpness, cornerRule, cornerMask}
-use Rattle.patch.specs.Point.{Shape, View, valenceAt, inside, weight, sharp, ringSum, cornerPoint}
-use Rattle.patch.specs.Patch.{shape, view, units, exactly}
+use Rattle.control.specs.Control.{units, exactly, valueAt}
+use Rattle.patch.specs.Point.{Shape, x, valenceAt, inside, weight, sharp}
+use Rattle.patch.specs.Patch.{view}
 use Rattle.patch.specs.Answer.{Lent}
-use Rattle.patch.specs.Lists.{shapeOf, seen, Coordinates, Twins, endsByte, sharpSumBy}
+use Rattle.patch.specs.Lists.{shapeOf, Twins, endsByte, ringSumBy, sharpSumBy}
+use Rattle.patch.specs.declared.tables.Stored.{Stored}
 
 unfoldable pub rule : Shape → ℕ → ℕ
 rule G p = cornerRule (inside G p) (G .tag p) (valenceAt G p)
@@ -116,26 +118,28 @@ pub record Rendered (G : Shape) (v : ℕ) (rules weights ends : List ℕ) : Type
   pub weights-are : Holds 0 weights (G .n) (weight G)
   pub ends-are : Holds 0 ends (G .n) (endsOf G)
 
-pub record ForTerm (positions : List ℤ) (faces ends : List ℕ) (k c : ℕ) : Type 0 where
-  pub placed : Coordinates positions faces k
-  pub ends-listed : length faces ≤ length ends
-  pub below : c < length faces
+pub record Bounded (values : List ℤ) : Type 0 where
+  pub entries : (i : ℕ) → natAbs (getD values i (pos 0)) ≤ maxCoordinate
 
-pub record ForSharp (positions : List ℤ) (faces ends : List ℕ) (k c p : ℕ) (sharp : List ℤ) : Type 0 where
-  pub source : ForTerm positions faces ends k c
+pub record ForTerm (values : List ℤ) (ends : List ℕ) (c : ℕ) : Type 0 where
+  pub bounded : Bounded values
+  pub listed : c < length ends
+
+pub record ForSharp (values : List ℤ) (ends : List ℕ) (c p : ℕ) (sharp : List ℤ) : Type 0 where
+  pub source : ForTerm values ends c
   pub place : p < length sharp
   pub small : natAbs (getD sharp p (pos 0)) ≤ 5120 * maxCoordinate
 
-pub record ForSums (positions : List ℤ) (faces ends : List ℕ) (k : ℕ) (ring sharp : List ℤ) : Type 0 where
+pub record ForSums (faces : List ℕ) (values : List ℤ) (ends : List ℕ) (ring sharp : List ℤ) : Type 0 where
   pub indices : Indices faces (length faces)
   pub ends-listed : length faces ≤ length ends
-  pub placed : Coordinates positions faces k
+  pub bounded : Bounded values
   pub ring-blank : Blank (pos 0) ring
   pub sharp-blank : Blank (pos 0) sharp
 
-pub record Sums (S : View) (ends : List ℕ) (ring sharp : List ℤ) : Type 0 where
-  pub ring-are : Holds (pos 0) ring maxVertices (ringSum S)
-  pub sharp-are : Holds (pos 0) sharp maxVertices (sharpSumBy S ends)
+pub record Sums (faces : List ℕ) (values : List ℤ) (ends : List ℕ) (k : ℕ) (ring sharp : List ℤ) : Type 0 where
+  pub ring-are : Holds (pos 0) ring maxVertices (ringSumBy faces values k)
+  pub sharp-are : Holds (pos 0) sharp maxVertices (sharpSumBy faces values ends k)
 
 pub record Allowed (r : ℕ) (p ring sharp : ℤ) : Type 0 where
   pub value-small : natAbs p ≤ maxCoordinate
@@ -144,39 +148,42 @@ pub record Allowed (r : ℕ) (p ring sharp : ℤ) : Type 0 where
   pub ring-small : maxSharpness < r → natAbs ring ≤ 5 * maxCoordinate * (r - maxSharpness)
   pub sharp-small : r < maxSharpness → natAbs sharp ≤ 2 * maxCoordinate
 
+abbrev pub storedOf : Fraction → Stored
+storedOf q = record { units = units q; exact = exactly q }
+
 pub record CornerLists : Type 0 where
   pub positions : List ℤ
   pub faces : List ℕ
+  pub values : List ℤ
   pub ends : List ℕ
   pub rules : List ℕ
 
-abbrev pub cornerLists : List ℤ → List ℕ → List ℕ → List ℕ → CornerLists
-cornerLists positions faces ends rules = record { positions = positions; faces = faces; ends = ends; rules = rules }
-
-abbrev pub seenIn : CornerLists → ℕ → View
-seenIn D k = seen (D .positions) (D .faces) k
+abbrev pub cornerLists : List ℤ → List ℕ → List ℤ → List ℕ → List ℕ → CornerLists
+cornerLists positions faces values ends rules = record { positions = positions; faces = faces; values = values; ends = ends; rules = rules }
 
 unfoldable pub ruledPoint : CornerLists → ℕ → ℕ → Fraction
-ruledPoint D k p = cornerMask (getD (D .rules) p 0) (seenIn D k .value p) (ringSum (seenIn D k) p) (sharpSumBy (seenIn D k) (D .ends) p)
+ruledPoint D k p =
+    cornerMask (getD (D .rules) p 0) (getD (D .positions) (3 * p + k) (pos 0)) (ringSumBy (D .faces) (D .values) k p)
+    (sharpSumBy (D .faces) (D .values) (D .ends) k p)
 
-pub record CornerSource (v : ℕ) (D : CornerLists) : Type 0 where
+pub record CornerSource (D : CornerLists) (v : ℕ) : Type 0 where
   pub few : v ≤ maxVertices
-  pub positions-listed : 3 * v ≤ length (D .positions)
   pub rules-listed : v ≤ length (D .rules)
   pub indices : Indices (D .faces) (length (D .faces))
   pub ends-listed : length (D .faces) ≤ length (D .ends)
-  pub placed : (k : ℕ) → k < 3 → Coordinates (D .positions) (D .faces) k
+  pub bounded : Bounded (D .values)
   pub allowed : (k p : ℕ) → k < 3 → p < v
-      → Allowed (getD (D .rules) p 0) (seenIn D k .value p) (ringSum (seenIn D k) p) (sharpSumBy (seenIn D k) (D .ends) p)
+      → Allowed (getD (D .rules) p 0) (getD (D .positions) (3 * p + k) (pos 0)) (ringSumBy (D .faces) (D .values) k p)
+      (sharpSumBy (D .faces) (D .values) (D .ends) k p)
 
-pub record ForCoordinate (v : ℕ) (D : CornerLists) (k : ℕ) (points : List ℤ) (marks : List ℕ) : Type 0 where
-  pub source : CornerSource v D
+pub record ForCoordinate (D : CornerLists) (v k : ℕ) (points : List ℤ) (marks : List ℕ) : Type 0 where
+  pub source : CornerSource D v
   pub axis : k < 3
   pub points-room : 3 * v ≤ length points
   pub marks-room : v ≤ length marks
 
-pub record ForCorners (v : ℕ) (D : CornerLists) (points : List ℤ) (marks : List ℕ) : Type 0 where
-  pub source : CornerSource v D
+pub record ForCorners (D : CornerLists) (v : ℕ) (points : List ℤ) (marks : List ℕ) : Type 0 where
+  pub source : CornerSource D v
   pub points-room : 3 * v ≤ length points
   pub marks-room : v ≤ length marks
   pub marked : Holds 0 marks v (λ p. 1)
@@ -191,16 +198,12 @@ pub record CornerPoints (q : ℕ → ℕ → Fraction) (v n : ℕ) (points : Lis
   pub points-are : (k p : ℕ) → k < n → p < v → getD points (3 * p + k) (pos 0) ≡ units (q k p)
   pub marks-are : (p : ℕ) → p < v → getD marks p 0 ≡ indicator (allBelow (λ k. exactly (q k p)) n)
 
-pub record Weights (faces weights : List ℕ) : Type 0 where
-  pub listed : length faces ≤ length weights
-  pub are : Holds 0 weights (length faces) (weight (shapeOf faces))
-
 pub record Ready (M : IndexedMesh) (d : Lent) : Type 0 where
   pub accepted : WellFormed M
   pub twinned : Twins (M .indices) (d .twins)
   pub patches-room : 48 * M .faces ≤ length (d .patches)
   pub marks-room : 16 * M .faces ≤ length (d .marks)
 
-pub record Tables (M : IndexedMesh) (weights : List ℕ) (points : List ℤ) (marks : List ℕ) : Type 0 where
-  pub weights-are : Holds 0 weights (corners M) (weight (shape M))
-  pub corners-are : CornerPoints (λ k. cornerPoint (view M k)) (M .vertices) 3 points marks
+pub record Valued (M : IndexedMesh) (values : List ℤ) : Type 0 where
+  pub told : (k c : ℕ) → k < 3 → c < corners M → valueAt values k c ≡ x (view M k) c
+  pub bounded : Bounded values

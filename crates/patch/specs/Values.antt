@@ -1,15 +1,10 @@
--- What the code makes a control point from: the four values of a face, and a fraction; and what it makes of it.
+-- What a control point is made from: the four values of a face, and a fraction.
 --
 --   Small a, SeenFrom S c a   four values within the range of a coordinate; a has the values of the face of corner c, seen from there
 --   Within q, Made q r   the fraction q is within the range of the coordinates; r is the fraction q
---   valueOf q          the fraction q in units, and whether nothing was left
---   pointOf g e        the control point with the coordinates g 0, g 1 and g 2, which is exact or not
---   inUnits q          the control point with the coordinates q 0, q 1 and q 2 in units; exact where nothing was left in any of them
 use mathlib.Core.Path.{_≡_}
-use mathlib.Core.Bool.{Bool}
 use Prim.Native.Nat.{ℕ, _*_, _≤_, _<_}
-use lib.IntN.{ℤ, natAbs}
-use Rattle.finite.specs.Fold.{allBelow}
+use lib.IntN.{natAbs}
 use Rattle.limits.specs.Limits.{maxCoordinate}
 use Rattle.corner.specs.Corner.{next, across, prev}
 use Rattle.mask.specs.Mask.{Fraction}
@@ -17,9 +12,6 @@ use Rattle.mask.specs.FractionOf.{fractionOf}
 use Rattle.mask.specs.declared.model.Fraction as code
 use Rattle.mask.specs.declared.model.FaceValues.{FaceValues}
 use Rattle.patch.specs.Point.{View, x}
-use Rattle.patch.specs.Patch.{units, exactly}
-use Rattle.patch.specs.declared.fraction.Value.{Value}
-use Rattle.patch.specs.declared.fraction.ControlPoint.{ControlPoint}
 
 pub record Small (a : FaceValues) : Type 0 where
   pub here : natAbs (a .here) ≤ maxCoordinate
@@ -41,12 +33,3 @@ pub record Within (q : Fraction) : Type 0 where
 pub record Made (q : Fraction) (r : code.Fraction) : Type 0 where
   pub is : fractionOf r ≡ q
   pub within : Within (fractionOf r)
-
-abbrev pub valueOf : Fraction → Value
-valueOf q = record { units = units q; exact = exactly q }
-
-abbrev pub pointOf : (ℕ → ℤ) → Bool → ControlPoint
-pointOf g e = record { x = g 0; y = g 1; z = g 2; exact = e }
-
-abbrev pub inUnits : (ℕ → Fraction) → ControlPoint
-inUnits q = pointOf (λ k. units (q k)) (allBelow (λ k. exactly (q k)) 3)

@@ -1,10 +1,14 @@
 -- What the writer of the patches reads, and the numbers and marks that it writes.
 --
---   PatchLists         the lists that a patch is written from: those of the mesh, its twins, and the tables of weights, corner points and their marks
+--   PatchLists         the lists that a patch is written from: the faces, the tables of values, links and weights by corner, and those of the corner
+--                      points and their marks by vertex
 --   Source D           these lists serve every corner
+--   Tables M D         the lists tell the mesh M: the coordinates of each corner, its twin and its weight, the corner point of each vertex and its mark
 --   ForValues D c, ForPoint D c point, ForNumbered D g m point, ForPatch D g patch marks, ForPatches D f patches marks   what is asked to make a
 --                      point of corner c, to write it, point m of face g, the patch of face g, those of f faces: the lists serve, and there is room
 --   ForVertex faces points marks c   what is asked to look up the corner point of the vertex of corner c
+--   Narrow p, stored p   the control point p is within the range of the coordinates in units; the point as it is written
+--   pointWith g e      the point with the coordinates g 0, g 1 and g 2, which is exact or not
 --   kindOf q           the kind of point, for each case of the code's enum `Kind`
 --   pointFrom D k c q  coordinate k of the point of kind q at corner c, in units: a corner point is looked up in the table of these
 --   exactFrom D c q    whether nothing is left in any coordinate of that point: for a corner point, whether its mark is 1
@@ -19,38 +23,47 @@ use mathlib.Core.Bool.{Bool}
 use mathlib.Core.List.{List}
 use Prim.Native.Nat.{ℕ, _+_, _*_, _/_, _%_, _≤_, _<_}
 use lib.Dec.{eqb}
-use lib.IntN.{ℤ, pos}
+use lib.IntN.{ℤ, pos, natAbs}
 use lib.ListN.{length, getD}
 use Rattle.finite.specs.Fold.{allBelow, indicator}
 use Rattle.finite.specs.Filled.{filled}
+use Rattle.limits.specs.Limits.{maxCoordinate}
 use Rattle.corner.specs.Corner.{turn}
-use Rattle.mesh.specs.Tables.{vertexOf}
-use Rattle.patch.specs.Point.{Kind, corner, along, before, inner}
-use Rattle.patch.specs.Patch.{owner, kind, units, exactly}
-use Rattle.patch.specs.Lists.{seen, Coordinates, Linked, innerBy, alongBy, beforeBy}
-use Rattle.patch.specs.Values.{pointOf}
-use Rattle.patch.specs.declared.fraction.ControlPoint.{ControlPoint}
+use Rattle.mesh.specs.HalfEdge.{twin}
+use Rattle.mesh.specs.IndexedMesh.{IndexedMesh, corners, at}
+use Rattle.mesh.specs.Tables.{Corners, Holds, vertexOf}
+use Rattle.control.specs.Control.{units, exactly, weightAt, innerAt, alongAt, beforeAt}
+use Rattle.control.specs.declared.model.ControlPoint.{ControlPoint}
+use Rattle.patch.specs.Point.{Kind, corner, along, before, inner, weight, cornerPoint}
+use Rattle.patch.specs.Patch.{owner, kind, shape, view}
+use Rattle.patch.specs.PatchTables.{Bounded, Valued, CornerPoints}
+use Rattle.patch.specs.declared.writer.PatchPoint.{PatchPoint}
 use Rattle.patch.specs.declared.writer.Kind as enum
 use Rattle.patch.specs.declared.writer.Kind.the-variants.{Corner, Along, Before, Inner}
 
 pub record PatchLists : Type 0 where
-  pub positions : List ℤ
   pub faces : List ℕ
-  pub twins : List ℕ
+  pub values : List ℤ
+  pub links : List ℕ
   pub weights : List ℕ
   pub points : List ℤ
   pub marks : List ℕ
 
-abbrev pub patchLists : List ℤ → List ℕ → List ℕ → List ℕ → List ℤ → List ℕ → PatchLists
-patchLists positions faces twins weights points marks =
-    record { positions = positions; faces = faces; twins = twins; weights = weights; points = points; marks = marks }
+abbrev pub patchLists : List ℕ → List ℤ → List ℕ → List ℕ → List ℤ → List ℕ → PatchLists
+patchLists faces values links weights points marks =
+    record { faces = faces; values = values; links = links; weights = weights; points = points; marks = marks }
 
 pub record Source (D : PatchLists) : Type 0 where
-  pub placed : (k : ℕ) → k < 3 → Coordinates (D .positions) (D .faces) k
-  pub weighed : length (D .faces) ≤ length (D .weights)
-  pub linked : Linked (D .faces) (D .twins)
+  pub whole : Corners (length (D .faces))
+  pub bounded : Bounded (D .values)
   pub pointed : (c k : ℕ) → c < length (D .faces) → k < 3 → 3 * vertexOf (D .faces) c + k < length (D .points)
   pub marked : (c : ℕ) → c < length (D .faces) → vertexOf (D .faces) c < length (D .marks)
+
+pub record Tables (M : IndexedMesh) (D : PatchLists) : Type 0 where
+  pub values-are : Valued M (D .values)
+  pub links-are : Holds 0 (D .links) (corners M) (twin (at M) (corners M))
+  pub weights-are : Holds 0 (D .weights) (corners M) (weight (shape M))
+  pub corners-are : CornerPoints (λ k. cornerPoint (view M k)) (M .vertices) 3 (D .points) (D .marks)
 
 pub record ForVertex (faces : List ℕ) (points : List ℤ) (marks : List ℕ) (c : ℕ) : Type 0 where
   pub corner : c < length faces
@@ -83,6 +96,17 @@ pub record ForPatches (D : PatchLists) (f : ℕ) (patches : List ℤ) (marks : L
   pub patches-room : 48 * f ≤ length patches
   pub marks-room : 16 * f ≤ length marks
 
+pub record Narrow (p : ControlPoint) : Type 0 where
+  pub x-small : natAbs (p .x) ≤ 256 * maxCoordinate
+  pub y-small : natAbs (p .y) ≤ 256 * maxCoordinate
+  pub z-small : natAbs (p .z) ≤ 256 * maxCoordinate
+
+abbrev pub stored : ControlPoint → PatchPoint
+stored p = record { x = p .x; y = p .y; z = p .z; exact = p .exact }
+
+abbrev pub pointWith : (ℕ → ℤ) → Bool → PatchPoint
+pointWith g e = record { x = g 0; y = g 1; z = g 2; exact = e }
+
 abbrev pub kindOf : enum.Kind → Kind
 kindOf Corner = corner
 kindOf Along = along
@@ -91,18 +115,18 @@ kindOf Inner = inner
 
 unfoldable pub pointFrom : PatchLists → ℕ → ℕ → Kind → ℤ
 pointFrom D k c corner = getD (D .points) (3 * vertexOf (D .faces) c + k) (pos 0)
-pointFrom D k c along = units (alongBy (seen (D .positions) (D .faces) k) (D .twins) (D .weights) c)
-pointFrom D k c before = units (beforeBy (seen (D .positions) (D .faces) k) (D .twins) (D .weights) c)
-pointFrom D k c inner = units (innerBy (seen (D .positions) (D .faces) k) (D .weights) c)
+pointFrom D k c along = units (alongAt (D .values) (D .links) (D .weights) k c)
+pointFrom D k c before = units (beforeAt (D .values) (D .links) (D .weights) k c)
+pointFrom D k c inner = units (innerAt (D .values) (weightAt (D .weights) c) k c)
 
 unfoldable pub exactFrom : PatchLists → ℕ → Kind → Bool
 exactFrom D c corner = eqb (getD (D .marks) (vertexOf (D .faces) c) 0) 1
-exactFrom D c along = allBelow (λ k. exactly (alongBy (seen (D .positions) (D .faces) k) (D .twins) (D .weights) c)) 3
-exactFrom D c before = allBelow (λ k. exactly (beforeBy (seen (D .positions) (D .faces) k) (D .twins) (D .weights) c)) 3
-exactFrom D c inner = allBelow (λ k. exactly (innerBy (seen (D .positions) (D .faces) k) (D .weights) c)) 3
+exactFrom D c along = allBelow (λ k. exactly (alongAt (D .values) (D .links) (D .weights) k c)) 3
+exactFrom D c before = allBelow (λ k. exactly (beforeAt (D .values) (D .links) (D .weights) k c)) 3
+exactFrom D c inner = allBelow (λ k. exactly (innerAt (D .values) (weightAt (D .weights) c) k c)) 3
 
-abbrev pub pointAt : PatchLists → ℕ → Kind → ControlPoint
-pointAt D c q = pointOf (λ k. pointFrom D k c q) (exactFrom D c q)
+abbrev pub pointAt : PatchLists → ℕ → Kind → PatchPoint
+pointAt D c q = pointWith (λ k. pointFrom D k c q) (exactFrom D c q)
 
 unfoldable pub numberFrom : PatchLists → ℕ → ℕ → ℤ
 numberFrom D g i = pointFrom D (i % 3) (turn (owner (i / 3)) (4 * g)) (kind (i / 3))

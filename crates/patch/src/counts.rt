@@ -1,17 +1,15 @@
-// What is read from the tags, the faces and the twins of an accepted mesh, once: the rule of each vertex, and of each corner its weight and which
-// of its neighbours are far ends of sharp edges.
-use crate::values::is_boundary;
-use crate::values::is_sharp;
-use crate::values::turned;
+// What is read from the tags, the faces and the twins of an accepted mesh, once: the rule of each vertex, of each corner its weight and which of its
+// neighbours are far ends of sharp edges, and the link of each half-edge.
 use corner::wide;
 use limits::model::Mesh;
 ghost use mathlib.Core.Path.{_≡_};
-ghost use Prim.Native.Nat.{_+_, _<_};
+ghost use Prim.Native.Nat.{_+_, _≤_, _<_};
 ghost use lib.ListN.{length, getD, set};
 ghost use Rattle.finite.specs.Fold.{indicator};
 ghost use Rattle.finite.specs.Filled.{filled};
+ghost use Rattle.mesh.specs.Tables.{twinOf};
 ghost use Rattle.patch.specs.Point.{weight};
-ghost use Rattle.patch.specs.Lists.{shapeOf, endsByte, endsIn};
+ghost use Rattle.patch.specs.Lists.{shapeOf, boundaryIn, sharpIn, endsByte, endsIn};
 ghost use Rattle.patch.specs.PatchTables.{Counts, ForCounts, ForWeights, ForRules, ForEnds, ForRender, Rendered, ruleBy, tagged};
 
 // 1 for true, 0 for false.
@@ -22,6 +20,22 @@ fn one_if(b: bool) -> u16
         return 1;
     }
     0
+}
+
+// Whether half-edge c has no twin.
+fn is_boundary(twins: &[u16], c: usize) -> bool
+    requires { ⌜ c < length (now twins) ⌝ }
+    ensures { λ r. ⌜ r ≡ boundaryIn (now (twins .entry)) c ⌝ }
+{
+    twins[c] == Mesh::NO_TWIN
+}
+
+// Whether half-edge c takes the boundary rule.
+fn is_sharp(twins: &[u16], c: usize) -> bool
+    requires { ⌜ c < length (now twins) ⌝ }
+    ensures { λ r. ⌜ r ≡ sharpIn (now (twins .entry)) c ⌝ }
+{
+    is_boundary(twins, c)
 }
 
 // Adds a number to the count at place p.
@@ -80,7 +94,19 @@ fn fill_ends(twins: &[u16], n: usize, ends: &mut [u8])
     ensures { λ _. ⌜ now (ends .exit) ≡ filled (endsIn (now (twins .entry))) n (now (ends .entry)) ⌝ }
 {
     for c in 0..n {
-        ends[c] = ends_byte(is_sharp(twins, c), is_boundary(twins, turned(3, c)));
+        let before = corner::prev_corner(c);
+        let enters = is_boundary(twins, before);
+        ends[c] = ends_byte(is_sharp(twins, c), enters);
+    }
+}
+
+// Writes the link of each of n half-edges: its twin, or 65535 for none.
+pub(crate) fn fill_links(twins: &[u16], n: usize, links: &mut [u16])
+    requires { ⌜ (n ≤ length (now twins)) × (n ≤ length (now links)) ⌝ }
+    ensures { λ _. ⌜ now (links .exit) ≡ filled (twinOf (now (twins .entry))) n (now (links .entry)) ⌝ }
+{
+    for c in 0..n {
+        links[c] = twins[c];
     }
 }
 

@@ -1,7 +1,9 @@
 // The patches of an accepted mesh: the tables, then each patch and its marks into their own stretches of the lists.
+use crate::counts::fill_links;
 use crate::counts::render;
 use crate::tables::fill_corners;
 use crate::writer::write_patch;
+use control::values::fill_values;
 use limits::model::Mesh;
 ghost use mathlib.Core.Path.{_≡_};
 ghost use Rattle.mesh.specs.IndexedMesh.{indexed};
@@ -13,27 +15,27 @@ ghost use Rattle.patch.specs.Written.{patchLists, ForPatches, PatchesWri
 // Writes the patches of f faces, and their marks.
 fn write_patches(
     f: usize,
-    positions: &[i32],
     faces: &[u16],
-    twins: &[u16],
-    weights: &[u16],
+    values: &[i32; 4096],
+    links: &[u16; 1024],
+    weights: &[u16; 1024],
     points: &[i32],
     marks: &[u8],
     patches: &mut [i32],
     exact: &mut [u8],
 )
-    requires { ⌜ ForPatches (patchLists (now positions) (now faces) (now twins) (now weights) (now points) (now marks)) f (now patches) (now exact) ⌝ }
+    requires { ⌜ ForPatches (patchLists (now faces) (now values) (now links) (now weights) (now points) (now marks)) f (now patches) (now exact) ⌝ }
     ensures { λ _. ⌜ PatchesWritten
-        (patchLists (now (positions .entry)) (now (faces .entry)) (now (twins .entry)) (now (weights .entry)) (now (points .entry)) (now (marks .entry)))
+        (patchLists (now (faces .entry)) (now (values .entry)) (now (links .entry)) (now (weights .entry)) (now (points .entry)) (now (marks .entry)))
         f (now (patches .entry)) (now (exact .entry)) (now (patches .exit)) (now (exact .exit)) ⌝ }
 {
     for g in 0..f {
         let at = 48 * g;
         let marked = 16 * g;
         write_patch(
-            positions,
             faces,
-            twins,
+            values,
+            links,
             weights,
             points,
             marks,
@@ -65,14 +67,27 @@ pub(crate) fn fill_patches(
     let mut weights = [0u16; 4 * Mesh::MAX_FACES];
     let mut ends = [0u8; 4 * Mesh::MAX_FACES];
     render(tags, faces, twins, &mut rules, &mut weights, &mut ends);
+    let mut values = [0i32; 16 * Mesh::MAX_FACES];
+    fill_values(positions, faces, &mut values);
+    let mut links = [0u16; 4 * Mesh::MAX_FACES];
+    fill_links(twins, faces.len(), &mut links);
     let mut points = [0i32; 3 * Mesh::MAX_VERTICES];
     let mut marks = [1u8; Mesh::MAX_VERTICES];
-    fill_corners(v, positions, faces, &ends, &rules, &mut points, &mut marks);
-    write_patches(
-        f,
+    fill_corners(
+        v,
         positions,
         faces,
-        twins,
+        &values,
+        &ends,
+        &rules,
+        &mut points,
+        &mut marks,
+    );
+    write_patches(
+        f,
+        faces,
+        &values,
+        &links,
         &weights,
         &points,
         &marks,

@@ -1,12 +1,8 @@
 //! The bicubic patches of a checked mesh: sixteen control points a face, as whole numbers of 1/256 micrometre, each with a mark where it is exact.
-mod corner_point;
 mod counts;
-mod face_point;
 mod fill;
-mod fraction;
 mod sums;
 mod tables;
-mod values;
 mod writer;
 
 use crate::fill::fill_patches;

@@ -1,10 +1,6 @@
-// The sixteen control points of a patch and their marks, from the lists of a mesh, its twins, and the tables of weights and of corner points
-// with their marks.
-use crate::face_point::along_points;
-use crate::face_point::before_points;
-use crate::face_point::inner_points;
-use crate::fraction::ControlPoint;
-use crate::values::turned;
+// The sixteen control points of a patch and their marks, from the tables of values, links and weights by corner, and those of the corner points with
+// their marks by vertex.
+use control::model::ControlPoint;
 use corner::wide;
 ghost use mathlib.Core.Path.{_≡_};
 ghost use Prim.Native.Nat.{_+_, _*_, _<_};
@@ -12,7 +8,8 @@ ghost use lib.Dec.{eqb};
 ghost use lib.IntN.{pos};
 ghost use lib.ListN.{length, getD};
 ghost use Rattle.finite.specs.Fold.{indicator};
-ghost use Rattle.patch.specs.Values.{pointOf};
+ghost use Rattle.corner.specs.Corner.{turn};
+ghost use Rattle.patch.specs.Written.{Narrow, stored, pointWith};
 ghost use Rattle.patch.specs.Written.{patchLists, ForVertex, ForValues, ForPoint, ForNumbered, ForPatch, kindOf, pointAt, PointWritten, NumberedWritten, PatchWritten};
 ghost use Rattle.mesh.specs.Tables.{vertexOf};
 
@@ -22,6 +19,14 @@ pub enum Kind {
     Along,
     Before,
     Inner,
+}
+
+// A control point as it is written, in units, and whether nothing was left in any coordinate.
+pub struct PatchPoint {
+    pub x: i32,
+    pub y: i32,
+    pub z: i32,
+    pub exact: bool,
 }
 
 // The corner of the face that owns each of the sixteen points.
@@ -46,6 +51,27 @@ const KINDS: [Kind; 16] = [
     Kind::Corner,
 ];
 
+// The corner i further than c in its face.
+fn turned(i: usize, c: usize) -> usize
+    requires { ⌜ i < 4 ⌝ }
+    ensures { λ r. ⌜ r ≡ turn i c ⌝ }
+{
+    c / 4 * 4 + (c % 4 + i) % 4
+}
+
+// A control point within the range of the coordinates, as it is written.
+fn narrowed(p: ControlPoint) -> PatchPoint
+    requires { ⌜ Narrow p ⌝ }
+    ensures { λ r. ⌜ r ≡ stored p ⌝ }
+{
+    PatchPoint {
+        x: p.x as i32,
+        y: p.y as i32,
+        z: p.z as i32,
+        exact: p.exact,
+    }
+}
+
 // The corner point of the vertex of corner c, coordinate k, from its table.
 fn vertex_point(faces: &[u16], points: &[i32], k: usize, c: usize) -> i32
     requires { ⌜ (c < length (now faces)) × (3 * vertexOf (now faces) c + k < length (now points)) ⌝ }
@@ -55,12 +81,12 @@ fn vertex_point(faces: &[u16], points: &[i32], k: usize, c: usize) -> i32
 }
 
 // The corner point of the vertex of corner c, from its tables.
-fn vertex_points(faces: &[u16], points: &[i32], marks: &[u8], c: usize) -> ControlPoint
+fn vertex_points(faces: &[u16], points: &[i32], marks: &[u8], c: usize) -> PatchPoint
     requires { ⌜ ForVertex (now faces) (now points) (now marks) c ⌝ }
-    ensures { λ r. ⌜ r ≡ pointOf (λ k. getD (now (points .entry)) (3 * vertexOf (now (faces .entry)) c + k) (pos 0))
+    ensures { λ r. ⌜ r ≡ pointWith (λ k. getD (now (points .entry)) (3 * vertexOf (now (faces .entry)) c + k) (pos 0))
         (eqb (getD (now (marks .entry)) (vertexOf (now (faces .entry)) c) 0) 1) ⌝ }
 {
-    ControlPoint {
+    PatchPoint {
         x: vertex_point(faces, points, 0, c),
         y: vertex_point(faces, points, 1, c),
         z: vertex_point(faces, points, 2, c),
@@ -70,25 +96,25 @@ fn vertex_points(faces: &[u16], points: &[i32], marks: &[u8], c: usize) -> Contr
 
 // A point of corner c.
 fn point_values(
-    positions: &[i32],
     faces: &[u16],
-    twins: &[u16],
-    weights: &[u16],
+    values: &[i32; 4096],
+    links: &[u16; 1024],
+    weights: &[u16; 1024],
     points: &[i32],
     marks: &[u8],
     c: usize,
     kind: Kind,
-) -> ControlPoint
-    requires { ⌜ ForValues (patchLists (now positions) (now faces) (now twins) (now weights) (now points) (now marks)) c ⌝ }
+) -> PatchPoint
+    requires { ⌜ ForValues (patchLists (now faces) (now values) (now links) (now weights) (now points) (now marks)) c ⌝ }
     ensures { λ r. ⌜ r ≡ pointAt
-        (patchLists (now (positions .entry)) (now (faces .entry)) (now (twins .entry)) (now (weights .entry)) (now (points .entry)) (now (marks .entry)))
+        (patchLists (now (faces .entry)) (now (values .entry)) (now (links .entry)) (now (weights .entry)) (now (points .entry)) (now (marks .entry)))
         c (kindOf kind) ⌝ }
 {
     match kind {
         Kind::Corner => vertex_points(faces, points, marks, c),
-        Kind::Along => along_points(positions, faces, twins, weights, c),
-        Kind::Before => before_points(positions, faces, twins, weights, c),
-        Kind::Inner => inner_points(positions, faces, weights, c),
+        Kind::Along => narrowed(control::along_point(values, links, weights, c)),
+        Kind::Before => narrowed(control::before_point(values, links, weights, c)),
+        Kind::Inner => narrowed(control::inner_point(values, weights, c)),
     }
 }
 
@@ -104,22 +130,22 @@ fn mark(exact: bool) -> u8
 
 // Writes a point of corner c over the first three numbers of the list, and returns its mark.
 fn write_point(
-    positions: &[i32],
     faces: &[u16],
-    twins: &[u16],
-    weights: &[u16],
+    values: &[i32; 4096],
+    links: &[u16; 1024],
+    weights: &[u16; 1024],
     points: &[i32],
     marks: &[u8],
     c: usize,
     kind: Kind,
     point: &mut [i32],
 ) -> u8
-    requires { ⌜ ForPoint (patchLists (now positions) (now faces) (now twins) (now weights) (now points) (now marks)) c (now point) ⌝ }
+    requires { ⌜ ForPoint (patchLists (now faces) (now values) (now links) (now weights) (now points) (now marks)) c (now point) ⌝ }
     ensures { λ r. ⌜ PointWritten
-        (patchLists (now (positions .entry)) (now (faces .entry)) (now (twins .entry)) (now (weights .entry)) (now (points .entry)) (now (marks .entry)))
+        (patchLists (now (faces .entry)) (now (values .entry)) (now (links .entry)) (now (weights .entry)) (now (points .entry)) (now (marks .entry)))
         c (kindOf kind) (now (point .entry)) r (now (point .exit)) ⌝ }
 {
-    let p = point_values(positions, faces, twins, weights, points, marks, c, kind);
+    let p = point_values(faces, values, links, weights, points, marks, c, kind);
     let x = p.x;
     let y = p.y;
     let z = p.z;
@@ -131,59 +157,49 @@ fn write_point(
 
 // Writes point m of the patch of face g over the first three numbers of the list, and returns its mark.
 fn write_numbered(
-    positions: &[i32],
     faces: &[u16],
-    twins: &[u16],
-    weights: &[u16],
+    values: &[i32; 4096],
+    links: &[u16; 1024],
+    weights: &[u16; 1024],
     points: &[i32],
     marks: &[u8],
     g: usize,
     m: usize,
     point: &mut [i32],
 ) -> u8
-    requires { ⌜ ForNumbered (patchLists (now positions) (now faces) (now twins) (now weights) (now points) (now marks)) g m (now point) ⌝ }
+    requires { ⌜ ForNumbered (patchLists (now faces) (now values) (now links) (now weights) (now points) (now marks)) g m (now point) ⌝ }
     ensures { λ r. ⌜ NumberedWritten
-        (patchLists (now (positions .entry)) (now (faces .entry)) (now (twins .entry)) (now (weights .entry)) (now (points .entry)) (now (marks .entry)))
+        (patchLists (now (faces .entry)) (now (values .entry)) (now (links .entry)) (now (weights .entry)) (now (points .entry)) (now (marks .entry)))
         g m (now (point .entry)) r (now (point .exit)) ⌝ }
 {
     let kind = KINDS[m];
     let c = turned(OWNERS[m] as usize, 4 * g);
-    write_point(
-        positions,
-        faces,
-        twins,
-        weights,
-        points,
-        marks,
-        c,
-        kind,
-        point,
-    )
+    write_point(faces, values, links, weights, points, marks, c, kind, point)
 }
 
 // Writes the patch of face g over the first 48 numbers of its list, and its marks over the first 16 bytes of theirs.
 pub(crate) fn write_patch(
-    positions: &[i32],
     faces: &[u16],
-    twins: &[u16],
-    weights: &[u16],
+    values: &[i32; 4096],
+    links: &[u16; 1024],
+    weights: &[u16; 1024],
     points: &[i32],
     marks: &[u8],
     g: usize,
     patch: &mut [i32],
     exact: &mut [u8],
 )
-    requires { ⌜ ForPatch (patchLists (now positions) (now faces) (now twins) (now weights) (now points) (now marks)) g (now patch) (now exact) ⌝ }
+    requires { ⌜ ForPatch (patchLists (now faces) (now values) (now links) (now weights) (now points) (now marks)) g (now patch) (now exact) ⌝ }
     ensures { λ _. ⌜ PatchWritten
-        (patchLists (now (positions .entry)) (now (faces .entry)) (now (twins .entry)) (now (weights .entry)) (now (points .entry)) (now (marks .entry)))
+        (patchLists (now (faces .entry)) (now (values .entry)) (now (links .entry)) (now (weights .entry)) (now (points .entry)) (now (marks .entry)))
         g (now (patch .entry)) (now (exact .entry)) (now (patch .exit)) (now (exact .exit)) ⌝ }
 {
     for m in 0..16 {
         let at = 3 * m;
         exact[m] = write_numbered(
-            positions,
             faces,
-            twins,
+            values,
+            links,
             weights,
             points,
             marks,

@@ -24,7 +24,8 @@ use Rattle.sample.specs.declared.model.Point.{Point}
 use Rattle.sample.specs.declared.model.MarkedPoint.{MarkedPoint}
 use Rattle.sample.proofs.SampleLaws.{rounded-ext}
 use Rattle.sample.proofs.RefusalLaws.{place-on}
-use Rattle.patch.specs.Patch.{patchPoint, units, view, patchesAfter, marksAfter}
+use Rattle.control.specs.Control.{units}
+use Rattle.patch.specs.Patch.{patchPoint, view, patchesAfter, marksAfter}
 use Rattle.patch.proofs.PointLaws.{patch-divisor}
 use Rattle.symmetry.proofs.WellFormedMoves.{alike-well-formed}
 use Rattle.correspondence.proofs.PointMoves.{patch-moves}

@@ -6,7 +6,7 @@ use Rattle.integer.proofs.NearestLaws.{nearest-meets}
 use Rattle.sample.specs.Bernstein.{numerator, rounded}
 use Rattle.sample.proofs.SampleLaws.{rounded-near}
 use Rattle.mask.specs.Mask.{Fraction}
-use Rattle.patch.specs.Patch.{units}
+use Rattle.control.specs.Control.{units}
 
 pub distance : (n a b : ℕ) → 0 < n → a ≤ n → b ≤ n → (g : ℕ → Fraction) (L : ℕ) (q : ℕ → ℕ)
     → ((m : ℕ) → m < 16 → 0 < g m .den) → ((m : ℕ) → m < 16 → L ≡ g m .den * q m)

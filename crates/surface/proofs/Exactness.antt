@@ -10,7 +10,8 @@ use Rattle.mesh.specs.IndexedMesh.{IndexedMesh}
 use Rattle.sample.specs.Bernstein.{controlAt, coordinateAt}
 use Rattle.sample.specs.Marked.{sampleExact}
 use Rattle.sample.proofs.ExactLaws.{exact-sample, exact-byte, exact-division}
-use Rattle.patch.specs.Patch.{exactly, patchesAfter, pointExact, marksAfter}
+use Rattle.control.specs.Control.{exactly}
+use Rattle.patch.specs.Patch.{patchesAfter, pointExact, marksAfter}
 use Rattle.patch.proofs.WrittenLaws.{written-at, mark-at, indicator-set}
 use Rattle.surface.specs.Claim.{unrounded, Multiples, exactSum}
 use Rattle.surface.specs.declared.model.SamplePlace.{SamplePlace}

@@ -13,7 +13,8 @@ use Rattle.mesh.proofs.CornerLaws.{turn-none, turn-next}
 use Rattle.sample.specs.Bernstein.{numerator, rounded}
 use Rattle.sample.proofs.SampleLaws.{numerator-ext, numerator-turn}
 use Rattle.patch.specs.Point.{View}
-use Rattle.patch.specs.Patch.{units, controlValue}
+use Rattle.control.specs.Control.{units}
+use Rattle.patch.specs.Patch.{controlValue}
 use Rattle.patch.proofs.TurnedLaws.{patch-turned}
 use Rattle.surface.specs.Renumbering.{Place, place, matching, onSide}
 

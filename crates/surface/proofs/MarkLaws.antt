@@ -24,7 +24,8 @@ use Rattle.mesh.proofs.CornerLaws.{turn-none, turn-next}
 use Rattle.sample.specs.Marked.{patchMarked, divisionWhole, sampleExact}
 use Rattle.sample.proofs.SampleLaws.{numerator-ext}
 use Rattle.patch.specs.Point.{View}
-use Rattle.patch.specs.Patch.{patchPoint, units, exactly, view, patchesAfter, pointExact, marksAfter}
+use Rattle.control.specs.Control.{units, exactly}
+use Rattle.patch.specs.Patch.{patchPoint, view, patchesAfter, pointExact, marksAfter}
 use Rattle.patch.proofs.TurnedLaws.{turned, patch-turned}
 use Rattle.patch.proofs.WrittenLaws.{written-at, mark-at, indicator-one}
 use Rattle.surface.specs.Renumbering.{Place, matching}

@@ -13,7 +13,8 @@ use Rattle.mesh.proofs.TwinLaws.{twin-ends, twin-twin}
 use Rattle.mesh.specs.Tables.{Corners}
 use Rattle.sample.proofs.SampleLaws.{rounded-edge-flip}
 use Rattle.patch.specs.Point.{View, sharp, cornerPoint, edgePoint, alongPoint, beforePoint, point}
-use Rattle.patch.specs.Patch.{owner, kind, patchPoint, units, controlValue}
+use Rattle.control.specs.Control.{units}
+use Rattle.patch.specs.Patch.{owner, kind, patchPoint, controlValue}
 use Rattle.patch.proofs.NeighbourLaws.{twin-below}
 use Rattle.surface.specs.Renumbering.{place, onSide}
 use Rattle.surface.proofs.FaceSamples.{sampleFrom, sample-side}

@@ -14,7 +14,8 @@ use Rattle.mesh.proofs.CornerLaws.{prev-next, turn-none, turn-next}
 use Rattle.mesh.proofs.TwinLaws.{twin-ends, twin-twin}
 use Rattle.mask.specs.Mask.{innerMask, edgeMask}
 use Rattle.patch.specs.Point.{View, x, weight, sharp, innerPoint, edgePoint, alongPoint, point}
-use Rattle.patch.specs.Patch.{owner, kind, patchPoint, units, controlValue}
+use Rattle.control.specs.Control.{units}
+use Rattle.patch.specs.Patch.{owner, kind, patchPoint, controlValue}
 use Rattle.tangent.specs.Vector.{twinOf, cornerVector, endVector, middleVector, difference, cosineAt, correctedDivisor, startTerm, endTerm, startInto, endInto}
 use Rattle.tangent.specs.Document.{steps}
 use Rattle.tangent.proofs.DocumentLaws.{steps-back, first-back}

@@ -20,7 +20,8 @@ use Rattle.symmetry.proofs.VertexMoves.{valence-moves}
 use Rattle.symmetry.proofs.FanMoves.{iterate-moves}
 use Rattle.symmetry.proofs.WellFormedMoves.{Alike, sound}
 use Rattle.patch.specs.Point.{View, x, sharp}
-use Rattle.patch.specs.Patch.{units, controlValue}
+use Rattle.control.specs.Control.{units}
+use Rattle.patch.specs.Patch.{controlValue}
 use Rattle.patch.proofs.Related.{valued}
 use Rattle.correspondence.proofs.PointMoves.{twin-same, patch-moves}
 use Rattle.cosine.specs.Cosine.{scale, cosine}

@@ -18,9 +18,9 @@ use Rattle.mesh.proofs.BoundaryLaws.{InnerVertex}
 use Rattle.mesh.proofs.AcceptedLaws.{accepted-corners}
 use Rattle.mask.specs.Mask.{cornerWeight}
 use Rattle.patch.specs.Point.{View, weight, sharp}
-use Rattle.patch.specs.Patch.{shape, view, units}
+use Rattle.patch.specs.Patch.{shape, view}
 use Rattle.patch.proofs.NeighbourLaws.{twin-below}
-use Rattle.control.specs.Control.{linkAt, edgeAt}
+use Rattle.control.specs.Control.{linkAt, edgeAt, units}
 use Rattle.tangent.specs.Vector.{twinOf, facesAt, endVector}
 use Rattle.tangent.specs.Answer.{faceOpen}
 use Rattle.tangent.specs.Told.{Part, atStart, atEnd, near, far, innerNear, innerFar, vectorAt, partTold}

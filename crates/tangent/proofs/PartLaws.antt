@@ -8,7 +8,8 @@ use lib.IntN.{ℤ}
 use Rattle.corner.specs.Corner.{next}
 use Rattle.mesh.proofs.CornerLaws.{turn-none, prev-next}
 use Rattle.patch.specs.Point.{View, sharp, point, innerPoint, edgePoint, alongPoint, beforePoint}
-use Rattle.patch.specs.Patch.{owner, kind, patchPoint, units, controlValue}
+use Rattle.patch.specs.Patch.{owner, kind, patchPoint, controlValue}
+use Rattle.control.specs.Control.{units}
 use Rattle.tangent.specs.Vector.{twinOf, cornerVector, endVector}
 use Rattle.tangent.specs.Told.{Part, atStart, atEnd, near, far, innerNear, innerFar}
 

@@ -7,7 +7,8 @@ use native.Mathlib.Omega.{arith}
 use Rattle.corner.specs.Corner.{turn, next}
 use Rattle.mesh.proofs.CornerLaws.{turn-none, turn-suc, turn-mod}
 use Rattle.patch.specs.Point.{View}
-use Rattle.patch.specs.Patch.{units, controlValue}
+use Rattle.patch.specs.Patch.{controlValue}
+use Rattle.control.specs.Control.{units}
 use Rattle.patch.proofs.TurnedLaws.{patch-turned}
 
 abbrev nextPoint : ℕ → ℕ

@@ -33,33 +33,33 @@ module _ (c : tie.In-loop Inv-loop μ-loop) where
 loop-holds : tie.Need-loop-holds Inv-loop μ-loop
 loop-holds c = filling-none
 
-is-sharp-requires : tie.Need-is-sharp-requires Inv-loop μ-loop
-is-sharp-requires c κs = omega (arith, below c, start c .pre .twins-listed)
-
-turned-requires : tie.Need-turned-requires Inv-loop μ-loop
-turned-requires c κs = omega arith
+prev-corner-requires : tie.Need-prev-corner-requires Inv-loop μ-loop
+prev-corner-requires c κs = tt
 
 is-boundary-requires : tie.Need-is-boundary-requires Inv-loop μ-loop
 is-boundary-requires c κs =
-    let t = c .before .before in
-    rw (c .turned .ensures) (omega (arith, before-below t, start t .pre .twins-listed))
+    let t = c .before in
+    rw (c .prev-corner .ensures) (omega (arith, before-below t, start t .pre .twins-listed))
+
+is-sharp-requires : tie.Need-is-sharp-requires Inv-loop μ-loop
+is-sharp-requires c κs = let t = c .before .before in omega (arith, below t, start t .pre .twins-listed)
 
 ends-byte-requires : tie.Need-ends-byte-requires Inv-loop μ-loop
 ends-byte-requires c κs = tt
 
 -- ---- the end of a turn: the byte
 module _ (c : tie.After-ends-byte Inv-loop μ-loop) where
-  abbrev turned : tie.After-turned Inv-loop μ-loop
-  turned = c .before .before
+  abbrev tested : tie.After-is-boundary Inv-loop μ-loop
+  tested = c .before .before
 
   abbrev turn : tie.In-loop Inv-loop μ-loop
-  turn = turned .before .before
+  turn = tested .before .before
 
   byte : c .ends-byte .result ≡ endsIn (start turn .args .twins .now) (head turn .loop .c)
   byte =
       c .ends-byte .ensures
-      ∙ ap₂ endsByte (turned .before .is-sharp .ensures)
-      (c .before .is-boundary .ensures ∙ ap (boundaryIn (start turn .args .twins .now)) (turned .turned .ensures))
+      ∙ ap₂ endsByte (c .before .is-sharp .ensures)
+      (tested .is-boundary .ensures ∙ ap (boundaryIn (start turn .args .twins .now)) (tested .before .prev-corner .ensures))
 
 slice-write-ends : tie.Need-slice-write-ends Inv-loop μ-loop
 slice-write-ends c = let t = turn c in filling-room (start t .pre .room) (head t .loop .inv) (below t)
@@ -86,9 +86,9 @@ fill-ends-spec =
     Inv-loop
     μ-loop
     loop-holds
-    is-sharp-requires
-    turned-requires
+    prev-corner-requires
     is-boundary-requires
+    is-sharp-requires
     ends-byte-requires
     slice-write-ends
     add-c

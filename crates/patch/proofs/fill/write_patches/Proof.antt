@@ -22,23 +22,23 @@ record Written (D : PatchLists) (f : ℕ) (patches₀ : List ℤ) (exact₀ : Li
   marks-are : exact ≡ filled (writtenMark D) (16 * g) exact₀
 
 abbrev Inv-loop : tie.InvT-loop
-Inv-loop f positions faces twins weights points marks patches₀ exact₀ g₀ patches exact g =
-    Written (patchLists positions faces twins weights points marks) f patches₀ exact₀ patches exact g
+Inv-loop f faces values links weights points marks patches₀ exact₀ g₀ patches exact g =
+    Written (patchLists faces values links weights points marks) f patches₀ exact₀ patches exact g
 
 abbrev μ-loop : tie.MeasureT-loop
-μ-loop f positions faces twins weights points marks patches₀ exact₀ g₀ patches exact g = f - g
+μ-loop f faces values links weights points marks patches₀ exact₀ g₀ patches exact g = f - g
 
 -- the loop's head and the function's entry, from the parts that are lent
 abbrev head : tie.After-write-patch-arg2 Inv-loop μ-loop → tie.At-loop Inv-loop μ-loop
 head c = c .before .before .before
 
 abbrev start : tie.At-loop Inv-loop μ-loop → tie.Start Inv-loop μ-loop
-start l = let k = l .before .before .before in k .before .before .before
+start l = l .before .before .before .before
 
 abbrev lists : tie.Start Inv-loop μ-loop → PatchLists
 lists s =
     let a = s .args in
-    patchLists (a .positions .now) (a .faces .now) (a .twins .now) (a .weights .now) (a .points .now) (a .marks .now)
+    patchLists (a .faces .now) (a .values .now) (a .links .now) (a .weights .now) (a .points .now) (a .marks .now)
 
 loop-holds : tie.Need-loop-holds Inv-loop μ-loop
 loop-holds c =

@@ -10,28 +10,21 @@ use mir.Val.{toZ, ofZ}
 use borrow.Author.Needs.{needs}
 use Rattle.integer.proofs.Laws.{read-back}
 use Rattle.limits.specs.Limits.{maxCoordinate}
-use Rattle.patch.specs.Point.{View}
-use Rattle.patch.specs.Lists.{seen, nextCounts, prevCounts, sharpTermBy}
-use Rattle.patch.proofs.TableLaws.{sharp-term-size, term-none}
+use Rattle.patch.specs.Lists.{sharpTermBy}
+use Rattle.patch.proofs.TableLaws.{sharp-by-size, term-none}
 use Rattle.patch.proofs.sums.add_sharp.Statement.{statement}
 use Rattle.patch.proofs.sums.add_sharp.Tie as tie
 
 -- ---- the function's entry, from the test, and the term
-abbrev entry : tie.After-shared-slice-known3 → tie.Start
-entry c = c .before .before .before
+abbrev entry : tie.After-shared-slice-known2 → tie.Start
+entry c = c .before .before
 
 module _ (s : tie.Start) where
-  abbrev S : View
-  S = seen (s .args .positions .now) (s .args .faces .now) (s .args .k)
-
   abbrev term : ℤ
-  term = sharpTermBy S (s .args .ends .now) (s .args .c)
+  term = sharpTermBy (s .args .values .now) (s .args .ends .now) (s .args .k) (s .args .c)
 
   term-small : natAbs term ≤ 5 * maxCoordinate
-  term-small =
-      let t = s .pre .source in
-      let e = getD (s .args .ends .now) (s .args .c) 0 in
-      sharp-term-size S (t .placed .corners) (t .placed .small) (nextCounts e) (prevCounts e) (s .args .c) (t .below)
+  term-small = sharp-by-size (s .pre .source .bounded) (s .args .k) (s .args .c) (s .args .ends .now)
 
 shared-slice-read-if1 : tie.Need-shared-slice-read-if1
 shared-slice-read-if1 c = search needs
@@ -42,7 +35,7 @@ returns c =
     let s = entry (c .before) in
     let sums = s .args .sharp .now in
     let old = getD sums (s .args .p) (pos 0) in
-    sym (ap (λ (z : ℤ). set sums (s .args .p) (old +ℤ z)) (term-none (S s) (s .args .ends .now) (s .args .c) (c .if1 .taken))
+    sym (ap (λ (z : ℤ). set sums (s .args .p) (old +ℤ z)) (term-none (s .args .values .now) (s .args .ends .now) (s .args .k) (s .args .c) (c .if1 .taken))
     ∙ ap (set sums (s .args .p)) (+ℤ-idr old) ∙ set-getD sums (s .args .p) (pos 0))
 
 -- ---- the term is added

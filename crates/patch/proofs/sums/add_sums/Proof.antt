@@ -1,6 +1,7 @@
 -- `add_sums` meets its contract: each place has the sums of the terms passed at its vertex, and no sum of 1024 terms overflows.
 use mathlib.Core.Path.{_≡_, refl, ap}
 use Prim.Native.Nat.{ℕ, _-_, _*_, _<_, _≤_}
+use native.Mathlib.Nat.{lt-of-lt-of-le}
 use native.Mathlib.Numerals.{add-one-le, add-one-dec}
 use native.Mathlib.Omega.{arith}
 use lib.IntN.{ℤ, pos, natAbs, _+ℤ_}
@@ -11,33 +12,32 @@ use Rattle.integer.proofs.Laws.{read-back}
 use Rattle.finite.proofs.IntegerSum.{sumℤ-monoid}
 use Rattle.limits.specs.Limits.{maxVertices, maxCoordinate}
 use Rattle.mesh.specs.Tables.{vertexOf}
-use Rattle.patch.specs.Point.{View, ringTerm, ringSum}
-use Rattle.patch.specs.Lists.{seen, nextCounts, prevCounts, sharpTermBy, sharpSumBy}
+use Rattle.patch.specs.Lists.{ringTermBy, sharpTermBy, ringSumBy, sharpSumBy}
 use Rattle.patch.proofs.SumLaws.{Passed, scattered-none, scattered-place, scattered-more, scattered-all, scattered-bound}
-use Rattle.patch.proofs.TableLaws.{ring-term-size, sharp-term-size}
+use Rattle.patch.proofs.TableLaws.{ring-by-size, sharp-by-size}
 use Rattle.patch.proofs.sums.add_sums.Statement.{statement}
 use Rattle.patch.proofs.sums.add_sums.Tie as tie
 
 abbrev Inv-loop : tie.InvT-loop
-Inv-loop positions faces ends k ring₀ sharp₀ c₀ c-end ring sharp c =
-    Passed (pos 0) _+ℤ_ (vertexOf faces) (ringTerm (seen positions faces k)) (sharpTermBy (seen positions faces k) ends) c-end c ring₀ sharp₀ ring sharp
+Inv-loop faces values ends k ring₀ sharp₀ c₀ c-end ring sharp c =
+    Passed (pos 0) _+ℤ_ (vertexOf faces) (ringTermBy values k) (sharpTermBy values ends k) c-end c ring₀ sharp₀ ring sharp
 
 abbrev μ-loop : tie.MeasureT-loop
-μ-loop positions faces ends k ring₀ sharp₀ c₀ c-end ring sharp c = c-end - c
+μ-loop faces values ends k ring₀ sharp₀ c₀ c-end ring sharp c = c-end - c
 
 -- ---- the function's entry, and the sizes of the terms
 module _ (s : tie.Start Inv-loop μ-loop) where
-  abbrev S : View
-  S = seen (s .args .positions .now) (s .args .faces .now) (s .args .k)
+  abbrev ring-of : ℕ → ℤ
+  ring-of = ringTermBy (s .args .values .now) (s .args .k)
 
-  ring-term-small : (c : ℕ) → c < length (s .args .faces .now) → natAbs (ringTerm S c) ≤ 5 * maxCoordinate
-  ring-term-small = let k = s .pre .placed in ring-term-size S (k .corners) (k .small)
+  abbrev sharp-of : ℕ → ℤ
+  sharp-of = sharpTermBy (s .args .values .now) (s .args .ends .now) (s .args .k)
 
-  sharp-term-small : (c : ℕ) → c < length (s .args .faces .now) → natAbs (sharpTermBy S (s .args .ends .now) c) ≤ 5 * maxCoordinate
-  sharp-term-small c =
-      let k = s .pre .placed in
-      let e = getD (s .args .ends .now) c 0 in
-      sharp-term-size S (k .corners) (k .small) (nextCounts e) (prevCounts e) c
+  ring-term-small : (c : ℕ) → natAbs (ring-of c) ≤ 5 * maxCoordinate
+  ring-term-small c = ring-by-size (s .pre .bounded) (s .args .k) c
+
+  sharp-term-small : (c : ℕ) → natAbs (sharp-of c) ≤ 5 * maxCoordinate
+  sharp-term-small c = sharp-by-size (s .pre .bounded) (s .args .k) c (s .args .ends .now)
 
 -- ---- the vertex of corner c has a place in the tables, and the sums so far are small
 module _ (w : tie.After-wide Inv-loop μ-loop) where
@@ -61,13 +61,13 @@ module _ (w : tie.After-wide Inv-loop μ-loop) where
 
   ring-small : natAbs (getD (head .loop .ring) p (pos 0)) ≤ 5 * maxCoordinate * head .loop .c
   ring-small =
-      scattered-bound (vertexOf (start .args .faces .now)) p (ringTerm (S start)) (head .loop .c) (head .loop .inv .first-is) named
-      (λ d l. ring-term-small start d (omega (arith, below)))
+      scattered-bound (vertexOf (start .args .faces .now)) p (ring-of start) (head .loop .c) (head .loop .inv .first-is) named
+      (λ d _. ring-term-small start d)
 
   sharp-small : natAbs (getD (head .loop .sharp) p (pos 0)) ≤ 5 * maxCoordinate * head .loop .c
   sharp-small =
-      scattered-bound (vertexOf (start .args .faces .now)) p (sharpTermBy (S start) (start .args .ends .now)) (head .loop .c)
-      (head .loop .inv .second-is) named (λ d l. sharp-term-small start d (omega (arith, below)))
+      scattered-bound (vertexOf (start .args .faces .now)) p (sharp-of start) (head .loop .c)
+      (head .loop .inv .second-is) named (λ d _. sharp-term-small start d)
 
 loop-holds : tie.Need-loop-holds Inv-loop μ-loop
 loop-holds c =
@@ -85,20 +85,20 @@ wide-requires c κs = tt
 
 -- ---- the ring sum
 ring-term-requires : tie.Need-ring-term-requires Inv-loop μ-loop
-ring-term-requires c κs = let w = c .before in record { placed = start w .pre .placed; corner = below w }
+ring-term-requires c κs = tt
 
 module _ (c : tie.After-ring-term Inv-loop μ-loop) where
   abbrev placed : tie.After-wide Inv-loop μ-loop
   placed = c .before .before
 
-  ring-read : toZ w64 (ofZ w64 (c .ring-term .result)) ≡ ringTerm (S (start placed)) (head placed .loop .c)
+  ring-read : toZ w64 (ofZ w64 (c .ring-term .result)) ≡ ring-of (start placed) (head placed .loop .c)
   ring-read = read-back w64 (c .ring-term .ok) (c .ring-term .ensures)
 
 add-at-requires : tie.Need-add-at-requires Inv-loop μ-loop
 add-at-requires c κs =
     let w = placed c in (
       scattered-place (start w .pre .ring-blank) (head w .loop .inv .first-is) (named w),
-      rw (ring-read c) (omega (arith, ring-small w, few w, ring-term-small (start w) (head w .loop .c) (below w))),
+      rw (ring-read c) (omega (arith, ring-small w, few w, ring-term-small (start w) (head w .loop .c))),
     )
 
 -- ---- the sharp sum
@@ -114,7 +114,7 @@ add-sharp-requires c κs =
     let w = turn c in
     let s = start w in
     record {
-      source = record { placed = s .pre .placed; ends-listed = s .pre .ends-listed; below = below w };
+      source = record { bounded = s .pre .bounded; listed = lt-of-lt-of-le (below w) (s .pre .ends-listed) };
       place = scattered-place (s .pre .sharp-blank) (head w .loop .inv .second-is) (named w);
       small = omega (arith, sharp-small w, few w);
     }
@@ -150,7 +150,7 @@ same-length-2 : tie.Need-same-length-2 Inv-loop μ-loop
 same-length-2 c = c .before .loop .inv .second-is .long
 
 returns : tie.Need-returns Inv-loop μ-loop
-unfolding ringSum sharpSumBy
+unfolding ringSumBy sharpSumBy
 returns c =
     let inv = c .before .loop .inv in
     record {

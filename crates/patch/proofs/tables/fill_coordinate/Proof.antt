@@ -13,12 +13,10 @@ use mir.Val.{toZ, ofZ}
 use Rattle.integer.proofs.Laws.{read-back}
 use Rattle.limits.specs.Limits.{maxVertices}
 use Rattle.mask.specs.Mask.{Fraction}
-use Rattle.patch.specs.Point.{View, ringSum}
-use Rattle.patch.specs.Patch.{units}
-use Rattle.patch.specs.Lists.{sharpSumBy}
-use Rattle.patch.specs.Values.{valueOf}
-use Rattle.patch.specs.PatchTables.{CornerLists, cornerLists, seenIn, Coordinate, ruledPoint}
-use Rattle.patch.specs.declared.fraction.Value.{Value}
+use Rattle.control.specs.Control.{units}
+use Rattle.patch.specs.Lists.{ringSumBy, sharpSumBy}
+use Rattle.patch.specs.PatchTables.{CornerLists, cornerLists, Coordinate, storedOf, ruledPoint}
+use Rattle.patch.specs.declared.tables.Stored.{Stored}
 use Rattle.patch.proofs.TableLaws.{blank}
 use Rattle.patch.proofs.CornerTableLaws.{ruled-entries, coordinate-none, coordinate-more}
 use Rattle.patch.proofs.tables.fill_coordinate.Statement.{statement}
@@ -32,11 +30,11 @@ record Passed (q : ℕ → Fraction) (v k : ℕ) (points₀ : List ℤ) (marks�
   written : Coordinate q p k points₀ points marks₀ marks
 
 abbrev Inv-loop : tie.InvT-loop
-Inv-loop v positions faces ends rules k points₀ marks₀ ring sharp p₀ points marks p =
-    Passed (ruledPoint (cornerLists positions faces ends rules) k) v k points₀ marks₀ points marks p
+Inv-loop v positions faces values ends rules k points₀ marks₀ ring sharp p₀ points marks p =
+    Passed (ruledPoint (cornerLists positions faces values ends rules) k) v k points₀ marks₀ points marks p
 
 abbrev μ-loop : tie.MeasureT-loop
-μ-loop v positions faces ends rules k points₀ marks₀ ring sharp p₀ points marks p = v - p
+μ-loop v positions faces values ends rules k points₀ marks₀ ring sharp p₀ points marks p = v - p
 
 -- ---- the sums are made: the function's entry, from the first of their tables
 abbrev made : tie.After-ring Inv-loop μ-loop → tie.Start Inv-loop μ-loop
@@ -55,7 +53,7 @@ add-sums-requires c κs =
     record {
       indices = t .indices;
       ends-listed = t .ends-listed;
-      placed = t .placed (s .args .k) (s .pre .axis);
+      bounded = t .bounded;
       ring-blank = blank (pos 0);
       sharp-blank = blank (pos 0);
     }
@@ -75,10 +73,9 @@ module _ (l : tie.At-loop Inv-loop μ-loop) where
   sharp = summed .add-sums .last .1 .1 .1 .1 .1 .0
 
   abbrev lists : CornerLists
-  lists = cornerLists (start .args .positions .now) (start .args .faces .now) (start .args .ends .now) (start .args .rules .now)
-
-  abbrev S : View
-  S = seenIn lists (start .args .k)
+  lists =
+      let a = start .args in
+      cornerLists (a .positions .now) (a .faces .now) (a .values .now) (a .ends .now) (a .rules .now)
 
   abbrev point : ℕ → Fraction
   point = ruledPoint lists (start .args .k)
@@ -106,8 +103,8 @@ mul-i c = omega (arith, few c)
 add-i : tie.Need-add-i Inv-loop μ-loop
 add-i c = omega (arith, few c, entry c .pre .axis)
 
-coordinate-requires : tie.Need-coordinate-requires Inv-loop μ-loop
-coordinate-requires c κs = omega (arith, below c, entry c .pre .axis, entry c .pre .source .positions-listed)
+position-requires : tie.Need-position-requires Inv-loop μ-loop
+position-requires c κs = tt
 
 shared-slice-read-corner-point : tie.Need-shared-slice-read-corner-point Inv-loop μ-loop
 shared-slice-read-corner-point c = let t = c .before .before in lt-of-lt-of-le (below t) (entry t .pre .source .rules-listed)
@@ -126,7 +123,7 @@ array-copy-out-corner-point-2 c = few (c .before .before .before)
 
 -- ---- at the call of `corner_point`: what was read for vertex p
 module _ (c : tie.After-corner-point-arg2 Inv-loop μ-loop) where
-  abbrev valued : tie.After-coordinate Inv-loop μ-loop
+  abbrev valued : tie.After-position Inv-loop μ-loop
   valued = c .before .before .before
 
   abbrev turn : tie.In-loop Inv-loop μ-loop
@@ -135,13 +132,14 @@ module _ (c : tie.After-corner-point-arg2 Inv-loop μ-loop) where
   abbrev head : tie.At-loop Inv-loop μ-loop
   head = turn .before
 
-  value-read : toZ w32 (ofZ w32 (valued .coordinate .result)) ≡ S head .value (p head)
-  value-read = read-back w32 (valued .coordinate .ok) (valued .coordinate .ensures)
+  value-read : toZ w32 (ofZ w32 (valued .position .result)) ≡ getD (lists head .positions) (3 * p head + start head .args .k) (pos 0)
+  value-read = read-back w32 (valued .position .ok) (valued .position .ensures)
 
-  ring-read : toZ w64 (ofZ w64 (getD (ring head) (p head) (pos 0))) ≡ ringSum (S head) (p head)
+  ring-read : toZ w64 (ofZ w64 (getD (ring head) (p head) (pos 0))) ≡ ringSumBy (lists head .faces) (lists head .values) (start head .args .k) (p head)
   ring-read = read-back w64 (c .before .corner-point-arg .given) (summed head .add-sums .ensures .ring-are (p head) (few turn))
 
-  sharp-read : toZ w64 (ofZ w64 (getD (sharp head) (p head) (pos 0))) ≡ sharpSumBy (S head) (start head .args .ends .now) (p head)
+  sharp-read : toZ w64 (ofZ w64 (getD (sharp head) (p head) (pos 0)))
+      ≡ sharpSumBy (lists head .faces) (lists head .values) (lists head .ends) (start head .args .k) (p head)
   sharp-read = read-back w64 (c .corner-point-arg2 .given) (summed head .add-sums .ensures .sharp-are (p head) (few turn))
 
 corner-point-requires : tie.Need-corner-point-requires Inv-loop μ-loop
@@ -157,13 +155,13 @@ module _ (c : tie.After-struct-told Inv-loop μ-loop) where
   abbrev at : tie.At-loop Inv-loop μ-loop
   at = head asked
 
-  value-is : c .before .corner-point .result ≡ valueOf (point at (p at))
+  value-is : c .before .corner-point .result ≡ storedOf (point at (p at))
   value-is =
       c .before .corner-point .ensures
-      ∙ ap valueOf (ruled-entries (lists at) (start at .args .k) (p at) _ _ _ (value-read asked) (ring-read asked) (sharp-read asked))
+      ∙ ap storedOf (ruled-entries (lists at) (start at .args .k) (p at) _ _ _ (value-read asked) (ring-read asked) (sharp-read asked))
 
   units-is : toZ w32 (ofZ w32 (c .before .corner-point .result .units)) ≡ units (point at (p at))
-  units-is = read-back w32 (c .struct-told .given .0 .1) (ap (λ (v : Value). v .units) value-is)
+  units-is = read-back w32 (c .struct-told .given .0 .1) (ap (λ (v : Stored). v .units) value-is)
 
   placed : 3 * p at + start at .args .k < length (at .loop .points)
   placed = let s = start at in omega (arith, below (turn asked), s .pre .axis, s .pre .points-room, at .loop .inv .points-long)
@@ -201,7 +199,7 @@ loop-again c =
     let t = told c in
     let l = at t in
     let s = start l in
-    let stays = ap (λ (v : Value). cond (v .exact) (getD (l .loop .marks) (p l) 0) 0) (value-is t) in
+    let stays = ap (λ (v : Stored). cond (v .exact) (getD (l .loop .marks) (p l) 0) 0) (value-is t) in
     record {
       most = add-one-le (below (turn (asked t)));
       points-long = length-set (l .loop .points) _ _ ∙ l .loop .inv .points-long;
@@ -235,7 +233,7 @@ fill-coordinate-spec =
     loop-holds
     mul-i
     add-i
-    coordinate-requires
+    position-requires
     shared-slice-read-corner-point
     mul-corner-point
     array-copy-out-corner-point

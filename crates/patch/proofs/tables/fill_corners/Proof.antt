@@ -9,7 +9,7 @@ use lib.IntN.{ℤ}
 use lib.ListN.{length}
 use Rattle.finite.specs.Fold.{foldBelow}
 use Rattle.mask.specs.Mask.{Fraction}
-use Rattle.patch.specs.PatchTables.{cornerLists, CornerPoints, ruledPoint}
+use Rattle.patch.specs.PatchTables.{CornerLists, cornerLists, CornerPoints, ruledPoint}
 use Rattle.patch.proofs.CornerTableLaws.{corners-more}
 use Rattle.patch.proofs.tables.fill_corners.Statement.{statement}
 use Rattle.patch.proofs.tables.fill_corners.Tie as tie
@@ -22,11 +22,11 @@ record Passed (q : ℕ → ℕ → Fraction) (v : ℕ) (points₀ : List ℤ) (m
   written : CornerPoints q v k points marks
 
 abbrev Inv-loop : tie.InvT-loop
-Inv-loop v positions faces ends rules points₀ marks₀ k₀ points marks k =
-    Passed (ruledPoint (cornerLists positions faces ends rules)) v points₀ marks₀ points marks k
+Inv-loop v positions faces values ends rules points₀ marks₀ k₀ points marks k =
+    Passed (ruledPoint (cornerLists positions faces values ends rules)) v points₀ marks₀ points marks k
 
 abbrev μ-loop : tie.MeasureT-loop
-μ-loop v positions faces ends rules points₀ marks₀ k₀ points marks k = 3 - k
+μ-loop v positions faces values ends rules points₀ marks₀ k₀ points marks k = 3 - k
 
 loop-holds : tie.Need-loop-holds Inv-loop μ-loop
 unfolding foldBelow
@@ -38,6 +38,11 @@ loop-holds c =
       marks-long = refl;
       written = record { points-are = λ k p b l. absurd (not-suc-le-zero b); marks-are = s .pre .marked };
     }
+
+abbrev lists : tie.Start Inv-loop μ-loop → CornerLists
+lists s =
+    let a = s .args in
+    cornerLists (a .positions .now) (a .faces .now) (a .values .now) (a .ends .now) (a .rules .now)
 
 -- ---- a turn: the loop's head and the function's entry
 module _ (c : tie.In-loop Inv-loop μ-loop) where
@@ -84,10 +89,10 @@ loop-again c =
     let one = written c .fill-coordinate in
     record {
       most = add-one-le (below t);
-      points-long = one .kept .1 .1 .1 .1 .1 .1 .0 ∙ inv .points-long;
-      marks-long = one .kept .1 .1 .1 .1 .1 .1 .1 .0 ∙ inv .marks-long;
+      points-long = one .kept .1 .1 .1 .1 .1 .1 .1 .0 ∙ inv .points-long;
+      marks-long = one .kept .1 .1 .1 .1 .1 .1 .1 .1 .0 ∙ inv .marks-long;
       written =
-          corners-more (ruledPoint (cornerLists (s .args .positions .now) (s .args .faces .now) (s .args .ends .now) (s .args .rules .now)))
+          corners-more (ruledPoint (lists s))
           (s .args .v) (head t .loop .k) (below t) (inv .written) (one .ensures);
     }
 

@@ -15,11 +15,11 @@ use Rattle.patch.proofs.writer.write_numbered.Tie as tie
 abbrev lists : tie.Start → PatchLists
 lists s =
     let a = s .args in
-    patchLists (a .positions .now) (a .faces .now) (a .twins .now) (a .weights .now) (a .points .now) (a .marks .now)
+    patchLists (a .faces .now) (a .values .now) (a .links .now) (a .weights .now) (a .points .now) (a .marks .now)
 
 -- ---- the way back from the table's entry and from the call
 abbrev start : tie.After-kind → tie.Start
-start c = let k = c .before .before in k .before .before .before
+start c = c .before .before .before
 
 abbrev called : tie.After-write-point → tie.After-turned
 called c = c .before .before

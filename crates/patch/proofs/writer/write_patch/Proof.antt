@@ -20,11 +20,11 @@ record Written (D : PatchLists) (g : ℕ) (patch₀ : List ℤ) (exact₀ : List
   marks-are : exact ≡ filled (markFrom D g) m exact₀
 
 abbrev Inv-loop : tie.InvT-loop
-Inv-loop positions faces twins weights points marks g patch₀ exact₀ m₀ patch exact m =
-    Written (patchLists positions faces twins weights points marks) g patch₀ exact₀ patch exact m
+Inv-loop faces values links weights points marks g patch₀ exact₀ m₀ patch exact m =
+    Written (patchLists faces values links weights points marks) g patch₀ exact₀ patch exact m
 
 abbrev μ-loop : tie.MeasureT-loop
-μ-loop positions faces twins weights points marks g patch₀ exact₀ m₀ patch exact m = 16 - m
+μ-loop faces values links weights points marks g patch₀ exact₀ m₀ patch exact m = 16 - m
 
 -- ---- in the loop: the entry, the number that belongs at place i, and the part of the list that is lent is long enough
 module _ (c : tie.In-loop Inv-loop μ-loop) where
@@ -32,12 +32,12 @@ module _ (c : tie.In-loop Inv-loop μ-loop) where
   head = c .before
 
   abbrev start : tie.Start Inv-loop μ-loop
-  start = let k = head .before .before in k .before .before .before .before
+  start = head .before .before .before .before
 
   abbrev lists : PatchLists
   lists =
       let a = start .args in
-      patchLists (a .positions .now) (a .faces .now) (a .twins .now) (a .weights .now) (a .points .now) (a .marks .now)
+      patchLists (a .faces .now) (a .values .now) (a .links .now) (a .weights .now) (a .points .now) (a .marks .now)
 
   room : 3 * head .loop .m + 3 ≤ length (start .args .patch .now)
   room = omega (arith, start .pre .patch-room, c .loop-test .taken)

@@ -9,7 +9,7 @@ use borrow.Author.Needs.{needs}
 use Rattle.integer.proofs.Laws.{read-back}
 use Rattle.finite.specs.Fold.{indicator}
 use Rattle.patch.specs.Written.{PatchLists, patchLists, kindOf, pointFrom}
-use Rattle.patch.specs.declared.fraction.ControlPoint.{ControlPoint}
+use Rattle.patch.specs.declared.writer.PatchPoint.{PatchPoint}
 use Rattle.patch.proofs.FacePointLaws.{filled-three}
 use Rattle.patch.proofs.writer.write_point.Statement.{statement}
 use Rattle.patch.proofs.writer.write_point.Tie as tie
@@ -18,14 +18,14 @@ use Rattle.patch.proofs.writer.write_point.Tie as tie
 abbrev lists : tie.Start → PatchLists
 lists s =
     let a = s .args in
-    patchLists (a .positions .now) (a .faces .now) (a .twins .now) (a .weights .now) (a .points .now) (a .marks .now)
+    patchLists (a .faces .now) (a .values .now) (a .links .now) (a .weights .now) (a .points .now) (a .marks .now)
 
 -- ---- the call that gave the point, and the function's entry
 abbrev made : tie.After-struct-told → tie.After-point-values
 made c = c .before
 
-abbrev start : tie.After-shared-slice-known4 → tie.Start
-start c = c .before .before .before .before
+abbrev start : tie.After-shared-slice-known2 → tie.Start
+start c = c .before .before
 
 point-values-requires : tie.Need-point-values-requires
 point-values-requires c κs = start c .pre .values
@@ -54,10 +54,10 @@ returns c =
     record {
       numbers-are =
           filled-three f (s .args .point .now) (s .pre .room)
-          (read-back w32 (told .struct-told .given .0 .1) (ap (λ (p : ControlPoint). p .x) (v .point-values .ensures)))
-          (read-back w32 (told .struct-told .given .1 .0 .1) (ap (λ (p : ControlPoint). p .y) (v .point-values .ensures)))
-          (read-back w32 (told .struct-told .given .1 .1 .0 .1) (ap (λ (p : ControlPoint). p .z) (v .point-values .ensures)));
-      mark-is = c .mark .ensures ∙ ap (λ (p : ControlPoint). indicator (p .exact)) (v .point-values .ensures);
+          (read-back w32 (told .struct-told .given .0 .1) (ap (λ (p : PatchPoint). p .x) (v .point-values .ensures)))
+          (read-back w32 (told .struct-told .given .1 .0 .1) (ap (λ (p : PatchPoint). p .y) (v .point-values .ensures)))
+          (read-back w32 (told .struct-told .given .1 .1 .0 .1) (ap (λ (p : PatchPoint). p .z) (v .point-values .ensures)));
+      mark-is = c .mark .ensures ∙ ap (λ (p : PatchPoint). indicator (p .exact)) (v .point-values .ensures);
     }
 
 pub write-point-spec : {M : Type 1} → statement M
