@@ -1,6 +1,6 @@
--- What the points of a patch are read from: the listed twins tell which half-edges are sharp, the values of the faces at a corner make its
--- points, two tables tell which point of which corner each of the sixteen is, and three coordinates make a point.
-use mathlib.Core.Path.{_≡_, refl, ap, subst}
+-- What the points of a patch are read from: the listed twins tell which half-edges are sharp, two tables tell which point of which corner each of
+-- the sixteen is, and three coordinates make a point.
+use mathlib.Core.Path.{_≡_, refl, ap}
 use mathlib.Core.Bool.{Bool}
 use mathlib.Core.List.{List, [], _∷_, map}
 use Prim.Native.Nat.{ℕ, zero, suc, _+_, _*_, _/_, _%_, _≤_, _<_}
@@ -8,24 +8,18 @@ use native.Mathlib.Nat.{not-suc-le-zero}
 use native.Mathlib.Omega.{arith}
 use lib.Dec.{eqb, ltb}
 use lib.IntN.{ℤ}
-use lib.ListN.{length, getD, set}
+use lib.ListN.{length, getD}
 use borrow.Author.Tests.{ltb-true}
 use Rattle.finite.specs.Fold.{foldBelow}
-use Rattle.finite.specs.Filled.{filled}
 use Rattle.finite.proofs.AnyAll.{all-true}
-use Rattle.finite.proofs.FilledLaws.{filled-start, filled-more}
 use Rattle.limits.specs.Limits.{noTwin}
 use Rattle.corner.specs.Corner.{turn}
 use Rattle.mesh.specs.HalfEdge.{boundary}
 use Rattle.mesh.proofs.CornerLaws.{turn-below}
 use Rattle.mesh.specs.Tables.{vertexOf}
-use Rattle.mask.specs.Mask.{Fraction, innerMask, edgeMask}
-use Rattle.mask.specs.declared.model.Fraction as code
-use Rattle.mask.specs.declared.model.FaceValues.{FaceValues}
-use Rattle.patch.specs.Point.{View, weight, sharp, innerPoint, edgePoint}
+use Rattle.patch.specs.Point.{sharp}
 use Rattle.patch.specs.Patch.{owner, kind}
 use Rattle.patch.specs.Lists.{shapeOf, boundaryIn, sharpIn, Twins}
-use Rattle.patch.specs.Values.{SeenFrom, Made}
 use Rattle.patch.specs.Written.{PatchLists, Source, pointFrom, numberFrom}
 use Rattle.patch.specs.declared.writer.PatchPoint.{PatchPoint}
 
@@ -38,20 +32,6 @@ module _ {faces twins : List ℕ} (t : Twins faces twins) (c : ℕ) (l : c < len
   pub sharp-in : sharpIn twins c ≡ sharp (shapeOf faces) c
   unfolding sharp
   sharp-in = boundary-in
-
--- ---- the points, from the values of the faces
-pub made-is : {q q' : Fraction} {r : code.Fraction} → q ≡ q' → Made q r → Made q' r
-made-is {r = r} e m = subst (λ (q : Fraction). Made q r) e m
-
-pub inner-seen : (S : View) (c w : ℕ) (a : FaceValues) → w ≡ weight (S .shape) c → SeenFrom S c a
-    → innerMask w (a .here) (a .next) (a .prev) (a .across) ≡ innerPoint S c
-unfolding innerPoint
-inner-seen S c w a e h = rw (e, h .here-is, h .next-is, h .prev-is, h .across-is)
-
-pub edge-seen : (S : View) (c d w : ℕ) (a b : FaceValues) → w ≡ weight (S .shape) c → SeenFrom S c a → SeenFrom S d b
-    → edgeMask w (a .here) (a .next) (a .prev) (b .across) (a .across) (b .prev) ≡ edgePoint S c d
-unfolding edgePoint
-edge-seen S c d w a b e h g = rw (e, h .here-is, h .next-is, h .prev-is, g .across-is, h .across-is, g .prev-is)
 
 -- ---- the two tables of a patch
 -- the corner of a face that owns a point is one of its corners
@@ -80,11 +60,3 @@ table-at f b (x ∷ xs) a (suc m) l = table-at f b xs a m (omega arith)
 pub same-point : {x y z x' y' z' : ℤ} {e e' : Bool} → x ≡ x' → y ≡ y' → z ≡ z' → e ≡ e'
     → _≡_ {A = PatchPoint} (record { x = x; y = y; z = z; exact = e }) (record { x = x'; y = y'; z = z'; exact = e' })
 same-point p q r s = cc
-
--- three stores
-pub filled-three : {A : Type 0} (f : ℕ → A) (d : List A) {x y z : A} → 3 ≤ length d → x ≡ f 0 → y ≡ f 1 → z ≡ f 2
-    → set (set (set d 0 x) 1 y) 2 z ≡ filled f 3 d
-filled-three f d l p q r =
-    let first = filled-more f 0 _ d d (omega arith) (filled-start f d) p in
-    let second = filled-more f 1 _ d _ (omega arith) first q in
-    filled-more f 2 _ d _ (omega arith) second r

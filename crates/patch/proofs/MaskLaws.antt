@@ -1,5 +1,6 @@
--- What the masks give of coordinates within their range: a fraction within it, as the code's `Fraction` of it.
+-- What the masks give of coordinates within their range: a fraction within it.
 --
+--   Small a        the four values of a face are within the range of the coordinates
 --   Sized q        the divisor of q is above 0, and q within the range of the coordinates: `bounds` of `LinearLaws`, for a mask
 use mathlib.Core.Path.{_≡_, refl, sym, subst}
 use mathlib.Core.List.{List}
@@ -17,21 +18,21 @@ use Rattle.finite.proofs.FoldLaws.{bool-cases}
 use Rattle.limits.specs.Limits.{maxCoordinate, noTwin}
 use Rattle.corner.specs.Corner.{next, across, prev}
 use Rattle.mask.specs.Mask.{Fraction, innerMask, edgeMask, sharpCornerMask, maxSharpness, cornerMask}
-use Rattle.mask.specs.FractionOf.{fractionOf}
-use Rattle.mask.specs.declared.model.Fraction as code
 use Rattle.mask.specs.declared.model.FaceValues.{FaceValues}
 use Rattle.mask.proofs.LinearLaws.{Related, bounds, inner-mask, edge-mask, boundary-edge-mask, smooth-corner-mask, sharp-corner-mask}
 use Rattle.control.specs.Control.{units, pointOf, valueAt, weightAt, linkAt, faceAt, innerAt, edgeAt, linked, alongAt, beforeAt}
 use Rattle.control.specs.declared.model.ControlPoint.{ControlPoint}
-use Rattle.patch.specs.Values.{Small, Within, Made}
 use Rattle.patch.specs.PatchTables.{Bounded, Allowed}
 use Rattle.patch.specs.Written.{Narrow}
 
+pub record Small (a : FaceValues) : Type 0 where
+  pub here : natAbs (a .here) ≤ maxCoordinate
+  pub next : natAbs (a .next) ≤ maxCoordinate
+  pub across : natAbs (a .across) ≤ maxCoordinate
+  pub prev : natAbs (a .prev) ≤ maxCoordinate
+
 abbrev pub Sized : Fraction → Type 0
 Sized q = Related (λ k z _. natAbs z ≤ maxCoordinate * k) q q
-
-pub made : {q : Fraction} (r : code.Fraction) → Sized q → fractionOf r ≡ q → Made q r
-made r s e = record { is = e; within = subst Within (sym e) (record { positive = s .positive; small = s .related }) }
 
 pub inner-sized : (w : ℕ) (a : FaceValues) → Small a → Sized (innerMask w (a .here) (a .next) (a .prev) (a .across))
 inner-sized w a s = inner-mask (bounds maxCoordinate) w (s .here) (s .next) (s .prev) (s .across)

@@ -27,7 +27,7 @@ use Rattle.control.specs.Control.{valueAt, valuesAfter}
 use Rattle.control.proofs.ValuesLaws.{value-told, values-small}
 use Rattle.patch.specs.Point.{Shape, x, ringTerm, sharpTerm, valenceAt, inside, weight, sharp, sharpSum, ringSum}
 use Rattle.patch.specs.Patch.{shape, view}
-use Rattle.patch.specs.Lists.{shapeOf, Coordinates, endsByte, nextCounts, prevCounts, ringTermBy, sharpTermBy, ringSumBy, sharpSumBy}
+use Rattle.patch.specs.Lists.{shapeOf, endsByte, nextCounts, prevCounts, ringTermBy, sharpTermBy, ringSumBy, sharpSumBy}
 use Rattle.patch.specs.PatchTables.{Blank, endsOf, Bounded, Valued}
 use Rattle.patch.proofs.MaskLaws.{value-small}
 use Rattle.patch.proofs.NeighbourLaws.{sharp-neighbours}
@@ -133,13 +133,6 @@ module _ {M : IndexedMesh} (a : WellFormed M) where
   module _ (k : ℕ) (axis : k < 3) where
     corner-small : (c : ℕ) → c < corners M → natAbs (x (view M k) c) ≤ maxCoordinate
     corner-small c l = a .coordinates (3 * at M c + k) (omega (arith, a .named c l))
-
-    pub accepted-coordinates : Coordinates (M .positions) (M .indices) k
-    accepted-coordinates = record {
-      corners = rw accepted-whole (accepted-corners a);
-      listed = λ c l. omega (arith, a .named c (rw accepted-whole at l), a .sized .positions-are);
-      small = λ c l. corner-small c (rw accepted-whole at l);
-    }
 
     turn-size : (i c : ℕ) → c < corners M → natAbs (x (view M k) (turn i c)) ≤ maxCoordinate
     turn-size i c l = corner-small (turn i c) (turn-below (accepted-corners a) i c l)

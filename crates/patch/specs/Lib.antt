@@ -3,6 +3,5 @@ pub mod Point
 pub mod Patch
 pub mod Answer
 pub mod Lists
-pub mod Values
 pub mod PatchTables
 pub mod Written

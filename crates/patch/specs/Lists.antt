@@ -1,7 +1,6 @@
 -- What the lists that the code is lent say of a mesh, where its tags do not matter.
 --
---   shapeOf faces, seen positions faces k   the shape of a mesh and its coordinate k, by its lists
---   Coordinates positions faces k   every corner has a coordinate k, within its range
+--   shapeOf faces      the shape of a mesh, by its list of faces
 --   boundaryIn twins c, sharpIn twins c   half-edge c has no twin, and takes the boundary rule, by the list of twins
 --   Twins faces twins  the twins of all the half-edges are listed
 --   endsByte next prev   which neighbours of a corner count as far ends of sharp edges, as a byte: 1 the next vertex, 2 the previous one, 3 both, 0 none
@@ -12,28 +11,20 @@
 --   ringSumBy faces values k p, sharpSumBy faces values ends k p   both sums at vertex p
 use mathlib.Core.Bool.{Bool, cond}
 use mathlib.Core.List.{List}
-use Prim.Native.Nat.{ℕ, _+_, _*_, _%_, _≤_, _<_}
+use Prim.Native.Nat.{ℕ, _+_, _*_, _%_, _≤_}
 use lib.Dec.{eqb, ltb}
-use lib.IntN.{ℤ, pos, natAbs, _+ℤ_, _*ℤ_}
+use lib.IntN.{ℤ, pos, _+ℤ_, _*ℤ_}
 use lib.ListN.{length, getD}
 use Rattle.finite.specs.Fold.{indicator}
-use Rattle.limits.specs.Limits.{maxCoordinate, noTwin}
+use Rattle.limits.specs.Limits.{noTwin}
 use Rattle.corner.specs.Corner.{next, prev}
 use Rattle.mesh.specs.HalfEdge.{twin}
-use Rattle.mesh.specs.Tables.{Corners, Holds, vertexOf, twinOf}
+use Rattle.mesh.specs.Tables.{Holds, vertexOf, twinOf}
 use Rattle.control.specs.Control.{valueAt, faceAt}
-use Rattle.patch.specs.Point.{Shape, View, sumAt}
+use Rattle.patch.specs.Point.{Shape, sumAt}
 
 abbrev pub shapeOf : List ℕ → Shape
 shapeOf faces = record { n = length faces; at = vertexOf faces; tag = λ p. 0 }
-
-abbrev pub seen : List ℤ → List ℕ → ℕ → View
-seen positions faces k = record { shape = shapeOf faces; value = λ p. getD positions (3 * p + k) (pos 0) }
-
-pub record Coordinates (positions : List ℤ) (faces : List ℕ) (k : ℕ) : Type 0 where
-  pub corners : Corners (length faces)
-  pub listed : (c : ℕ) → c < length faces → 3 * vertexOf faces c + k < length positions
-  pub small : (c : ℕ) → c < length faces → natAbs (getD positions (3 * vertexOf faces c + k) (pos 0)) ≤ maxCoordinate
 
 abbrev pub boundaryIn : List ℕ → ℕ → Bool
 boundaryIn twins c = eqb (twinOf twins c) noTwin

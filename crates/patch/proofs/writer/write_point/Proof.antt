@@ -10,7 +10,7 @@ use Rattle.integer.proofs.Laws.{read-back}
 use Rattle.finite.specs.Fold.{indicator}
 use Rattle.patch.specs.Written.{PatchLists, patchLists, kindOf, pointFrom}
 use Rattle.patch.specs.declared.writer.PatchPoint.{PatchPoint}
-use Rattle.patch.proofs.FacePointLaws.{filled-three}
+use Rattle.finite.proofs.FilledLaws.{filled-start, filled-three}
 use Rattle.patch.proofs.writer.write_point.Statement.{statement}
 use Rattle.patch.proofs.writer.write_point.Tie as tie
 
@@ -53,7 +53,7 @@ returns c =
     let f : ℕ → ℤ = λ k. pointFrom (lists s) k (s .args .c) (kindOf (s .args .kind)) in
     record {
       numbers-are =
-          filled-three f (s .args .point .now) (s .pre .room)
+          filled-three f 0 (s .args .point .now) (s .args .point .now) (s .pre .room) (filled-start f (s .args .point .now))
           (read-back w32 (told .struct-told .given .0 .1) (ap (λ (p : PatchPoint). p .x) (v .point-values .ensures)))
           (read-back w32 (told .struct-told .given .1 .0 .1) (ap (λ (p : PatchPoint). p .y) (v .point-values .ensures)))
           (read-back w32 (told .struct-told .given .1 .1 .0 .1) (ap (λ (p : PatchPoint). p .z) (v .point-values .ensures)));
