@@ -1,17 +1,15 @@
 -- The rule of the cosines over the whole table: one test that is computed, and the law that turns it into the rule at each entry.
 use mathlib.Core.Path.{_≡_, refl, subst}
 use mathlib.Core.Bool.{Bool, true, not, _&&_}
-use mathlib.Core.List.{List, [], _∷_}
 use Prim.Native.Nat.{ℕ, zero, suc, _+_, _-_, _^_, _≤_, _<_}
-use native.Mathlib.Nat.{not-suc-le-zero, le-of-suc-le-suc}
 use native.Mathlib.Decide.{decLt}
 use native.Mathlib.Omega.{arith}
 use lib.Dec.{ltb, leb}
 use lib.IntN.{ℤ, pos, natAbs, _+ℤ_, _-ℤ_, _*ℤ_}
-use lib.ListN.{length, getD}
 use borrow.Author.Tests.{ltb-true, leb-true, not-true}
 use Rattle.finite.specs.Fold.{foldBelow, allBelow}
 use Rattle.finite.proofs.AnyAll.{and-true, all-true}
+use Rattle.finite.proofs.FilledLaws.{getD-past}
 use Rattle.cosine.specs.Cosine.{cosines, cosine, term, above, IsCosine, Entry}
 
 -- the rule of entry e for m as a test
@@ -39,11 +37,6 @@ cosine-rule m l h =
     (rule-by (3 + (m - 3)) (cosine (3 + (m - 3))) (all-true _ 30 all-cosines (m - 3) (omega arith)))
 
 -- ---- off the range
-getD-past : {A : Type 0} (xs : List A) (i : ℕ) (z : A) → length xs ≤ i → getD xs i z ≡ z
-getD-past [] i z l = refl
-getD-past (y ∷ xs) zero z l = absurd (not-suc-le-zero l)
-getD-past (y ∷ xs) (suc i) z l = getD-past xs i z (le-of-suc-le-suc l)
-
 cosine-before : (m : ℕ) → m ≤ 2 → cosine m ≡ pos 0
 unfolding cosine cosines
 cosine-before zero l = refl

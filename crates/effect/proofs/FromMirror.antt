@@ -17,6 +17,7 @@ use Rattle.integer.proofs.WholeLaws.{whole-odd}
 use Rattle.finite.specs.Fold.{allBelow}
 use Rattle.finite.specs.Filled.{listBelow}
 use Rattle.finite.specs.Permutation.{Permutation}
+use Rattle.finite.proofs.PermutationLaws.{same-numbers}
 use Rattle.finite.proofs.FoldLaws.{fold-ext, fold-reindex}
 use Rattle.finite.proofs.AnyAll.{all-monoid}
 use Rattle.finite.proofs.FilledLaws.{length-listBelow, listBelow-at, agree}
@@ -100,9 +101,6 @@ reflects : (k : ℕ) → Rounds (Reflects k)
 reflects k = record { linear = reflects-linear k; rounds = λ d {y} h e. ap (λ (t : ℤ). nearest t d) e ∙ nearest-reflected k y d h }
 
 -- ---- the image of a mesh
-same-numbers : (n : ℕ) → Permutation n
-same-numbers n = record { to = λ k. k; from = λ k. k; to-below = λ k l. l; from-below = λ k l. l; from-to = λ k l. refl; to-from = λ k l. refl }
-
 -- the points of a patch with i and j exchanged
 exchange : Permutation 16
 unfolding listBelow

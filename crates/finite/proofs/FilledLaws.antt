@@ -2,11 +2,11 @@
 use mathlib.Core.Path.{_≡_, refl, sym, ap, ap₂, _∙_}
 use mathlib.Core.List.{List, [], _∷_, _++_, append-assoc, append-nil}
 use Prim.Native.Nat.{ℕ, zero, suc, _+_, _-_, _<_, _≤_}
-use native.Mathlib.Nat.{add-zero, add-suc, le-antisymm, le-of-eq, not-suc-le-zero}
+use native.Mathlib.Nat.{add-zero, add-suc, le-antisymm, le-of-eq, not-suc-le-zero, le-of-suc-le-suc}
 use native.Mathlib.Numerals.{add-one}
 use native.Mathlib.Omega.{arith}
 use lib.ListN.{getD, drop, take, length, set, length-append, length-take, length-drop, drop-of-length-le, List·getD-append}
-use lib.Seq.{drop-cons, set-at, take-at, drop-at, getD-at, take-all, drop-drop, getD-append-add, getD-drop}
+use lib.Seq.{ext-getD, drop-cons, set-at, take-at, drop-at, getD-at, take-all, drop-drop, getD-append-add, getD-drop}
 use Rattle.finite.specs.Filled.{listBelow, filled}
 use Rattle.finite.proofs.FoldLaws.{lt-suc-cases}
 
@@ -129,3 +129,16 @@ module _ {A : Type 0} where
 
   pub behind-lent : (l : List A) (p : ℕ) → drop (length l - p) (drop p l) ≡ []
   behind-lent l p = drop-of-length-le (drop p l) (le-of-eq (length-drop p l))
+
+-- ---- any list
+-- what is read past its end
+pub getD-past : {A : Type 0} (xs : List A) (i : ℕ) (z : A) → length xs ≤ i → getD xs i z ≡ z
+getD-past [] i z l = refl
+getD-past (y ∷ xs) zero z l = absurd (not-suc-le-zero l)
+getD-past (y ∷ xs) (suc i) z l = getD-past xs i z (le-of-suc-le-suc l)
+
+-- a list by its length and what stands at each place
+pub list-below : {A : Type 0} (xs : List A) (z : A) (n : ℕ) (g : ℕ → A) → length xs ≡ n → ((i : ℕ) → i < n → getD xs i z ≡ g i) → xs ≡ listBelow g n
+list-below xs z n g e h =
+    ext-getD z xs (listBelow g n) (e ∙ sym (length-listBelow g n)) (λ i l.
+    let b : i < n = omega arith in h i b ∙ sym (listBelow-at g n i z b))

@@ -53,6 +53,9 @@ abs-+ a b = omega (arith, read-abs (int a ⊕ int b), abs-is a, abs-is b)
 pub abs-- : (a b : ℤ) → natAbs (a -ℤ b) ≤ natAbs a + natAbs b
 abs-- a b = omega (arith, read-abs (int a ⊝ int b), abs-is a, abs-is b)
 
+pub abs-three : (a b c : ℤ) → natAbs (a -ℤ b -ℤ c) ≤ natAbs a + natAbs b + natAbs c
+abs-three a b c = omega (arith, abs-- (a -ℤ b) c, abs-- a b)
+
 pub abs-* : (a b : ℤ) → natAbs (a *ℤ b) ≡ natAbs a * natAbs b
 abs-* (pos a) (pos b) = refl
 abs-* (pos a) (negsuc b) = abs-neg (pos (a * suc b))

@@ -17,7 +17,7 @@ use Rattle.limits.proofs.RangeLaws.{off-false}
 use Rattle.sample.specs.Refusal.{minSteps, maxSteps}
 use Rattle.mesh.specs.IndexedMesh.{IndexedMesh, indexed, corners}
 use Rattle.mesh.specs.Refusal.{earlyRows, lateRows}
-use Rattle.mesh.specs.WellFormed.{Sized}
+use Rattle.mesh.specs.WellFormed.{MeshSized}
 use Rattle.mesh.specs.Answer.{meshRefusal, twinsShort}
 use Rattle.mesh.proofs.AcceptedLaws.{sizes-none}
 use Rattle.mesh.proofs.PhaseLaws.{refusal-alike, refusal-split, refusal-own}
@@ -32,10 +32,6 @@ use Rattle.decoding.specs.Decoding.{headerOf, decoded, placesShort, decodeRefus
 use Rattle.meshfile.specs.Answer.{opened, stepsOff, openRefusal, FileOpened}
 use Rattle.meshfile.specs.Tessellated.{tessellateRefusal, Tessellated}
 use Rattle.decoding.proofs.FileLaws.{Whole, file-whole, decode-file, decode-read}
-
--- the sizes of a mesh and of its lists are in order
-abbrev pub MeshSized : IndexedMesh → Type 0
-MeshSized M = Sized (M .vertices) (M .faces) (length (M .positions)) (length (M .tags)) (length (M .indices))
 
 -- the rows that opening adds to those of the mesh: 2 for the patch list, 14 for N
 abbrev listRow : IndexedMesh → List ℤ → List Row

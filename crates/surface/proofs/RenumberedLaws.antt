@@ -7,10 +7,10 @@ use lib.IntN.{pos}
 use lib.ListN.{length, getD}
 use Rattle.finite.specs.Filled.{listBelow}
 use Rattle.finite.specs.Permutation.{Permutation}
-use Rattle.finite.proofs.FilledLaws.{length-listBelow, listBelow-at}
+use Rattle.finite.proofs.FilledLaws.{length-listBelow, listBelow-at, list-below}
 use Rattle.mesh.specs.IndexedMesh.{IndexedMesh}
 use Rattle.mesh.specs.WellFormed.{MeshSized}
-use Rattle.symmetry.proofs.CarriedLaws.{list-below, carried-list, carried-made, threesOf}
+use Rattle.symmetry.proofs.CarriedLaws.{carried-list, carried-made, threesOf}
 use Rattle.surface.specs.Renumbering.{ByCorner, Renumbering}
 use Rattle.surface.specs.Renumbered.{cornerWas, renumber}
 

@@ -6,17 +6,10 @@ use mathlib.Core.List.{List}
 use Prim.Native.Nat.{ℕ, _+_, _*_, _/_, _%_, _<_}
 use native.Mathlib.Omega.{arith}
 use lib.ListN.{length, getD}
-use lib.Seq.{ext-getD}
 use Rattle.finite.specs.Filled.{listBelow}
 use Rattle.finite.specs.Permutation.{Permutation}
-use Rattle.finite.proofs.FilledLaws.{length-listBelow, listBelow-at}
+use Rattle.finite.proofs.FilledLaws.{length-listBelow, listBelow-at, list-below}
 use Rattle.symmetry.specs.Carried.{Carried, threes, listFrom}
-
--- a list by its length and what stands at each place
-pub list-below : {A : Type 0} (xs : List A) (z : A) (n : ℕ) (g : ℕ → A) → length xs ≡ n → ((i : ℕ) → i < n → getD xs i z ≡ g i) → xs ≡ listBelow g n
-list-below xs z n g e h =
-    ext-getD z xs (listBelow g n) (e ∙ sym (length-listBelow g n)) (λ i l.
-    let b : i < n = omega arith in h i b ∙ sym (listBelow-at g n i z b))
 
 module _ {A : Type 0} (z : A) {n : ℕ} (r : Permutation n) (xs : List A) (whole : length xs ≡ n) where
   pub carried-list : Carried z (r .to) n xs (listFrom z (r .from) n xs)

@@ -7,12 +7,8 @@ use native.Mathlib.Nat.{lt-of-mul-lt-mul-right}
 use lib.IntN.{ℤ, pos, natAbs, _+ℤ_, _-ℤ_, _*ℤ_}
 use Rattle.integer.specs.Nearest.{IsNearest}
 use Rattle.integer.proofs.Difference.{int, nat, _⊕_, _⊝_, _⊛_, prove-eq}
-use Rattle.integer.proofs.Laws.{abs--, abs-*}
+use Rattle.integer.proofs.Laws.{abs-three, abs-*}
 use Rattle.tangent.specs.Vector.{correctedDivisor}
-
--- a difference of three
-abs-three : (a b c : ℤ) → natAbs (a -ℤ b -ℤ c) ≤ natAbs a + natAbs b + natAbs c
-abs-three a b c = omega (arith, abs-- (a -ℤ b) c, abs-- a b)
 
 -- how far the fraction y / d is from the whole number a, times d
 abbrev off : ℤ → ℕ → ℤ → ℤ

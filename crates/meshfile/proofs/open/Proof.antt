@@ -12,7 +12,8 @@ use Rattle.decoding.specs.File.{vertices, faces, steps, positionAt, tagAt, inde
 use Rattle.decoding.specs.declared.model.Header.{Header}
 use Rattle.decoding.specs.Decoding.{decoded}
 use Rattle.decoding.proofs.FileLaws.{Whole, file-whole}
-use Rattle.meshfile.proofs.OpenLaws.{MeshSized, FileRead, file-read, file-turned-down, part-fits, mesh-is, whole-sized, open-mesh, open-refused}
+use Rattle.mesh.specs.WellFormed.{MeshSized}
+use Rattle.meshfile.proofs.OpenLaws.{FileRead, file-read, file-turned-down, part-fits, mesh-is, whole-sized, open-mesh, open-refused}
 use Rattle.meshfile.proofs.open.Statement.{statement}
 use Rattle.meshfile.proofs.open.Tie as tie
 
