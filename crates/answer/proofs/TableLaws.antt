@@ -120,7 +120,9 @@ no-row = record { first = refl }
 pub next-row : {rows : List Row} {met r k : ℕ} {b b' : Bool} → Met rows met → r ≡ metOr met b' k → b' ≡ b → refusalOf k ≡ some k
     → Met (rows ++ (row b k ∷ [])) r
 next-row {rows} {met} {r} {k} {b} {b'} m said same some-k = record {
-  first = first-append rows (row b k ∷ []) ∙ ap (λ (x : Option ℕ). orElse x (firstMet (row b k ∷ []))) (m .first) ∙ go met b ∙ sym (ap refusalOf (said ∙ ap (λ (x : Bool). metOr met x k) same));
+  first =
+      first-append rows (row b k ∷ []) ∙ ap (λ (x : Option ℕ). orElse x (firstMet (row b k ∷ []))) (m .first) ∙ go met b
+      ∙ sym (ap refusalOf (said ∙ ap (λ (x : Bool). metOr met x k) same));
 }
   where
     go : (m : ℕ) (x : Bool) → orElse (refusalOf m) (firstMet (row x k ∷ [])) ≡ refusalOf (metOr m x k)

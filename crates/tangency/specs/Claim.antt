@@ -53,8 +53,8 @@ farTerm M r c k = secondTerm (cosineOf M c) (cosineOf M (next c)) (vectorAlong r
 pub record Across (M : IndexedMesh) (c : ℕ) (r r' : List ℤ) : Type 0 where
   pub common : (k : ℕ) → k < 3 → farTerm M r' (twin (at M) (corners M) c) k ≡ edgeTerm M r c k
   pub sum : (k : ℕ) → k < 3
-      → natAbs (pos correctedDivisor *ℤ (vectorAlong r startIn (c % 4) k +ℤ vectorAlong r' endIn (twin (at M) (corners M) c % 4) k) -ℤ pos 2 *ℤ edgeTerm M r c k)
-      ≤ 7 * correctedDivisor
+      → natAbs (pos correctedDivisor *ℤ (vectorAlong r startIn (c % 4) k +ℤ vectorAlong r' endIn (twin (at M) (corners M) c % 4) k)
+      -ℤ pos 2 *ℤ edgeTerm M r c k) ≤ 7 * correctedDivisor
 
 abbrev pub Written : Outcome → Type 0
 Written r = outcome r ≡ result tt

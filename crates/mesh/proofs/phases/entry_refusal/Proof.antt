@@ -10,7 +10,7 @@ use borrow.Author.Needs.{needs}
 use Rattle.answer.specs.Table.{Row, row, firstMet, refusalOf}
 use Rattle.answer.proofs.TableLaws.{met-here, skipped, some-append, none-append, refusal-some}
 use Rattle.mesh.specs.IndexedMesh.{IndexedMesh, indexed, corners}
-use Rattle.mesh.specs.Refusal.{halfEdgeTwice, listRows}
+use Rattle.mesh.specs.Refusal.{halfEdgeTwice, listRows, entryRows}
 use Rattle.mesh.specs.Tables.{Indices}
 use Rattle.mesh.proofs.SizeLaws.{sized-indices}
 use Rattle.mesh.proofs.AcceptedLaws.{lists-unmet, vertex-false}
@@ -35,6 +35,9 @@ module _ (c : tie.Else1) where
 
   no-list-row : firstMet (listRows (mesh start)) ≡ none
   no-list-row = c .before .list-refusal .ensures ∙ ap refusalOf (c .if1 .left)
+
+  only-row-7 : firstMet (entryRows (mesh start)) ≡ firstMet (row-7 (mesh start))
+  only-row-7 = none-append (listRows (mesh start)) (row-7 (mesh start)) no-list-row
 
   indices : Indices (mesh start .indices) (corners (mesh start))
   indices = sized-indices (mesh start) (start .pre .0) (vertex-false (mesh start) (lists-unmet (mesh start) no-list-row))
@@ -84,7 +87,7 @@ returns-2 c =
     let l = linked (c .before) in
     let e = passed l in
     record {
-      first = none-append (listRows (mesh (start e))) (row-7 (mesh (start e))) (no-list-row e) ∙ met-here 7 none (sym (l .link-corners .ensures .0) ∙ c .if2 .taken);
+      first = only-row-7 e ∙ met-here 7 none (sym (l .link-corners .ensures .0) ∙ c .if2 .taken);
       chained = λ z. absurd (suc-ne-zero 6 z);
     }
 
@@ -100,7 +103,7 @@ returns-3 c =
     let l = linked (c .before) in
     let e = passed l in
     record {
-      first = none-append (listRows (mesh (start e))) (row-7 (mesh (start e))) (no-list-row e) ∙ skipped 7 none (sym (l .link-corners .ensures .0) ∙ c .if2 .left);
+      first = only-row-7 e ∙ skipped 7 none (sym (l .link-corners .ensures .0) ∙ c .if2 .left);
       chained = λ z. l .link-corners .ensures .1 (c .if2 .left);
     }
 

@@ -111,7 +111,8 @@ same-length c = search needs
 returns : tie.Need-returns
 returns c =
     let n = c .before in
-    let p : tie.After-fill-parts = n .before .before .before .before .before in
+    let lent = n .before in
+    let p : tie.After-fill-parts = lent .before .before .before .before in
     n .write-numbers .ensures
     ∙ ap₂ (λ (x y : List ℤ). filled (numberFrom x y) 72 (start (w p) .args .tangents .now)) (parts-are p (p .fill-parts .ensures)) (cosines-are p)
 
