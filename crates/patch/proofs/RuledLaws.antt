@@ -31,7 +31,7 @@ use Rattle.control.specs.Control.{units, exactly}
 use Rattle.patch.specs.Point.{valenceAt, inside, weight, sharp, sharpSum, ringSum, fixed, cornerPoint}
 use Rattle.patch.specs.Patch.{shape, view}
 use Rattle.patch.specs.Lists.{shapeOf, Twins, endsIn, ringSumBy, sharpSumBy}
-use Rattle.patch.specs.PatchTables.{Counts, rule, ruleBy, tagged, endsOf, Renderable, Roomy, Rendered}
+use Rattle.patch.specs.PatchTables.{Counts, rule, ruleBy, taggedShape, endsOf, Renderable, Roomy, Rendered}
 use Rattle.patch.specs.PatchTables.{Allowed, CornerLists, cornerLists, ruledPoint, CornerSource, CornerPoints, Valued}
 use Rattle.patch.proofs.FacePointLaws.{boundary-in, sharp-in}
 use Rattle.patch.proofs.TableLaws.{ring-told, sharp-told, ring-size, sharp-most, sharp-size}
@@ -57,17 +57,17 @@ held f g n d table h e i l = ap (λ (t : List ℕ). getD t i 0) e ∙ filled-at 
 module _ {tags faces twins : List ℕ} (t : Renderable tags faces twins) where
   pub rendered-rules : (valences leaving rules₀ rules : List ℕ) → Counts (shapeOf faces) valences leaving
       → rules ≡ filled (ruleBy tags valences leaving) (length tags) rules₀
-      → Holds 0 rules (length tags) (rule (tagged tags faces))
+      → Holds 0 rules (length tags) (rule (taggedShape tags faces))
   unfolding rule
   rendered-rules valences leaving rules₀ rules k =
       held _ _ (length tags) rules₀ rules (λ p l. let b = lt-of-lt-of-le l (t .few) in rw (k .inside-are p b, k .valences-are p b))
 
   pub rendered-weights : (weights₀ weights : List ℕ) → weights ≡ filled (weight (shapeOf faces)) (length faces) weights₀
-      → Holds 0 weights (length faces) (weight (tagged tags faces))
+      → Holds 0 weights (length faces) (weight (taggedShape tags faces))
   unfolding weight
   rendered-weights weights₀ weights = held _ _ (length faces) weights₀ weights (λ c l. refl)
 
-  pub rendered-ends : (ends₀ ends : List ℕ) → ends ≡ filled (endsIn twins) (length faces) ends₀ → Holds 0 ends (length faces) (endsOf (tagged tags faces))
+  pub rendered-ends : (ends₀ ends : List ℕ) → ends ≡ filled (endsIn twins) (length faces) ends₀ → Holds 0 ends (length faces) (endsOf (taggedShape tags faces))
   unfolding endsOf sharp
   rendered-ends ends₀ ends =
       held _ _ (length faces) ends₀ ends
@@ -111,7 +111,7 @@ module _ {M : IndexedMesh} (a : WellFormed M) where
       })
 
 module _ {M : IndexedMesh} (a : WellFormed M) {rules weights ends : List ℕ} where
-  pub rendered-mesh : Rendered (tagged (M .tags) (M .indices)) (length (M .tags)) rules weights ends → Rendered (shape M) (M .vertices) rules weights ends
+  pub rendered-mesh : Rendered (taggedShape (M .tags) (M .indices)) (length (M .tags)) rules weights ends → Rendered (shape M) (M .vertices) rules weights ends
   rendered-mesh r = rw (accepted-whole a, a .sized .tags-are) at r
 
   module _ (r : Rendered (shape M) (M .vertices) rules weights ends) {values : List ℤ} (t : Valued M values) where

@@ -2,7 +2,7 @@
 --
 --   rule G p           how the corner point of vertex p is made, as one number
 --   ruleBy tags valences leaving p   the same, as the tags and the tables of counts tell
---   tagged tags faces  the shape of a mesh with its tags, by its lists
+--   taggedShape tags faces   the shape of a mesh with its tags, by its lists
 --   Counts G valences leaving   the faces of each vertex, and whether it is inside: no boundary half-edge leaves it
 --   endsOf G c         which neighbours of corner c count as far ends of sharp edges, as a byte
 --   Blank z table      a table with a place for each vertex, with z at each
@@ -57,8 +57,8 @@ use Rattle.patch.specs.declared.tables.Stored.{Stored}
 unfoldable pub rule : Shape → ℕ → ℕ
 rule G p = cornerRule (inside G p) (G .tag p) (valenceAt G p)
 
-abbrev pub tagged : List ℕ → List ℕ → Shape
-tagged tags faces = record { n = length faces; at = vertexOf faces; tag = λ p. getD tags p 0 }
+abbrev pub taggedShape : List ℕ → List ℕ → Shape
+taggedShape tags faces = record { n = length faces; at = vertexOf faces; tag = λ p. getD tags p 0 }
 
 pub record Counts (G : Shape) (valences leaving : List ℕ) : Type 0 where
   pub valences-listed : maxVertices ≤ length valences

@@ -1,18 +1,18 @@
 -- What the writer of the patches reads, and the numbers and marks that it writes.
 --
 --   PatchLists         the lists that a patch is written from: the faces, the tables of values, links and weights by corner, and those of the corner
---                      points and their marks by vertex
+--                      points and their flags by vertex
 --   Source D           these lists serve every corner
 --   Tables M D         the lists tell the mesh M: the coordinates of each corner, its twin and its weight, the corner point of each vertex and its mark
 --   ForValues D c, ForPoint D c point, ForNumbered D g m point, ForPatch D g patch marks, ForPatches D f patches marks   what is asked to make a
 --                      point of corner c, to write it, point m of face g, the patch of face g, those of f faces: the lists serve, and there is room
---   ForVertex faces points marks c   what is asked to look up the corner point of the vertex of corner c
+--   ForVertex faces points flags c   what is asked to look up the corner point of the vertex of corner c
 --   Narrow p, stored p   the control point p is within the range of the coordinates in units; the point as it is written
 --   pointWith g e      the point with the coordinates g 0, g 1 and g 2, which is exact or not
 --   kindOf q           the kind of point, for each case of the code's enum `Kind`
 --   pointFrom D k c q  coordinate k of the point of kind q at corner c, in units: a corner point is looked up in the table of these
 --   exactFrom D c q    whether nothing is left in any coordinate of that point: for a corner point, whether its mark is 1
---   pointAt D c q      that point with its mark
+--   markedPoint D c q      that point with its mark
 --   numberFrom D g i   number i of the 48 of face g, likewise
 --   markFrom D g m     mark m of the 16 of face g, likewise
 --   writtenNumber D i, writtenMark D i   what is written at place i of the patch list, and of the list of marks
@@ -47,28 +47,28 @@ pub record PatchLists : Type 0 where
   pub links : List ℕ
   pub weights : List ℕ
   pub points : List ℤ
-  pub marks : List ℕ
+  pub flags : List ℕ
 
 abbrev pub patchLists : List ℕ → List ℤ → List ℕ → List ℕ → List ℤ → List ℕ → PatchLists
-patchLists faces values links weights points marks =
-    record { faces = faces; values = values; links = links; weights = weights; points = points; marks = marks }
+patchLists faces values links weights points flags =
+    record { faces = faces; values = values; links = links; weights = weights; points = points; flags = flags }
 
 pub record Source (D : PatchLists) : Type 0 where
   pub whole : Corners (length (D .faces))
   pub bounded : Bounded (D .values)
   pub pointed : (c k : ℕ) → c < length (D .faces) → k < 3 → 3 * vertexOf (D .faces) c + k < length (D .points)
-  pub marked : (c : ℕ) → c < length (D .faces) → vertexOf (D .faces) c < length (D .marks)
+  pub marked : (c : ℕ) → c < length (D .faces) → vertexOf (D .faces) c < length (D .flags)
 
 pub record Tables (M : IndexedMesh) (D : PatchLists) : Type 0 where
   pub values-are : Valued M (D .values)
   pub links-are : Holds 0 (D .links) (corners M) (twin (at M) (corners M))
   pub weights-are : Holds 0 (D .weights) (corners M) (weight (shape M))
-  pub corners-are : CornerPoints (λ k. cornerPoint (view M k)) (M .vertices) 3 (D .points) (D .marks)
+  pub corners-are : CornerPoints (λ k. cornerPoint (view M k)) (M .vertices) 3 (D .points) (D .flags)
 
-pub record ForVertex (faces : List ℕ) (points : List ℤ) (marks : List ℕ) (c : ℕ) : Type 0 where
+pub record ForVertex (faces : List ℕ) (points : List ℤ) (flags : List ℕ) (c : ℕ) : Type 0 where
   pub corner : c < length faces
   pub pointed : (k : ℕ) → k < 3 → 3 * vertexOf faces c + k < length points
-  pub marked : vertexOf faces c < length marks
+  pub marked : vertexOf faces c < length flags
 
 pub record ForValues (D : PatchLists) (c : ℕ) : Type 0 where
   pub source : Source D
@@ -120,13 +120,13 @@ pointFrom D k c before = units (beforeAt (D .values) (D .links) (D .weights) k c
 pointFrom D k c inner = units (innerAt (D .values) (weightAt (D .weights) c) k c)
 
 unfoldable pub exactFrom : PatchLists → ℕ → Kind → Bool
-exactFrom D c corner = eqb (getD (D .marks) (vertexOf (D .faces) c) 0) 1
+exactFrom D c corner = eqb (getD (D .flags) (vertexOf (D .faces) c) 0) 1
 exactFrom D c along = allBelow (λ k. exactly (alongAt (D .values) (D .links) (D .weights) k c)) 3
 exactFrom D c before = allBelow (λ k. exactly (beforeAt (D .values) (D .links) (D .weights) k c)) 3
 exactFrom D c inner = allBelow (λ k. exactly (innerAt (D .values) (weightAt (D .weights) c) k c)) 3
 
-abbrev pub pointAt : PatchLists → ℕ → Kind → PatchPoint
-pointAt D c q = pointWith (λ k. pointFrom D k c q) (exactFrom D c q)
+abbrev pub markedPoint : PatchLists → ℕ → Kind → PatchPoint
+markedPoint D c q = pointWith (λ k. pointFrom D k c q) (exactFrom D c q)
 
 unfoldable pub numberFrom : PatchLists → ℕ → ℕ → ℤ
 numberFrom D g i = pointFrom D (i % 3) (turn (owner (i / 3)) (4 * g)) (kind (i / 3))

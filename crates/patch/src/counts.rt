@@ -10,7 +10,7 @@ ghost use Rattle.finite.specs.Filled.{filled};
 ghost use Rattle.mesh.specs.Tables.{twinOf};
 ghost use Rattle.patch.specs.Point.{weight};
 ghost use Rattle.patch.specs.Lists.{shapeOf, boundaryIn, sharpIn, endsByte, endsIn};
-ghost use Rattle.patch.specs.PatchTables.{Counts, ForCounts, ForWeights, ForRules, ForEnds, ForRender, Rendered, ruleBy, tagged};
+ghost use Rattle.patch.specs.PatchTables.{Counts, ForCounts, ForWeights, ForRules, ForEnds, ForRender, Rendered, ruleBy, taggedShape};
 
 // 1 for true, 0 for false.
 fn one_if(b: bool) -> u16
@@ -120,7 +120,7 @@ pub(crate) fn render(
     ends: &mut [u8],
 )
     requires { ⌜ ForRender (now tags) (now faces) (now twins) (now rules) (now weights) (now ends) ⌝ }
-    ensures { λ _. ⌜ Rendered (tagged (now (tags .entry)) (now (faces .entry))) (length (now (tags .entry)))
+    ensures { λ _. ⌜ Rendered (taggedShape (now (tags .entry)) (now (faces .entry))) (length (now (tags .entry)))
         (now (rules .exit)) (now (weights .exit)) (now (ends .exit)) ⌝ }
 {
     let mut valences = [0u16; Mesh::MAX_VERTICES];

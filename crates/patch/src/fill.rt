@@ -20,14 +20,14 @@ fn write_patches(
     links: &[u16; 1024],
     weights: &[u16; 1024],
     points: &[i32],
-    marks: &[u8],
+    flags: &[u8],
     patches: &mut [i32],
-    exact: &mut [u8],
+    marks: &mut [u8],
 )
-    requires { ⌜ ForPatches (patchLists (now faces) (now values) (now links) (now weights) (now points) (now marks)) f (now patches) (now exact) ⌝ }
+    requires { ⌜ ForPatches (patchLists (now faces) (now values) (now links) (now weights) (now points) (now flags)) f (now patches) (now marks) ⌝ }
     ensures { λ _. ⌜ PatchesWritten
-        (patchLists (now (faces .entry)) (now (values .entry)) (now (links .entry)) (now (weights .entry)) (now (points .entry)) (now (marks .entry)))
-        f (now (patches .entry)) (now (exact .entry)) (now (patches .exit)) (now (exact .exit)) ⌝ }
+        (patchLists (now (faces .entry)) (now (values .entry)) (now (links .entry)) (now (weights .entry)) (now (points .entry)) (now (flags .entry)))
+        f (now (patches .entry)) (now (marks .entry)) (now (patches .exit)) (now (marks .exit)) ⌝ }
 {
     for g in 0..f {
         let at = 48 * g;
@@ -38,10 +38,10 @@ fn write_patches(
             links,
             weights,
             points,
-            marks,
+            flags,
             g,
             &mut patches[at..],
-            &mut exact[marked..],
+            &mut marks[marked..],
         );
     }
 }
@@ -55,13 +55,13 @@ pub(crate) fn fill_patches(
     faces: &[u16],
     twins: &[u16],
     patches: &mut [i32],
-    exact: &mut [u8],
+    marks: &mut [u8],
 )
-    requires { ⌜ Ready (indexed v f (now positions) (now tags) (now faces)) (lent (now twins) (now patches) (now exact)) ⌝ }
+    requires { ⌜ Ready (indexed v f (now positions) (now tags) (now faces)) (lent (now twins) (now patches) (now marks)) ⌝ }
     ensures { λ _. ⌜ now (patches .exit)
         ≡ patchesAfter (indexed v f (now (positions .entry)) (now (tags .entry)) (now (faces .entry))) (now (patches .entry)) ⌝ }
-    ensures { λ _. ⌜ now (exact .exit)
-        ≡ marksAfter (indexed v f (now (positions .entry)) (now (tags .entry)) (now (faces .entry))) (now (exact .entry)) ⌝ }
+    ensures { λ _. ⌜ now (marks .exit)
+        ≡ marksAfter (indexed v f (now (positions .entry)) (now (tags .entry)) (now (faces .entry))) (now (marks .entry)) ⌝ }
 {
     let mut rules = [0u8; Mesh::MAX_VERTICES];
     let mut weights = [0u16; 4 * Mesh::MAX_FACES];
@@ -72,7 +72,7 @@ pub(crate) fn fill_patches(
     let mut links = [0u16; 4 * Mesh::MAX_FACES];
     fill_links(twins, faces.len(), &mut links);
     let mut points = [0i32; 3 * Mesh::MAX_VERTICES];
-    let mut marks = [1u8; Mesh::MAX_VERTICES];
+    let mut flags = [1u8; Mesh::MAX_VERTICES];
     fill_corners(
         v,
         positions,
@@ -81,7 +81,7 @@ pub(crate) fn fill_patches(
         &ends,
         &rules,
         &mut points,
-        &mut marks,
+        &mut flags,
     );
     write_patches(
         f,
@@ -90,8 +90,8 @@ pub(crate) fn fill_patches(
         &links,
         &weights,
         &points,
-        &marks,
+        &flags,
         patches,
-        exact,
+        marks,
     );
 }

@@ -31,10 +31,10 @@ fn own_refusal(f: usize, places: usize, marks: usize) -> u8
 
 // The patches of a mesh of v vertices and f faces, which is checked first.
 // Returns: V, F, E and B of an accepted mesh, or the number of the refusal.
-// Writes: patch g into places 48g to 48g + 47 of patches, point i + 4j as three numbers x, y, z; its marks into places 16g to 16g + 15 of exact,
+// Writes: patch g into places 48g to 48g + 47 of patches, point i + 4j as three numbers x, y, z; its marks into places 16g to 16g + 15 of marks,
 // for point i + 4j the byte 1 where rounding left nothing in any coordinate, else 0; the twins as `mesh::check` does.
 // Leaves alone: the patches from 48f on, and the marks from 16f on; all of both after a refusal; the twins as `mesh::check` does.
-// Refuses: as `mesh::check`, in the same order; 2 also where patches is shorter than 48f, or exact shorter than 16f.
+// Refuses: as `mesh::check`, in the same order; 2 also where patches is shorter than 48f, or marks shorter than 16f.
 // Units: positions in micrometres, control values in 1/256 micrometre.
 pub fn patches(
     v: usize,
@@ -44,16 +44,16 @@ pub fn patches(
     faces: &[u16],
     twins: &mut [u16],
     patches: &mut [i32],
-    exact: &mut [u8],
+    marks: &mut [u8],
 ) -> Checked
     ensures { λ r. ⌜ Patched (indexed v f (now (positions .entry)) (now (tags .entry)) (now (faces .entry)))
-        (lent (now (twins .entry)) (now (patches .entry)) (now (exact .entry))) r (lent (now (twins .exit)) (now (patches .exit)) (now (exact .exit))) ⌝ }
+        (lent (now (twins .entry)) (now (patches .entry)) (now (marks .entry))) r (lent (now (twins .exit)) (now (patches .exit)) (now (marks .exit))) ⌝ }
 {
-    let own = own_refusal(f, patches.len(), exact.len());
+    let own = own_refusal(f, patches.len(), marks.len());
     let answer = mesh::check_after(own, v, f, positions, tags, faces, twins);
     let Checked::Accepted(counts) = answer else {
         return answer;
     };
-    fill_patches(v, f, positions, tags, faces, twins, patches, exact);
+    fill_patches(v, f, positions, tags, faces, twins, patches, marks);
     Checked::Accepted(counts)
 }

@@ -1,4 +1,4 @@
-// The corner point of each vertex with its mark, by the table of rules.
+// The corner point of each vertex with its flag, 1 where it is exact, by the table of rules.
 use crate::sums::add_sums;
 use control::values::position;
 use limits::model::Mesh;
@@ -26,17 +26,17 @@ fn corner_point(rule: u8, p: i32, ring: i64, sharp: i64) -> Stored
     }
 }
 
-// The mark of a point after one more coordinate: as it was where nothing is left in it, else 0.
-fn kept(exact: bool, mark: u8) -> u8
-    ensures { λ r. ⌜ r ≡ cond exact mark 0 ⌝ }
+// The flag of a point after one more coordinate: as it was where nothing is left in it, else 0.
+fn kept(exact: bool, flag: u8) -> u8
+    ensures { λ r. ⌜ r ≡ cond exact flag 0 ⌝ }
 {
     if exact {
-        return mark;
+        return flag;
     }
     0
 }
 
-// Writes coordinate k of the corner points, and takes the marks of those away in which it leaves something.
+// Writes coordinate k of the corner points, and takes the flags of those away in which it leaves something.
 fn fill_coordinate(
     v: usize,
     positions: &[i32],
@@ -46,12 +46,12 @@ fn fill_coordinate(
     rules: &[u8],
     k: usize,
     points: &mut [i32],
-    marks: &mut [u8],
+    flags: &mut [u8],
 )
-    requires { ⌜ ForCoordinate (cornerLists (now positions) (now faces) (now values) (now ends) (now rules)) v k (now points) (now marks) ⌝ }
+    requires { ⌜ ForCoordinate (cornerLists (now positions) (now faces) (now values) (now ends) (now rules)) v k (now points) (now flags) ⌝ }
     ensures { λ _. ⌜ Coordinate
         (ruledPoint (cornerLists (now (positions .entry)) (now (faces .entry)) (now (values .entry)) (now (ends .entry)) (now (rules .entry))) k) v k
-        (now (points .entry)) (now (points .exit)) (now (marks .entry)) (now (marks .exit)) ⌝ }
+        (now (points .entry)) (now (points .exit)) (now (flags .entry)) (now (flags .exit)) ⌝ }
 {
     let mut ring = [0i64; Mesh::MAX_VERTICES];
     let mut sharp = [0i64; Mesh::MAX_VERTICES];
@@ -62,11 +62,11 @@ fn fill_coordinate(
         let value = corner_point(rules[p], x, ring[p], sharp[p]);
         let units = value.units;
         points[i] = units;
-        marks[p] = kept(value.exact, marks[p]);
+        flags[p] = kept(value.exact, flags[p]);
     }
 }
 
-// Writes the corner point of each of v vertices, and its mark over a mark of 1.
+// Writes the corner point of each of v vertices, and its flag over a flag of 1.
 pub(crate) fn fill_corners(
     v: usize,
     positions: &[i32],
@@ -75,14 +75,14 @@ pub(crate) fn fill_corners(
     ends: &[u8],
     rules: &[u8],
     points: &mut [i32],
-    marks: &mut [u8],
+    flags: &mut [u8],
 )
-    requires { ⌜ ForCorners (cornerLists (now positions) (now faces) (now values) (now ends) (now rules)) v (now points) (now marks) ⌝ }
+    requires { ⌜ ForCorners (cornerLists (now positions) (now faces) (now values) (now ends) (now rules)) v (now points) (now flags) ⌝ }
     ensures { λ _. ⌜ CornerPoints
         (ruledPoint (cornerLists (now (positions .entry)) (now (faces .entry)) (now (values .entry)) (now (ends .entry)) (now (rules .entry)))) v 3
-        (now (points .exit)) (now (marks .exit)) ⌝ }
+        (now (points .exit)) (now (flags .exit)) ⌝ }
 {
     for k in 0..3 {
-        fill_coordinate(v, positions, faces, values, ends, rules, k, points, marks);
+        fill_coordinate(v, positions, faces, values, ends, rules, k, points, flags);
     }
 }

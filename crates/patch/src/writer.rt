@@ -1,5 +1,5 @@
 // The sixteen control points of a patch and their marks, from the tables of values, links and weights by corner, and those of the corner points with
-// their marks by vertex.
+// their flags by vertex: 1 for an exact point, else 0.
 use control::model::ControlPoint;
 use corner::wide;
 ghost use mathlib.Core.Path.{_≡_};
@@ -10,7 +10,7 @@ ghost use lib.ListN.{length, getD};
 ghost use Rattle.finite.specs.Fold.{indicator};
 ghost use Rattle.corner.specs.Corner.{turn};
 ghost use Rattle.patch.specs.Written.{Narrow, stored, pointWith};
-ghost use Rattle.patch.specs.Written.{patchLists, ForVertex, ForValues, ForPoint, ForNumbered, ForPatch, kindOf, pointAt, PointWritten, NumberedWritten, PatchWritten};
+ghost use Rattle.patch.specs.Written.{patchLists, ForVertex, ForValues, ForPoint, ForNumbered, ForPatch, kindOf, markedPoint, PointWritten, NumberedWritten, PatchWritten};
 ghost use Rattle.mesh.specs.Tables.{vertexOf};
 
 // The four points of its face that each corner owns.
@@ -81,16 +81,16 @@ fn vertex_point(faces: &[u16], points: &[i32], k: usize, c: usize) -> i32
 }
 
 // The corner point of the vertex of corner c, from its tables.
-fn vertex_points(faces: &[u16], points: &[i32], marks: &[u8], c: usize) -> PatchPoint
-    requires { ⌜ ForVertex (now faces) (now points) (now marks) c ⌝ }
+fn vertex_points(faces: &[u16], points: &[i32], flags: &[u8], c: usize) -> PatchPoint
+    requires { ⌜ ForVertex (now faces) (now points) (now flags) c ⌝ }
     ensures { λ r. ⌜ r ≡ pointWith (λ k. getD (now (points .entry)) (3 * vertexOf (now (faces .entry)) c + k) (pos 0))
-        (eqb (getD (now (marks .entry)) (vertexOf (now (faces .entry)) c) 0) 1) ⌝ }
+        (eqb (getD (now (flags .entry)) (vertexOf (now (faces .entry)) c) 0) 1) ⌝ }
 {
     PatchPoint {
         x: vertex_point(faces, points, 0, c),
         y: vertex_point(faces, points, 1, c),
         z: vertex_point(faces, points, 2, c),
-        exact: marks[wide(faces[c])] == 1,
+        exact: flags[wide(faces[c])] == 1,
     }
 }
 
@@ -101,17 +101,17 @@ fn point_values(
     links: &[u16; 1024],
     weights: &[u16; 1024],
     points: &[i32],
-    marks: &[u8],
+    flags: &[u8],
     c: usize,
     kind: Kind,
 ) -> PatchPoint
-    requires { ⌜ ForValues (patchLists (now faces) (now values) (now links) (now weights) (now points) (now marks)) c ⌝ }
-    ensures { λ r. ⌜ r ≡ pointAt
-        (patchLists (now (faces .entry)) (now (values .entry)) (now (links .entry)) (now (weights .entry)) (now (points .entry)) (now (marks .entry)))
+    requires { ⌜ ForValues (patchLists (now faces) (now values) (now links) (now weights) (now points) (now flags)) c ⌝ }
+    ensures { λ r. ⌜ r ≡ markedPoint
+        (patchLists (now (faces .entry)) (now (values .entry)) (now (links .entry)) (now (weights .entry)) (now (points .entry)) (now (flags .entry)))
         c (kindOf kind) ⌝ }
 {
     match kind {
-        Kind::Corner => vertex_points(faces, points, marks, c),
+        Kind::Corner => vertex_points(faces, points, flags, c),
         Kind::Along => narrowed(control::along_point(values, links, weights, c)),
         Kind::Before => narrowed(control::before_point(values, links, weights, c)),
         Kind::Inner => narrowed(control::inner_point(values, weights, c)),
@@ -135,17 +135,17 @@ fn write_point(
     links: &[u16; 1024],
     weights: &[u16; 1024],
     points: &[i32],
-    marks: &[u8],
+    flags: &[u8],
     c: usize,
     kind: Kind,
     point: &mut [i32],
 ) -> u8
-    requires { ⌜ ForPoint (patchLists (now faces) (now values) (now links) (now weights) (now points) (now marks)) c (now point) ⌝ }
+    requires { ⌜ ForPoint (patchLists (now faces) (now values) (now links) (now weights) (now points) (now flags)) c (now point) ⌝ }
     ensures { λ r. ⌜ PointWritten
-        (patchLists (now (faces .entry)) (now (values .entry)) (now (links .entry)) (now (weights .entry)) (now (points .entry)) (now (marks .entry)))
+        (patchLists (now (faces .entry)) (now (values .entry)) (now (links .entry)) (now (weights .entry)) (now (points .entry)) (now (flags .entry)))
         c (kindOf kind) (now (point .entry)) r (now (point .exit)) ⌝ }
 {
-    let p = point_values(faces, values, links, weights, points, marks, c, kind);
+    let p = point_values(faces, values, links, weights, points, flags, c, kind);
     let x = p.x;
     let y = p.y;
     let z = p.z;
@@ -162,19 +162,19 @@ fn write_numbered(
     links: &[u16; 1024],
     weights: &[u16; 1024],
     points: &[i32],
-    marks: &[u8],
+    flags: &[u8],
     g: usize,
     m: usize,
     point: &mut [i32],
 ) -> u8
-    requires { ⌜ ForNumbered (patchLists (now faces) (now values) (now links) (now weights) (now points) (now marks)) g m (now point) ⌝ }
+    requires { ⌜ ForNumbered (patchLists (now faces) (now values) (now links) (now weights) (now points) (now flags)) g m (now point) ⌝ }
     ensures { λ r. ⌜ NumberedWritten
-        (patchLists (now (faces .entry)) (now (values .entry)) (now (links .entry)) (now (weights .entry)) (now (points .entry)) (now (marks .entry)))
+        (patchLists (now (faces .entry)) (now (values .entry)) (now (links .entry)) (now (weights .entry)) (now (points .entry)) (now (flags .entry)))
         g m (now (point .entry)) r (now (point .exit)) ⌝ }
 {
     let kind = KINDS[m];
     let c = turned(OWNERS[m] as usize, 4 * g);
-    write_point(faces, values, links, weights, points, marks, c, kind, point)
+    write_point(faces, values, links, weights, points, flags, c, kind, point)
 }
 
 // Writes the patch of face g over the first 48 numbers of its list, and its marks over the first 16 bytes of theirs.
@@ -184,25 +184,25 @@ pub(crate) fn write_patch(
     links: &[u16; 1024],
     weights: &[u16; 1024],
     points: &[i32],
-    marks: &[u8],
+    flags: &[u8],
     g: usize,
     patch: &mut [i32],
-    exact: &mut [u8],
+    marks: &mut [u8],
 )
-    requires { ⌜ ForPatch (patchLists (now faces) (now values) (now links) (now weights) (now points) (now marks)) g (now patch) (now exact) ⌝ }
+    requires { ⌜ ForPatch (patchLists (now faces) (now values) (now links) (now weights) (now points) (now flags)) g (now patch) (now marks) ⌝ }
     ensures { λ _. ⌜ PatchWritten
-        (patchLists (now (faces .entry)) (now (values .entry)) (now (links .entry)) (now (weights .entry)) (now (points .entry)) (now (marks .entry)))
-        g (now (patch .entry)) (now (exact .entry)) (now (patch .exit)) (now (exact .exit)) ⌝ }
+        (patchLists (now (faces .entry)) (now (values .entry)) (now (links .entry)) (now (weights .entry)) (now (points .entry)) (now (flags .entry)))
+        g (now (patch .entry)) (now (marks .entry)) (now (patch .exit)) (now (marks .exit)) ⌝ }
 {
     for m in 0..16 {
         let at = 3 * m;
-        exact[m] = write_numbered(
+        marks[m] = write_numbered(
             faces,
             values,
             links,
             weights,
             points,
-            marks,
+            flags,
             g,
             m,
             &mut patch[at..],

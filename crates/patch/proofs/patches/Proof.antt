@@ -19,7 +19,7 @@ module _ (s : tie.Start) where
   mesh = indexed (s .args .v) (s .args .f) (s .args .positions .now) (s .args .tags .now) (s .args .faces .now)
 
   abbrev lists : Lent
-  lists = lent (s .args .twins .now) (s .args .patches .now) (s .args .exact .now)
+  lists = lent (s .args .twins .now) (s .args .patches .now) (s .args .marks .now)
 
 -- ---- the check has answered
 module _ (c : tie.After-slice-known3) where

@@ -84,7 +84,7 @@ fill-links-requires : tie.Need-fill-links-requires
 fill-links-requires c κs = (entry c .pre .twinned .listed, corners-few (entry c))
 
 -- ---- before the corner points are written: what the passes gave
-module _ (c : tie.After-marks) where
+module _ (c : tie.After-flags) where
   abbrev linking : tie.After-fill-links
   linking = let k = c .before .before .before in k .before .before .before
 
@@ -162,22 +162,22 @@ module _ (c : tie.After-write-patches-arg2) where
   abbrev cornered : tie.After-fill-corners
   cornered = let k = c .before .before .before in let l = k .before .before .before in l .before .before .before
 
-  abbrev begun : tie.After-marks
+  abbrev begun : tie.After-flags
   begun = cornered .before
 
   abbrev points : List ℤ
   points = cornered .fill-corners .last .1 .1 .1 .1 .1 .1 .0
 
-  abbrev marks : List ℕ
-  marks = cornered .fill-corners .last .1 .1 .1 .1 .1 .1 .1 .0
+  abbrev flags : List ℕ
+  flags = cornered .fill-corners .last .1 .1 .1 .1 .1 .1 .1 .0
 
   points-listed : 3 * start begun .args .v ≤ length points
   points-listed = omega (arith, few begun, cornered .fill-corners .kept .1 .1 .1 .1 .1 .1 .0)
 
-  marks-listed : start begun .args .v ≤ length marks
+  marks-listed : start begun .args .v ≤ length flags
   marks-listed = omega (arith, few begun, cornered .fill-corners .kept .1 .1 .1 .1 .1 .1 .1 .0)
 
-  tables : Tables (mesh (start begun)) (patchLists (start begun .args .faces .now) (values begun) (links begun) (weights begun) points marks)
+  tables : Tables (mesh (start begun)) (patchLists (start begun .args .faces .now) (values begun) (links begun) (weights begun) points flags)
   tables = record {
     values-are = told begun;
     links-are = linked begun;

@@ -14,19 +14,19 @@ use Rattle.patch.proofs.fill.write_patches.Statement.{statement}
 use Rattle.patch.proofs.fill.write_patches.Tie as tie
 
 -- what is written after g patches
-record Written (D : PatchLists) (f : ℕ) (patches₀ : List ℤ) (exact₀ : List ℕ) (patches : List ℤ) (exact : List ℕ) (g : ℕ) : Type 0 where
+record Written (D : PatchLists) (f : ℕ) (patches₀ : List ℤ) (marks₀ : List ℕ) (patches : List ℤ) (marks : List ℕ) (g : ℕ) : Type 0 where
   most : g ≤ f
   patches-long : length patches ≡ length patches₀
   patches-are : patches ≡ filled (writtenNumber D) (48 * g) patches₀
-  marks-long : length exact ≡ length exact₀
-  marks-are : exact ≡ filled (writtenMark D) (16 * g) exact₀
+  marks-long : length marks ≡ length marks₀
+  marks-are : marks ≡ filled (writtenMark D) (16 * g) marks₀
 
 abbrev Inv-loop : tie.InvT-loop
-Inv-loop f faces values links weights points marks patches₀ exact₀ g₀ patches exact g =
-    Written (patchLists faces values links weights points marks) f patches₀ exact₀ patches exact g
+Inv-loop f faces values links weights points flags patches₀ marks₀ g₀ patches marks g =
+    Written (patchLists faces values links weights points flags) f patches₀ marks₀ patches marks g
 
 abbrev μ-loop : tie.MeasureT-loop
-μ-loop f faces values links weights points marks patches₀ exact₀ g₀ patches exact g = f - g
+μ-loop f faces values links weights points flags patches₀ marks₀ g₀ patches marks g = f - g
 
 -- the loop's head and the function's entry, from the parts that are lent
 abbrev head : tie.After-write-patch-arg2 Inv-loop μ-loop → tie.At-loop Inv-loop μ-loop
@@ -38,7 +38,7 @@ start l = l .before .before .before .before
 abbrev lists : tie.Start Inv-loop μ-loop → PatchLists
 lists s =
     let a = s .args in
-    patchLists (a .faces .now) (a .values .now) (a .links .now) (a .weights .now) (a .points .now) (a .marks .now)
+    patchLists (a .faces .now) (a .values .now) (a .links .now) (a .weights .now) (a .points .now) (a .flags .now)
 
 loop-holds : tie.Need-loop-holds Inv-loop μ-loop
 loop-holds c =
@@ -80,7 +80,7 @@ write-patch-requires c κs =
       source = s .pre .source;
       face = omega (arith, s .pre .listed, below);
       patch-room = stretch-long (48 * l .loop .g) 48 (l .loop .patches) (omega (arith, s .pre .patches-room, l .loop .inv .patches-long, below));
-      marks-room = stretch-long (16 * l .loop .g) 16 (l .loop .exact) (omega (arith, s .pre .marks-room, l .loop .inv .marks-long, below));
+      marks-room = stretch-long (16 * l .loop .g) 16 (l .loop .marks) (omega (arith, s .pre .marks-room, l .loop .inv .marks-long, below));
     }
 
 add-g : tie.Need-add-g Inv-loop μ-loop
@@ -98,7 +98,7 @@ loop-again c =
     let w = filled-stretch _ _ (48 * l .loop .g) 48 (48 * (l .loop .g + 1)) (s .args .patches .now) (l .loop .patches) _
     (omega arith) (omega (arith, s .pre .patches-room, below)) (number-placed (lists s) (l .loop .g))
     (l .loop .inv .patches-are) (t .write-patch .ensures .numbers-are) in
-    let x = filled-stretch _ _ (16 * l .loop .g) 16 (16 * (l .loop .g + 1)) (s .args .exact .now) (l .loop .exact) _
+    let x = filled-stretch _ _ (16 * l .loop .g) 16 (16 * (l .loop .g + 1)) (s .args .marks .now) (l .loop .marks) _
     (omega arith) (omega (arith, s .pre .marks-room, below)) (mark-placed (lists s) (l .loop .g))
     (l .loop .inv .marks-are) (t .write-patch .ensures .marks-are) in
     record { most = add-one-le below; patches-long = w .0; patches-are = w .1; marks-long = x .0; marks-are = x .1 }

@@ -23,18 +23,18 @@ use Rattle.patch.proofs.tables.fill_coordinate.Statement.{statement}
 use Rattle.patch.proofs.tables.fill_coordinate.Tie as tie
 
 -- what is written after p vertices
-record Passed (q : ℕ → Fraction) (v k : ℕ) (points₀ : List ℤ) (marks₀ : List ℕ) (points : List ℤ) (marks : List ℕ) (p : ℕ) : Type 0 where
+record Passed (q : ℕ → Fraction) (v k : ℕ) (points₀ : List ℤ) (flags₀ : List ℕ) (points : List ℤ) (flags : List ℕ) (p : ℕ) : Type 0 where
   most : p ≤ v
   points-long : length points ≡ length points₀
-  marks-long : length marks ≡ length marks₀
-  written : Coordinate q p k points₀ points marks₀ marks
+  marks-long : length flags ≡ length flags₀
+  written : Coordinate q p k points₀ points flags₀ flags
 
 abbrev Inv-loop : tie.InvT-loop
-Inv-loop v positions faces values ends rules k points₀ marks₀ ring sharp p₀ points marks p =
-    Passed (ruledPoint (cornerLists positions faces values ends rules) k) v k points₀ marks₀ points marks p
+Inv-loop v positions faces values ends rules k points₀ flags₀ ring sharp p₀ points flags p =
+    Passed (ruledPoint (cornerLists positions faces values ends rules) k) v k points₀ flags₀ points flags p
 
 abbrev μ-loop : tie.MeasureT-loop
-μ-loop v positions faces values ends rules k points₀ marks₀ ring sharp p₀ points marks p = v - p
+μ-loop v positions faces values ends rules k points₀ flags₀ ring sharp p₀ points flags p = v - p
 
 -- ---- the sums are made: the function's entry, from the first of their tables
 abbrev made : tie.After-ring Inv-loop μ-loop → tie.Start Inv-loop μ-loop
@@ -166,7 +166,7 @@ module _ (c : tie.After-struct-told Inv-loop μ-loop) where
   placed : 3 * p at + start at .args .k < length (at .loop .points)
   placed = let s = start at in omega (arith, below (turn asked), s .pre .axis, s .pre .points-room, at .loop .inv .points-long)
 
-  marked : p at < length (at .loop .marks)
+  marked : p at < length (at .loop .flags)
   marked = omega (arith, below (turn asked), start at .pre .marks-room, at .loop .inv .marks-long)
 
 mul-units : tie.Need-mul-units Inv-loop μ-loop
@@ -185,8 +185,8 @@ kept-requires c κs = tt
 abbrev told : tie.After-kept Inv-loop μ-loop → tie.After-struct-told Inv-loop μ-loop
 told c = c .before .before
 
-slice-write-marks : tie.Need-slice-write-marks Inv-loop μ-loop
-slice-write-marks c = marked (told c)
+slice-write-flags : tie.Need-slice-write-flags Inv-loop μ-loop
+slice-write-flags c = marked (told c)
 
 add-p : tie.Need-add-p Inv-loop μ-loop
 add-p c = omega (arith, few (turn (asked (told c))))
@@ -199,11 +199,11 @@ loop-again c =
     let t = told c in
     let l = at t in
     let s = start l in
-    let stays = ap (λ (v : Stored). cond (v .exact) (getD (l .loop .marks) (p l) 0) 0) (value-is t) in
+    let stays = ap (λ (v : Stored). cond (v .exact) (getD (l .loop .flags) (p l) 0) 0) (value-is t) in
     record {
       most = add-one-le (below (turn (asked t)));
       points-long = length-set (l .loop .points) _ _ ∙ l .loop .inv .points-long;
-      marks-long = length-set (l .loop .marks) _ _ ∙ l .loop .inv .marks-long;
+      marks-long = length-set (l .loop .flags) _ _ ∙ l .loop .inv .marks-long;
       written =
           coordinate-more (point l) (s .args .k) (p l) _ _ (s .pre .axis) (l .loop .inv .written) (placed t) (marked t) (units-is t)
           (c .kept .ensures ∙ stays);
@@ -244,7 +244,7 @@ fill-coordinate-spec =
     slice-set-from-units
     slice-read-kept
     kept-requires
-    slice-write-marks
+    slice-write-flags
     add-p
     loop-less
     loop-again

@@ -15,18 +15,18 @@ use Rattle.patch.proofs.tables.fill_corners.Statement.{statement}
 use Rattle.patch.proofs.tables.fill_corners.Tie as tie
 
 -- what is written after k coordinates
-record Passed (q : ℕ → ℕ → Fraction) (v : ℕ) (points₀ : List ℤ) (marks₀ : List ℕ) (points : List ℤ) (marks : List ℕ) (k : ℕ) : Type 0 where
+record Passed (q : ℕ → ℕ → Fraction) (v : ℕ) (points₀ : List ℤ) (flags₀ : List ℕ) (points : List ℤ) (flags : List ℕ) (k : ℕ) : Type 0 where
   most : k ≤ 3
   points-long : length points ≡ length points₀
-  marks-long : length marks ≡ length marks₀
-  written : CornerPoints q v k points marks
+  marks-long : length flags ≡ length flags₀
+  written : CornerPoints q v k points flags
 
 abbrev Inv-loop : tie.InvT-loop
-Inv-loop v positions faces values ends rules points₀ marks₀ k₀ points marks k =
-    Passed (ruledPoint (cornerLists positions faces values ends rules)) v points₀ marks₀ points marks k
+Inv-loop v positions faces values ends rules points₀ flags₀ k₀ points flags k =
+    Passed (ruledPoint (cornerLists positions faces values ends rules)) v points₀ flags₀ points flags k
 
 abbrev μ-loop : tie.MeasureT-loop
-μ-loop v positions faces values ends rules points₀ marks₀ k₀ points marks k = 3 - k
+μ-loop v positions faces values ends rules points₀ flags₀ k₀ points flags k = 3 - k
 
 loop-holds : tie.Need-loop-holds Inv-loop μ-loop
 unfolding foldBelow

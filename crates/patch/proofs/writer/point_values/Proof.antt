@@ -12,7 +12,7 @@ use Rattle.patch.proofs.writer.point_values.Tie as tie
 abbrev lists : tie.Start → PatchLists
 lists s =
     let a = s .args in
-    patchLists (a .faces .now) (a .values .now) (a .links .now) (a .weights .now) (a .points .now) (a .marks .now)
+    patchLists (a .faces .now) (a .values .now) (a .links .now) (a .weights .now) (a .points .now) (a .flags .now)
 
 abbrev start : tie.After-shared-slice-known2 → tie.Start
 start c = c .before .before

@@ -46,7 +46,7 @@ returns c =
     (read-back w32 (x .vertex-point .ok) (x .vertex-point .ensures))
     (read-back w32 (y .vertex-point2 .ok) (y .vertex-point2 .ensures))
     (read-back w32 (z .vertex-point3 .ok) (z .vertex-point3 .ensures))
-    (ap (λ (p : ℕ). eqb (getD (start x .args .marks .now) p 0) 1) (w .wide .ensures))
+    (ap (λ (p : ℕ). eqb (getD (start x .args .flags .now) p 0) 1) (w .wide .ensures))
 
 pub vertex-points-spec : {M : Type 1} → statement M
 vertex-points-spec =

@@ -15,7 +15,7 @@ use Rattle.patch.proofs.writer.write_numbered.Tie as tie
 abbrev lists : tie.Start → PatchLists
 lists s =
     let a = s .args in
-    patchLists (a .faces .now) (a .values .now) (a .links .now) (a .weights .now) (a .points .now) (a .marks .now)
+    patchLists (a .faces .now) (a .values .now) (a .links .now) (a .weights .now) (a .points .now) (a .flags .now)
 
 -- ---- the way back from the table's entry and from the call
 abbrev start : tie.After-kind → tie.Start

@@ -12,19 +12,19 @@ use Rattle.patch.proofs.writer.write_patch.Statement.{statement}
 use Rattle.patch.proofs.writer.write_patch.Tie as tie
 
 -- what is written after m points: three numbers and a mark of each
-record Written (D : PatchLists) (g : ℕ) (patch₀ : List ℤ) (exact₀ : List ℕ) (patch : List ℤ) (exact : List ℕ) (m : ℕ) : Type 0 where
+record Written (D : PatchLists) (g : ℕ) (patch₀ : List ℤ) (marks₀ : List ℕ) (patch : List ℤ) (marks : List ℕ) (m : ℕ) : Type 0 where
   most : m ≤ 16
   patch-long : length patch ≡ length patch₀
   patch-is : patch ≡ filled (numberFrom D g) (3 * m) patch₀
-  marks-long : length exact ≡ length exact₀
-  marks-are : exact ≡ filled (markFrom D g) m exact₀
+  marks-long : length marks ≡ length marks₀
+  marks-are : marks ≡ filled (markFrom D g) m marks₀
 
 abbrev Inv-loop : tie.InvT-loop
-Inv-loop faces values links weights points marks g patch₀ exact₀ m₀ patch exact m =
-    Written (patchLists faces values links weights points marks) g patch₀ exact₀ patch exact m
+Inv-loop faces values links weights points flags g patch₀ marks₀ m₀ patch marks m =
+    Written (patchLists faces values links weights points flags) g patch₀ marks₀ patch marks m
 
 abbrev μ-loop : tie.MeasureT-loop
-μ-loop faces values links weights points marks g patch₀ exact₀ m₀ patch exact m = 16 - m
+μ-loop faces values links weights points flags g patch₀ marks₀ m₀ patch marks m = 16 - m
 
 -- ---- in the loop: the entry, the number that belongs at place i, and the part of the list that is lent is long enough
 module _ (c : tie.In-loop Inv-loop μ-loop) where
@@ -37,7 +37,7 @@ module _ (c : tie.In-loop Inv-loop μ-loop) where
   abbrev lists : PatchLists
   lists =
       let a = start .args in
-      patchLists (a .faces .now) (a .values .now) (a .links .now) (a .weights .now) (a .points .now) (a .marks .now)
+      patchLists (a .faces .now) (a .values .now) (a .links .now) (a .weights .now) (a .points .now) (a .flags .now)
 
   room : 3 * head .loop .m + 3 ≤ length (start .args .patch .now)
   room = omega (arith, start .pre .patch-room, c .loop-test .taken)
@@ -74,8 +74,8 @@ write-numbered-requires c κs =
       room = stretch-long (3 * l .m) 3 (l .patch) (omega (arith, room i, l .inv .patch-long));
     }
 
-slice-write-exact : tie.Need-slice-write-exact Inv-loop μ-loop
-slice-write-exact c =
+slice-write-marks : tie.Need-slice-write-marks Inv-loop μ-loop
+slice-write-marks c =
     let i : tie.In-loop Inv-loop μ-loop = c .before .before .before in
     omega (arith, i .loop-test .taken, start i .pre .marks-room, head i .loop .inv .marks-long)
 
@@ -97,9 +97,9 @@ loop-again c =
       most = omega (arith, i .loop-test .taken);
       patch-long = w .0;
       patch-is = w .1;
-      marks-long = length-set (l .exact) (l .m) _ ∙ l .inv .marks-long;
+      marks-long = length-set (l .marks) (l .m) _ ∙ l .inv .marks-long;
       marks-are =
-          filled-more (markFrom (lists i) (s .args .g)) (l .m) _ (s .args .exact .now) (l .exact)
+          filled-more (markFrom (lists i) (s .args .g)) (l .m) _ (s .args .marks .now) (l .marks)
           (omega (arith, i .loop-test .taken, s .pre .marks-room)) (l .inv .marks-are) (c .before .write-numbered .ensures .mark-is);
     }
 
@@ -130,7 +130,7 @@ write-patch-spec =
     part-write-numbered-start
     part-write-numbered-end
     write-numbered-requires
-    slice-write-exact
+    slice-write-marks
     add-m
     loop-less
     loop-again

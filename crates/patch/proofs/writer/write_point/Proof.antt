@@ -18,7 +18,7 @@ use Rattle.patch.proofs.writer.write_point.Tie as tie
 abbrev lists : tie.Start → PatchLists
 lists s =
     let a = s .args in
-    patchLists (a .faces .now) (a .values .now) (a .links .now) (a .weights .now) (a .points .now) (a .marks .now)
+    patchLists (a .faces .now) (a .values .now) (a .links .now) (a .weights .now) (a .points .now) (a .flags .now)
 
 -- ---- the call that gave the point, and the function's entry
 abbrev made : tie.After-struct-told → tie.After-point-values
