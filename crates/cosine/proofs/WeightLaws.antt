@@ -11,7 +11,7 @@ use Rattle.integer.specs.Nearest.{nearest}
 use Rattle.finite.proofs.FoldLaws.{bool-cases}
 use Rattle.finite.proofs.FilledLaws.{length-listBelow, listBelow-at}
 use Rattle.finite.proofs.AnyAll.{and-true}
-use Rattle.cosine.specs.Weight.{divisor, weighed, weightBy, place, weightsBy, listed}
+use Rattle.cosine.specs.Weight.{divisor, weighed, weightBy, weightPlace, weightsBy, listed}
 
 -- ---- there is a weight, or there is none
 pub record Weighed (n i : ℕ) : Type 0 where
@@ -39,29 +39,29 @@ module _ (f : ℕ → ℕ → ℤ) (n i : ℕ) where
   weight-off t = rw t
 
 -- ---- the lists by place
-place-faces : (n i : ℕ) → 3 ≤ n → i < 16 → 3 + place n i / 16 ≡ n
+place-faces : (n i : ℕ) → 3 ≤ n → i < 16 → 3 + weightPlace n i / 16 ≡ n
 place-faces n i a l = omega arith
 
-place-rest : (n i : ℕ) → 3 ≤ n → i < 16 → place n i % 16 ≡ i
+place-rest : (n i : ℕ) → 3 ≤ n → i < 16 → weightPlace n i % 16 ≡ i
 place-rest n i a l = omega arith
 
-pub place-below : (n i : ℕ) → Weighed n i → place n i < 224
+pub place-below : (n i : ℕ) → Weighed n i → weightPlace n i < 224
 place-below n i w = omega (arith, w .place, w .most)
 
 pub all-length : (f : ℕ → ℕ → ℤ) → length (weightsBy f) ≡ 224
 unfolding weightsBy
 all-length f = length-listBelow (λ k. weightBy f (3 + k / 16) (k % 16)) 224
 
-pub at-place : (f : ℕ → ℕ → ℤ) (n i : ℕ) → Weighed n i → getD (weightsBy f) (place n i) (pos 0) ≡ weightBy f n i
+pub at-place : (f : ℕ → ℕ → ℤ) (n i : ℕ) → Weighed n i → getD (weightsBy f) (weightPlace n i) (pos 0) ≡ weightBy f n i
 unfolding weightsBy
 at-place f n i w =
     let l : i < 16 = omega (arith, w .place, w .most) in
-    listBelow-at (λ k. weightBy f (3 + k / 16) (k % 16)) 224 (place n i) (pos 0) (place-below n i w)
+    listBelow-at (λ k. weightBy f (3 + k / 16) (k % 16)) 224 (weightPlace n i) (pos 0) (place-below n i w)
     ∙ ap₂ (weightBy f) (place-faces n i (w .least) l) (place-rest n i (w .least) l)
 
 -- what a list has for n and i, as the code reads it
 module _ (xs : List ℤ) (n i : ℕ) where
-  pub listed-at : weighed n i ≡ true → getD xs (place n i) (pos 0) ≡ listed xs n i
+  pub listed-at : weighed n i ≡ true → getD xs (weightPlace n i) (pos 0) ≡ listed xs n i
   listed-at t = rw t
 
   pub listed-off : weighed n i ≡ false → pos 0 ≡ listed xs n i

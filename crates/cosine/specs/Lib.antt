@@ -2,3 +2,4 @@
 pub mod Cosine
 pub mod Root
 pub mod Weight
+pub mod Generator

@@ -14,7 +14,7 @@
 --   weightBy f n i       the weight with that numerator, f n i: the quotient, rounded once; 0 where there is no such weight (rules D4, D5)
 --   edgeWeight n i       A(n, i), with edgeNumerator
 --   faceWeight n i       B(n, i), with faceNumerator
---   place n i            where the weight of n and i stands in its list: there are 16 places for each n
+--   weightPlace n i      where the weight of n and i stands in its list: there are 16 places for each n
 --   weightsBy f          all the weights with that numerator, each at its place, and 0 where there is none (rule D6)
 --   listed xs n i        what such a list has for n and i, 0 where there is no such weight
 --   allWeights           the two lists as the code has them
@@ -71,14 +71,14 @@ edgeWeight n i = weightBy edgeNumerator n i
 abbrev pub faceWeight : ℕ → ℕ → ℤ
 faceWeight n i = weightBy faceNumerator n i
 
-abbrev pub place : ℕ → ℕ → ℕ
-place n i = 16 * (n - 3) + i
+abbrev pub weightPlace : ℕ → ℕ → ℕ
+weightPlace n i = 16 * (n - 3) + i
 
 unfoldable pub weightsBy : (ℕ → ℕ → ℤ) → List ℤ
 weightsBy numerator = listBelow (λ k. weightBy numerator (3 + k / 16) (k % 16)) 224
 
 abbrev pub listed : List ℤ → ℕ → ℕ → ℤ
-listed weights n i = cond (weighed n i) (getD weights (place n i) (pos 0)) (pos 0)
+listed weights n i = cond (weighed n i) (getD weights (weightPlace n i) (pos 0)) (pos 0)
 
 abbrev pub allWeights : Weights
 allWeights = record { edge = weightsBy edgeNumerator; face = weightsBy faceNumerator }

@@ -7,6 +7,7 @@ ghost use Prim.Native.Nat.{_+_, _*_, _≤_, _<_, _^_};
 ghost use lib.IntN.{pos, natAbs, _+ℤ_, _-ℤ_, _*ℤ_};
 ghost use lib.ListN.{length};
 ghost use Rattle.integer.specs.Nearest.{nearest};
+ghost use Rattle.cosine.specs.Generator.{ForQuotient};
 ghost use Rattle.cosine.specs.Cosine.{scale, cosine as cosineOf};
 ghost use Rattle.cosine.specs.Weight.{chain, multipleCosine, halfCosine, hypotenuse as hypotenuseOf, divisor, edgeNumerator, faceNumerator, edgeWeight, faceWeight, weightsBy};
 
@@ -70,7 +71,7 @@ fn hypotenuse(n: usize) -> u64
 
 // The product of two numbers over n R, rounded once.
 fn over_divisor(factor: i64, value: i64, n: usize) -> i32
-    requires { ⌜ (natAbs factor ≤ 2 ^ 23) × (natAbs value ≤ 2 ^ 21) × (3 ≤ n) × (n ≤ 16) ⌝ }
+    requires { ⌜ ForQuotient factor value n ⌝ }
     ensures { λ r. ⌜ r ≡ nearest (factor *ℤ value) (divisor n) ⌝ }
 {
     let over = n as u64 * hypotenuse(n);

@@ -16,7 +16,7 @@ ghost use mathlib.Core.Bool.{true};
 ghost use lib.ListN.{length};
 ghost use Prim.Native.Nat.{_<_};
 ghost use Rattle.cosine.specs.Cosine.{Entry};
-ghost use Rattle.cosine.specs.Weight.{weighed as weighedOf, place as placeOf, listed, edgeWeight, faceWeight, allWeights};
+ghost use Rattle.cosine.specs.Weight.{weighed as weighedOf, weightPlace, listed, edgeWeight, faceWeight, allWeights};
 
 // The whole number that is nearest to 2^20 times the cosine of 2 pi / m, m from 3 to 32.
 // Returns: that number, or 0 for another m. Refuses: nothing.
@@ -42,7 +42,7 @@ pub(crate) fn weighed(n: usize, i: usize) -> bool
 // Where the weight of n and i stands in its table.
 fn place(n: usize, i: usize) -> usize
     requires { ⌜ weighedOf n i ≡ true ⌝ }
-    ensures { λ r. ⌜ (r ≡ placeOf n i) × (r < 224) ⌝ }
+    ensures { λ r. ⌜ (r ≡ weightPlace n i) × (r < 224) ⌝ }
 {
     16 * (n - 3) + i
 }

@@ -8,3 +8,4 @@ pub mod WellFormed
 pub mod Tables
 pub mod Phases
 pub mod Circulation
+pub mod Walk

@@ -10,7 +10,8 @@ ghost use lib.ListN.{length};
 ghost use Rattle.limits.specs.Limits.{noTwin};
 ghost use Rattle.mesh.specs.Fan.{around};
 ghost use Rattle.mesh.specs.Tables.{Corners, twinOf};
-ghost use Rattle.mesh.specs.Circulation.{Paired, backAround, Run, Circulated};
+ghost use Rattle.mesh.specs.Walk.{Walkable};
+ghost use Rattle.mesh.specs.Circulation.{backAround, Run, Circulated};
 
 // "No twin", where a corner is wanted.
 const NO_CORNER: usize = Mesh::NO_TWIN as usize;
@@ -46,7 +47,7 @@ fn back_around_from(twins: &[u16], n: usize, c: usize) -> usize
 
 // The walk on from start about its vertex, until it is back at start or ends at the boundary.
 pub(crate) fn walk_on(twins: &[u16], n: usize, start: usize) -> Met
-    requires { ⌜ (n ≤ length (now twins)) × (start < n) × Corners n × Paired (twinOf (now twins)) n ⌝ }
+    requires { ⌜ Walkable (now twins) n start ⌝ }
     ensures { λ r. ⌜ Run (around (twinOf (now (twins .entry))) n) n start (r .corners) (cond (r .closed) start noTwin) ⌝ }
 {
     let mut met = 1;
@@ -69,7 +70,7 @@ pub(crate) fn walk_on(twins: &[u16], n: usize, start: usize) -> Met
 
 // How many corners the walk on from start, which met so many and ended at the boundary, and the walk back from start meet together.
 fn walk_back(twins: &[u16], n: usize, start: usize, onward: usize) -> usize
-    requires { ⌜ (n ≤ length (now twins)) × (start < n) × Corners n × Paired (twinOf (now twins)) n ⌝ }
+    requires { ⌜ Walkable (now twins) n start ⌝ }
     requires { ⌜ Run (around (twinOf (now twins)) n) n start onward noTwin ⌝ }
     ensures { λ r. ⌜ Circulated (twinOf (now (twins .entry))) n start r ⌝ }
 {
@@ -84,7 +85,7 @@ fn walk_back(twins: &[u16], n: usize, start: usize, onward: usize) -> usize
 
 // How many corners circulating about the vertex of start meets.
 pub(crate) fn circulate(twins: &[u16], n: usize, start: usize) -> usize
-    requires { ⌜ (n ≤ length (now twins)) × (start < n) × Corners n × Paired (twinOf (now twins)) n ⌝ }
+    requires { ⌜ Walkable (now twins) n start ⌝ }
     ensures { λ r. ⌜ Circulated (twinOf (now (twins .entry))) n start r ⌝ }
 {
     let on = walk_on(twins, n, start);

@@ -48,7 +48,7 @@ pub(crate) fn tessellate(
         return Opened::Refused(steps_refusal(v, f, positions, tags, faces));
     }
     let mut twins = [0u16; 4 * Mesh::MAX_FACES];
-    let mut exact = [0u8; 16 * Mesh::MAX_FACES];
+    let mut marks = [0u8; 16 * Mesh::MAX_FACES];
     match patch::patches(
         v,
         f,
@@ -57,7 +57,7 @@ pub(crate) fn tessellate(
         faces,
         &mut twins,
         patches,
-        &mut exact,
+        &mut marks,
     ) {
         Checked::Accepted(mesh) => Opened::Ready(Tessellation { mesh, steps: n }),
         Checked::Refused(k) => Opened::Refused(k),

@@ -19,18 +19,18 @@ pub fn evaluate(
     faces: &[u16],
     twins: &mut [u16],
     patches: &mut [i32],
-    exact: &mut [u8],
+    marks: &mut [u8],
     n: usize,
     place: SamplePlace,
 ) -> Evaluation
     ensures { λ r. ⌜ Evaluated n
         (asked (indexed v f (now (positions .entry)) (now (tags .entry)) (now (faces .entry)))
-        (lent (now (twins .entry)) (now (patches .entry)) (now (exact .entry))) place) r
-        (lent (now (twins .exit)) (now (patches .exit)) (now (exact .exit))) ⌝ }
+        (lent (now (twins .entry)) (now (patches .entry)) (now (marks .entry))) place) r
+        (lent (now (twins .exit)) (now (patches .exit)) (now (marks .exit))) ⌝ }
 {
-    let mesh = patch::patches(v, f, positions, tags, faces, twins, patches, exact);
+    let mesh = patch::patches(v, f, positions, tags, faces, twins, patches, marks);
     let sample = sample::sample(patches, place.face, n, place.a, place.b);
-    let marked = sample::marked_sample(patches, exact, place.face, n, place.a, place.b);
+    let marked = sample::marked_sample(patches, marks, place.face, n, place.a, place.b);
     Evaluation {
         mesh,
         sample,
@@ -50,7 +50,7 @@ pub fn witness(
     faces: &[u16],
     twins: &mut [u16],
     patches: &mut [i32],
-    exact: &mut [u8],
+    marks: &mut [u8],
     v2: usize,
     f2: usize,
     positions2: &[i32],
@@ -58,7 +58,7 @@ pub fn witness(
     faces2: &[u16],
     twins2: &mut [u16],
     patches2: &mut [i32],
-    exact2: &mut [u8],
+    marks2: &mut [u8],
     n: usize,
     place: SamplePlace,
     other: SamplePlace,
@@ -66,11 +66,11 @@ pub fn witness(
 ) -> Witness
     ensures { λ r. ⌜ Witnessed n
         (asked (indexed v f (now (positions .entry)) (now (tags .entry)) (now (faces .entry)))
-        (lent (now (twins .entry)) (now (patches .entry)) (now (exact .entry))) place) other
+        (lent (now (twins .entry)) (now (patches .entry)) (now (marks .entry))) place) other
         (asked (indexed v2 f2 (now (positions2 .entry)) (now (tags2 .entry)) (now (faces2 .entry)))
-        (lent (now (twins2 .entry)) (now (patches2 .entry)) (now (exact2 .entry))) place2) r
-        (lent (now (twins .exit)) (now (patches .exit)) (now (exact .exit)))
-        (lent (now (twins2 .exit)) (now (patches2 .exit)) (now (exact2 .exit))) ⌝ }
+        (lent (now (twins2 .entry)) (now (patches2 .entry)) (now (marks2 .entry))) place2) r
+        (lent (now (twins .exit)) (now (patches .exit)) (now (marks .exit)))
+        (lent (now (twins2 .exit)) (now (patches2 .exit)) (now (marks2 .exit))) ⌝ }
 {
     let first = evaluate(
         v,
@@ -80,7 +80,7 @@ pub fn witness(
         faces,
         twins,
         patches,
-        exact,
+        marks,
         n,
         place,
     );
@@ -96,7 +96,7 @@ pub fn witness(
             faces2,
             twins2,
             patches2,
-            exact2,
+            marks2,
             n,
             place2,
         ),

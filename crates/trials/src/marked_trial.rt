@@ -36,8 +36,8 @@ fn marks(b: &[u8]) -> &[u8] {
 }
 
 // Both calls at one place, with their answers printed.
-fn print_answers(patches: &[i32], exact: &[u8], f: usize, n: usize, a: usize, b: usize) {
-    print_marked(sample::marked_sample(patches, exact, f, n, a, b));
+fn print_answers(patches: &[i32], marks: &[u8], f: usize, n: usize, a: usize, b: usize) {
+    print_marked(sample::marked_sample(patches, marks, f, n, a, b));
     print_text(b" sample");
     print_sampled(sample::sample(patches, f, n, a, b));
 }

@@ -69,7 +69,7 @@ fn mark_room(head: &[u8]) -> usize
 fn row_sums(
     sums: SampleSums,
     patches: &[i32],
-    exact: &[u8],
+    marks: &[u8],
     f: usize,
     n: usize,
     b: usize,
@@ -81,28 +81,28 @@ fn row_sums(
         total = with_answers(
             total,
             sample::sample(patches, f, n, a, b),
-            sample::marked_sample(patches, exact, f, n, a, b),
+            sample::marked_sample(patches, marks, f, n, a, b),
         );
     }
     total
 }
 
 // The sums of the samples of face f.
-fn face_sums(patches: &[i32], exact: &[u8], f: usize, n: usize) -> SampleSums
+fn face_sums(patches: &[i32], marks: &[u8], f: usize, n: usize) -> SampleSums
     requires { ⌜ n < 2 ^ 16 ⌝ }
 {
     let mut sums = no_samples();
     for b in 0..n + 1 {
-        sums = row_sums(sums, patches, exact, f, n, b);
+        sums = row_sums(sums, patches, marks, f, n, b);
     }
     sums
 }
 
 // The line of the samples of face f.
-fn print_samples(patches: &[i32], exact: &[u8], f: usize, n: usize)
+fn print_samples(patches: &[i32], marks: &[u8], f: usize, n: usize)
     requires { ⌜ n < 2 ^ 16 ⌝ }
 {
-    let sums = face_sums(patches, exact, f, n);
+    let sums = face_sums(patches, marks, f, n);
     print_text(b"\n samples");
     print_sums(sums.samples);
     print_answers(patches, f, n, n / 2, n / 2);
@@ -111,11 +111,11 @@ fn print_samples(patches: &[i32], exact: &[u8], f: usize, n: usize)
 }
 
 // The lines of the samples of f faces.
-fn print_faces(patches: &[i32], exact: &[u8], f: usize, n: usize)
+fn print_faces(patches: &[i32], marks: &[u8], f: usize, n: usize)
     requires { ⌜ n < 2 ^ 16 ⌝ }
 {
     for g in 0..f {
-        print_samples(patches, exact, g, n);
+        print_samples(patches, marks, g, n);
     }
 }
 
@@ -127,7 +127,7 @@ pub(crate) fn print_bytes(list: &[u8]) {
 }
 
 // The lists after the call, and the samples of an accepted mesh.
-fn print_lists(answer: Checked, n: usize, twins: &[u16], patches: &[i32], exact: &[u8])
+fn print_lists(answer: Checked, n: usize, twins: &[u16], patches: &[i32], marks: &[u8])
     requires { ⌜ n < 2 ^ 16 ⌝ }
 {
     print_text(b" twins");
@@ -135,11 +135,11 @@ fn print_lists(answer: Checked, n: usize, twins: &[u16], patches: &[i32], exact:
     print_text(b"\n patches");
     print_list(patches);
     print_text(b"\n marks");
-    print_bytes(exact);
+    print_bytes(marks);
     let Checked::Accepted(mesh) = answer else {
         return;
     };
-    print_faces(patches, exact, mesh.faces, n);
+    print_faces(patches, marks, mesh.faces, n);
 }
 
 // The patch call on a mesh and the lent lists, with what it gave printed.
@@ -152,13 +152,13 @@ fn show(
     faces: &[u16],
     twins: &mut [u16],
     patches: &mut [i32],
-    exact: &mut [u8],
+    marks: &mut [u8],
 )
     requires { ⌜ n < 2 ^ 16 ⌝ }
 {
-    let answer = patch::patches(v, f, positions, tags, faces, twins, patches, exact);
+    let answer = patch::patches(v, f, positions, tags, faces, twins, patches, marks);
     print_checked(answer);
-    print_lists(answer, n, twins, patches, exact);
+    print_lists(answer, n, twins, patches, marks);
 }
 
 // The trial with a file's head and the arguments of the check: goes on with lists for the patches and the marks.
@@ -174,7 +174,7 @@ pub(crate) fn run(
     let m = patch_room(head);
     let k = mark_room(head);
     let mut patches = [7i32; PATCH_PLACES];
-    let mut exact = [7u8; MARK_PLACES];
+    let mut marks = [7u8; MARK_PLACES];
     show(
         u16_at(head, 6),
         v,
@@ -184,6 +184,6 @@ pub(crate) fn run(
         faces,
         twins,
         &mut patches[0..m],
-        &mut exact[0..k],
+        &mut marks[0..k],
     );
 }

@@ -48,12 +48,13 @@ multiple-cosine-requires c κs = let w = range (c .before) in (omega (arith, w .
 over-divisor-requires : tie.Need-over-divisor-requires
 over-divisor-requires c κs =
     let t = there c in
-    let w = range t in (
-      rw (factor-is c) (sum-size (n t) (w .most)),
-      rw (value-is c) (multiple-size (n t) (i t) (omega (arith, w .most)) (omega (arith, w .place))),
-      w .least,
-      w .most,
-    )
+    let w = range t in
+    record {
+      factor-small = rw (factor-is c) (sum-size (n t) (w .most));
+      value-small = rw (value-is c) (multiple-size (n t) (i t) (omega (arith, w .most)) (omega (arith, w .place)));
+      least = w .least;
+      most = w .most;
+    }
 
 returns : tie.Need-returns
 returns c =

@@ -49,12 +49,13 @@ multiple-cosine-requires c κs = (omega (arith, range c .most), omega (arith, ra
 over-divisor-requires : tie.Need-over-divisor-requires
 over-divisor-requires c κs =
     let t = c .before in
-    let w = range t in (
-      omega arith,
-      rw (value-is c) (multiple-size (2 * n t) (halfAngles (i t)) (omega (arith, w .most)) (omega (arith, w .place))),
-      w .least,
-      w .most,
-    )
+    let w = range t in
+    record {
+      factor-small = omega arith;
+      value-small = rw (value-is c) (multiple-size (2 * n t) (halfAngles (i t)) (omega (arith, w .most)) (omega (arith, w .place)));
+      least = w .least;
+      most = w .most;
+    }
 
 returns : tie.Need-returns
 returns c =

@@ -2,6 +2,7 @@
 use mathlib.Core.Path.{_≡_, refl, _∙_}
 use Prim.Native.Nat.{ℕ, _+_, _-_, _/_, _%_, _≤_}
 use native.Mathlib.Omega.{arith}
+use mathlib.Core.List.{List}
 use lib.IntN.{ℤ}
 use lib.ListN.{length, length-set}
 use mir.Syntax.{w32}
@@ -22,9 +23,18 @@ edgeAt = weightAt edgeNumerator
 abbrev faceAt : ℕ → ℤ
 faceAt = weightAt faceNumerator
 
+-- the first k places of a list that was `before` hold the weights with the numerator f
+record Weighed (f : ℕ → ℕ → ℤ) (k : ℕ) (before list : List ℤ) : Type 0 where
+  long : length list ≡ length before
+  are : list ≡ filled (weightAt f) k before
+
+record Written (edge₀ face₀ : List ℤ) (k : ℕ) (edge face : List ℤ) : Type 0 where
+  most : k ≤ 224
+  edges : Weighed edgeNumerator k edge₀ edge
+  faces : Weighed faceNumerator k face₀ face
+
 abbrev Inv-loop : tie.InvT-loop
-Inv-loop edge₀ face₀ k₀ edge face k =
-    (k ≤ 224) × (length edge ≡ length edge₀) × (length face ≡ length face₀) × (edge ≡ filled edgeAt k edge₀) × (face ≡ filled faceAt k face₀)
+Inv-loop edge₀ face₀ k₀ edge face k = Written edge₀ face₀ k edge face
 
 abbrev μ-loop : tie.MeasureT-loop
 μ-loop edge₀ face₀ k₀ edge face k = 224 - k
@@ -35,7 +45,8 @@ head c = c .before .before .before
 
 -- ---- the answers, in the order of the code
 loop-holds : tie.Need-loop-holds Inv-loop μ-loop
-loop-holds c = (omega arith, refl, refl, filled-start _ _, filled-start _ _)
+loop-holds c =
+    record { most = omega arith; edges = record { long = refl; are = filled-start _ _ }; faces = record { long = refl; are = filled-start _ _ } }
 
 add-n : tie.Need-add-n Inv-loop μ-loop
 add-n c = omega arith
@@ -47,7 +58,7 @@ mul-face : tie.Need-mul-face Inv-loop μ-loop
 mul-face c = omega arith
 
 slice-set-from-face : tie.Need-slice-set-from-face Inv-loop μ-loop
-slice-set-from-face c = omega (arith, c .before .before .loop .inv .1, c .before .before .before .pre .0)
+slice-set-from-face c = omega (arith, c .before .before .loop .inv .edges .long, c .before .before .before .pre .0)
 
 face-entry-requires : tie.Need-face-entry-requires Inv-loop μ-loop
 face-entry-requires c κs = tt
@@ -56,7 +67,7 @@ mul-t7 : tie.Need-mul-t7 Inv-loop μ-loop
 mul-t7 c = omega arith
 
 slice-set-from-face-2 : tie.Need-slice-set-from-face-2 Inv-loop μ-loop
-slice-set-from-face-2 c = omega (arith, head c .loop .inv .2, head c .before .pre .1)
+slice-set-from-face-2 c = omega (arith, head c .loop .inv .faces .long, head c .before .pre .1)
 
 add-k : tie.Need-add-k Inv-loop μ-loop
 add-k c = omega arith
@@ -67,30 +78,37 @@ loop-less c = omega arith
 loop-again : tie.Need-loop-again Inv-loop μ-loop
 loop-again c =
     let l = head c .loop in
-    let s = head c .before in (
-      omega arith,
-      rw length-set (l .inv .1),
-      rw length-set (l .inv .2),
-      filled-more edgeAt (l .k) _ (s .args .edge .now) (l .edge) (omega (arith, s .pre .0)) (l .inv .3)
-          (read-back w32 (c .before .edge-entry .ok) (c .before .edge-entry .ensures)),
-      filled-more faceAt (l .k) _ (s .args .face .now) (l .face) (omega (arith, s .pre .1)) (l .inv .4)
-          (read-back w32 (c .face-entry .ok) (c .face-entry .ensures)),
-    )
+    let s = head c .before in
+    record {
+      most = omega arith;
+      edges = record {
+        long = rw length-set (l .inv .edges .long);
+        are =
+            filled-more edgeAt (l .k) _ (s .args .edge .now) (l .edge) (omega (arith, s .pre .0)) (l .inv .edges .are)
+            (read-back w32 (c .before .edge-entry .ok) (c .before .edge-entry .ensures));
+      };
+      faces = record {
+        long = rw length-set (l .inv .faces .long);
+        are =
+            filled-more faceAt (l .k) _ (s .args .face .now) (l .face) (omega (arith, s .pre .1)) (l .inv .faces .are)
+            (read-back w32 (c .face-entry .ok) (c .face-entry .ensures));
+      };
+    }
 
 same-length : tie.Need-same-length Inv-loop μ-loop
-same-length c = c .before .loop .inv .1
+same-length c = c .before .loop .inv .edges .long
 
 same-length-2 : tie.Need-same-length-2 Inv-loop μ-loop
-same-length-2 c = c .before .loop .inv .2
+same-length-2 c = c .before .loop .inv .faces .long
 
 returns : tie.Need-returns Inv-loop μ-loop
 unfolding weightsBy
 returns c =
     let l = c .before .loop in
     let s = c .before .before in (
-      filled-all edgeAt 224 (l .k) (s .args .edge .now) (l .edge) (l .inv .0) (c .loop-test .left) (l .inv .3)
+      filled-all edgeAt 224 (l .k) (s .args .edge .now) (l .edge) (l .inv .most) (c .loop-test .left) (l .inv .edges .are)
           ∙ filled-whole edgeAt 224 (s .args .edge .now) (s .pre .0),
-      filled-all faceAt 224 (l .k) (s .args .face .now) (l .face) (l .inv .0) (c .loop-test .left) (l .inv .4)
+      filled-all faceAt 224 (l .k) (s .args .face .now) (l .face) (l .inv .most) (c .loop-test .left) (l .inv .faces .are)
           ∙ filled-whole faceAt 224 (s .args .face .now) (s .pre .1),
     )
 

@@ -20,7 +20,7 @@ module _ (c : tie.Start) where
   product = c .args .factor *ℤ c .args .value
 
   product-size : natAbs product ≤ 2 ^ 44
-  product-size = abs-*-≤ (c .args .factor) (c .args .value) (c .pre .0) (c .pre .1)
+  product-size = abs-*-≤ (c .args .factor) (c .args .value) (c .pre .factor-small) (c .pre .value-small)
 
   product-is : toZ w64 (ofZ w64 (c .args .factor)) *ℤ toZ w64 (ofZ w64 (c .args .value)) ≡ product
   product-is = ap₂ _*ℤ_ (toZ-ofZ (c .fits .factor)) (toZ-ofZ (c .fits .value))
@@ -37,7 +37,7 @@ module _ (c : tie.After-hypotenuse) where
   divisor-is = ap (λ (r : ℕ). n * r) (c .hypotenuse .ensures)
 
   divisor-small : n * c .hypotenuse .result ≤ 2 ^ 26
-  divisor-small = omega (arith, divisor-is, divisor-size n (c .before .pre .2) (c .before .pre .3) .1)
+  divisor-small = omega (arith, divisor-is, divisor-size n (c .before .pre .least) (c .before .pre .most) .1)
 
 -- ---- the quotient
 module _ (c : tie.After-struct-told) where
@@ -58,13 +58,13 @@ module _ (c : tie.After-struct-told) where
 
   small : SFits w32 quotient
   small =
-      let d = divisor-size (start .args .n) (start .pre .2) (start .pre .3) in
+      let d = divisor-size (start .args .n) (start .pre .least) (start .pre .most) in
       let p : 0 < divisor (start .args .n) = omega (arith, d .0) in
       sfits-abs quotient (omega (arith, nearest-bounded (product start) _ (2 ^ 30) p (omega (arith, d .0, product-size start))))
 
 -- ---- the answers, in the order of the code
 hypotenuse-requires : tie.Need-hypotenuse-requires
-hypotenuse-requires c κs = c .pre .3
+hypotenuse-requires c κs = c .pre .most
 
 mul-over : tie.Need-mul-over
 mul-over c = omega (arith, divisor-small c)

@@ -19,7 +19,7 @@ corner-at-requires c κs = search needs
 circulate-requires : tie.Need-circulate-requires
 circulate-requires c κs =
     let k = start c .pre .0 .0 .twinned in
-    (k .twins-listed, c .corner-at .ensures .0, corners-whole k, twins-paired k)
+    record { listed = k .twins-listed; inside = c .corner-at .ensures .0; corners = corners-whole k; paired = twins-paired k }
 
 mul-wide : tie.Need-mul-wide
 mul-wide c = search needs

@@ -18,7 +18,7 @@ corner-at-requires c κs = search (fan-some, needs)
 walk-on-requires : tie.Need-walk-on-requires
 walk-on-requires c κs =
     let k = start c .pre .0 .twinned in
-    (k .twins-listed, c .corner-at .ensures .0, corners-whole k, twins-paired k)
+    record { listed = k .twins-listed; inside = c .corner-at .ensures .0; corners = corners-whole k; paired = twins-paired k }
 
 returns : tie.Need-returns
 returns c =

@@ -49,7 +49,7 @@ module _ (c : tie.After-patches) where
   same : tessellateRefusal (mesh begin) (begin .args .n) (lent begin) ≡ met
   same = steps-on (mesh begin) (begin .args .n) (lent begin) (begin .pre .faces-high) (sym (ranged .before .off-range .ensures) ∙ ranged .if2 .left)
 
-abbrev called : tie.After-exact2 → tie.After-patches
+abbrev called : tie.After-marks2 → tie.After-patches
 called c = let patched : tie.After-patches2 = c .before in patched .before .before
 
 mul-if1 : tie.Need-mul-if1

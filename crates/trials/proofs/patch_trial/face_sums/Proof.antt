@@ -5,10 +5,10 @@ use Rattle.trials.proofs.patch_trial.face_sums.Statement.{statement}
 use Rattle.trials.proofs.patch_trial.face_sums.Tie as tie
 
 abbrev Inv-loop : tie.InvT-loop
-Inv-loop patches exact f n sums₀ b₀ b-end sums b = Unit {0}
+Inv-loop patches marks f n sums₀ b₀ b-end sums b = Unit {0}
 
 abbrev μ-loop : tie.MeasureT-loop
-μ-loop patches exact f n sums₀ b₀ b-end sums b = b-end - b
+μ-loop patches marks f n sums₀ b₀ b-end sums b = b-end - b
 
 no-samples-requires : tie.Need-no-samples-requires Inv-loop μ-loop
 no-samples-requires c κs = search needs

@@ -5,10 +5,10 @@ use Rattle.trials.proofs.patch_trial.print_faces.Statement.{statement}
 use Rattle.trials.proofs.patch_trial.print_faces.Tie as tie
 
 abbrev Inv-loop : tie.InvT-loop
-Inv-loop patches exact f n g₀ g = Unit {0}
+Inv-loop patches marks f n g₀ g = Unit {0}
 
 abbrev μ-loop : tie.MeasureT-loop
-μ-loop patches exact f n g₀ g = f - g
+μ-loop patches marks f n g₀ g = f - g
 
 loop-holds : tie.Need-loop-holds Inv-loop μ-loop
 loop-holds c = search needs

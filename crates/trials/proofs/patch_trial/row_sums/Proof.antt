@@ -5,10 +5,10 @@ use Rattle.trials.proofs.patch_trial.row_sums.Statement.{statement}
 use Rattle.trials.proofs.patch_trial.row_sums.Tie as tie
 
 abbrev Inv-loop : tie.InvT-loop
-Inv-loop patches exact f n b total₀ a₀ a-end total a = Unit {0}
+Inv-loop patches marks f n b total₀ a₀ a-end total a = Unit {0}
 
 abbrev μ-loop : tie.MeasureT-loop
-μ-loop patches exact f n b total₀ a₀ a-end total a = a-end - a
+μ-loop patches marks f n b total₀ a₀ a-end total a = a-end - a
 
 add-a-end : tie.Need-add-a-end Inv-loop μ-loop
 add-a-end c = search needs
