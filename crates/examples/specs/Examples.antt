@@ -47,8 +47,8 @@ abbrev pub numbers : Answer Mesh → List ℤ
 numbers (result m) = pos (m .vertices) ∷ pos (m .faces) ∷ pos (m .edges) ∷ pos (m .boundary) ∷ []
 numbers (refusal k) = pos k ∷ []
 
-abbrev checked : IndexedMesh → List ℤ
-checked M = numbers (checkAnswer M (replicate (corners M) 0))
+abbrev checkNumbers : IndexedMesh → List ℤ
+checkNumbers M = numbers (checkAnswer M (replicate (corners M) 0))
 
 -- control point b(i,j) of face f
 abbrev pub controlPoint : IndexedMesh → ℕ → ℕ → ℕ → List ℤ
@@ -60,8 +60,8 @@ abbrev sampleNumbers : Answer Sample.Point → List ℤ
 sampleNumbers (result p) = p .x ∷ p .y ∷ p .z ∷ []
 sampleNumbers (refusal k) = pos k ∷ []
 
-abbrev sampled : IndexedMesh → ℕ → ℕ → ℕ → ℕ → List ℤ
-sampled M n f a b = sampleNumbers (sampleAnswer (patchesAfter M []) f n a b)
+abbrev samplingNumbers : IndexedMesh → ℕ → ℕ → ℕ → ℕ → List ℤ
+samplingNumbers M n f a b = sampleNumbers (sampleAnswer (patchesAfter M []) f n a b)
 
 -- the mirror call's answer, with so many places lent for positions, tags and faces: nothing where it is done, or the number of the refusal alone
 abbrev refusalNumber : Answer Unit → List ℤ
@@ -102,10 +102,10 @@ examples =
     example (controlPoint square 0 1 0) (xyz 1792 0 0)
     ∷ example (controlPoint square 0 1 1) (xyz 1792 1792 0)
     ∷ example (controlPoint square 0 2 1) (xyz 3584 1792 0)
-    ∷ example (sampled square 2 0 1 0) (xyz 2688 0 0)
-    ∷ example (sampled square 2 0 1 1) (xyz 2688 2688 0)
-    ∷ example (sampled square 3 0 1 1) (xyz 1792 1792 0)
-    ∷ example (checked cube) (pos 8 ∷ pos 6 ∷ pos 12 ∷ pos 0 ∷ [])
+    ∷ example (samplingNumbers square 2 0 1 0) (xyz 2688 0 0)
+    ∷ example (samplingNumbers square 2 0 1 1) (xyz 2688 2688 0)
+    ∷ example (samplingNumbers square 3 0 1 1) (xyz 1792 1792 0)
+    ∷ example (checkNumbers cube) (pos 8 ∷ pos 6 ∷ pos 12 ∷ pos 0 ∷ [])
     ∷ example (controlPoint cube 0 0 0) (xyz 3072 3072 3072)
     ∷ example (controlPoint cube 0 1 1) (xyz 1536 1536 6144)
     ∷ example (controlPoint cube 0 1 0) (xyz 1536 3840 3840)
@@ -114,10 +114,10 @@ examples =
     ∷ example (nearest (pos 5) 2 ∷ []) (pos 2 ∷ [])
     ∷ example (nearest (negsuc 0) 2 ∷ []) (pos 0 ∷ [])
     ∷ example (nearest (negsuc 2) 2 ∷ []) (negsuc 1 ∷ [])
-    ∷ example (checked pillow) (pos 10 ∷ [])
-    ∷ example (checked doubledFace) (pos 7 ∷ [])
-    ∷ example (checked bowTie) (pos 9 ∷ [])
-    ∷ example (checked strip) (pos 6 ∷ pos 2 ∷ pos 7 ∷ pos 6 ∷ [])
+    ∷ example (checkNumbers pillow) (pos 10 ∷ [])
+    ∷ example (checkNumbers doubledFace) (pos 7 ∷ [])
+    ∷ example (checkNumbers bowTie) (pos 9 ∷ [])
+    ∷ example (checkNumbers strip) (pos 6 ∷ pos 2 ∷ pos 7 ∷ pos 6 ∷ [])
     ∷ example (controlPoint strip 0 1 1) (xyz 768 768 0)
     ∷ example (controlPoint strip 0 2 1) (xyz 1536 768 0)
     ∷ example (controlPoint strip 0 3 1) (xyz 2304 768 256)
@@ -125,23 +125,23 @@ examples =
     ∷ example (controlPoint strip 1 1 1) (xyz 3072 768 512)
     ∷ example (controlPoint strip 1 2 1) (xyz 3840 768 1024)
     ∷ example (controlPoint strip 1 3 0) (xyz 4608 0 2304)
-    ∷ example (checked square) (pos 4 ∷ pos 1 ∷ pos 4 ∷ pos 4 ∷ [])
-    ∷ example (checked (tagged strip (0 ∷ 1 ∷ 0 ∷ 0 ∷ 0 ∷ 0 ∷ []))) (pos 6 ∷ pos 2 ∷ pos 7 ∷ pos 6 ∷ [])
+    ∷ example (checkNumbers square) (pos 4 ∷ pos 1 ∷ pos 4 ∷ pos 4 ∷ [])
+    ∷ example (checkNumbers (tagged strip (0 ∷ 1 ∷ 0 ∷ 0 ∷ 0 ∷ 0 ∷ []))) (pos 6 ∷ pos 2 ∷ pos 7 ∷ pos 6 ∷ [])
     ∷ example (controlPoint (tagged strip (0 ∷ 1 ∷ 0 ∷ 0 ∷ 0 ∷ 0 ∷ [])) 0 3 0) (xyz 2304 0 0)
-    ∷ example (checked (tagged strip (0 ∷ 2 ∷ 0 ∷ 0 ∷ 0 ∷ 0 ∷ []))) (pos 4 ∷ [])
-    ∷ example (checked (tagged cube (0 ∷ 0 ∷ 0 ∷ 0 ∷ 0 ∷ 0 ∷ 0 ∷ 1 ∷ []))) (pos 11 ∷ [])
-    ∷ example (checked openFanOfEight) (pos 18 ∷ pos 8 ∷ pos 25 ∷ pos 18 ∷ [])
-    ∷ example (checked openFanOfNine) (pos 10 ∷ [])
+    ∷ example (checkNumbers (tagged strip (0 ∷ 2 ∷ 0 ∷ 0 ∷ 0 ∷ 0 ∷ []))) (pos 4 ∷ [])
+    ∷ example (checkNumbers (tagged cube (0 ∷ 0 ∷ 0 ∷ 0 ∷ 0 ∷ 0 ∷ 0 ∷ 1 ∷ []))) (pos 11 ∷ [])
+    ∷ example (checkNumbers openFanOfEight) (pos 18 ∷ pos 8 ∷ pos 25 ∷ pos 18 ∷ [])
+    ∷ example (checkNumbers openFanOfNine) (pos 10 ∷ [])
     ∷ example (mirrored strip .positions) (xyz 0 0 0 ++ minusX 9 0 0 ++ minusX 18 0 9 ++ minusX 18 9 0 ++ minusX 9 9 0 ++ xyz 0 9 0)
     ∷ example (naturals (mirrored (tagged strip (0 ∷ 1 ∷ 0 ∷ 0 ∷ 0 ∷ 0 ∷ [])) .tags)) (naturals (0 ∷ 1 ∷ 0 ∷ 0 ∷ 0 ∷ 0 ∷ []))
     ∷ example (naturals (mirrored strip .indices)) (naturals (0 ∷ 5 ∷ 4 ∷ 1 ∷ 1 ∷ 4 ∷ 3 ∷ 2 ∷ []))
-    ∷ example (checked (mirrored strip)) (pos 6 ∷ pos 2 ∷ pos 7 ∷ pos 6 ∷ [])
+    ∷ example (checkNumbers (mirrored strip)) (pos 6 ∷ pos 2 ∷ pos 7 ∷ pos 6 ∷ [])
     ∷ example (controlPoint (mirrored strip) 0 1 2) (minusX 1536 768 0)
     ∷ example (controlPoint (mirrored strip) 0 1 3) (minusX 2304 768 256)
     ∷ example (controlPoint (mirrored strip) 0 0 3) (minusX 2304 0 384)
     ∷ example (controlPoint (mirrored strip) 1 1 1) (minusX 3072 768 512)
-    ∷ example (sampled strip 3 0 2 0) (xyz 1536 0 114)
-    ∷ example (sampled (mirrored strip) 3 0 0 2) (minusX 1536 0 114)
+    ∷ example (samplingNumbers strip 3 0 2 0) (xyz 1536 0 114)
+    ∷ example (samplingNumbers (mirrored strip) 3 0 0 2) (minusX 1536 0 114)
     ∷ example (mirroring strip 18 6 8) []
     ∷ example (mirroring strip 18 7 8) (pos 16 ∷ [])
     ∷ example (mirroring strip 18 6 7) (pos 16 ∷ [])
@@ -152,7 +152,7 @@ examples =
     ∷ example (lined strip 2 1 3 8) (pos 14 ∷ replicate 8 (pos 7))
     ∷ example (lined strip 33 1 3 102) (pos 14 ∷ replicate 102 (pos 7))
     ∷ example (lined strip 0 2 1 0) (pos 12 ∷ [])
-    ∷ example (checked reentrant) (pos 8 ∷ pos 3 ∷ pos 10 ∷ pos 8 ∷ [])
+    ∷ example (checkNumbers reentrant) (pos 8 ∷ pos 3 ∷ pos 10 ∷ pos 8 ∷ [])
     ∷ example (controlPoint reentrant 0 1 1) (xyz 8448 8448 0)
     ∷ example (controlPoint reentrant 0 2 1) (xyz 16896 8448 0)
     ∷ example (controlPoint reentrant 0 2 2) (xyz 18432 18432 0)

@@ -30,8 +30,8 @@ abbrev marksLeft : IndexedMesh → ℕ → List ℤ
 marksLeft M places = naturals (marksList M (lent (replicate (corners M) 0) (replicate (48 * M .faces) (pos 0)) (replicate places 7)))
 
 -- the answer of that call
-abbrev answered : IndexedMesh → ℕ → List ℤ
-answered M places = numbers (patchAnswer M (lent (replicate (corners M) 0) (replicate (48 * M .faces) (pos 0)) (replicate places 7)))
+abbrev patchingNumbers : IndexedMesh → ℕ → List ℤ
+patchingNumbers M places = numbers (patchAnswer M (lent (replicate (corners M) 0) (replicate (48 * M .faces) (pos 0)) (replicate places 7)))
 
 -- the marked sample: x, y, z and 1 or 0 for exact or not, or the number of the refusal alone
 abbrev markedNumbers : Answer MarkedPoint → List ℤ
@@ -39,11 +39,11 @@ markedNumbers (result p) = p .point .x ∷ p .point .y ∷ p .point .z ∷ pos (
 markedNumbers (refusal k) = pos k ∷ []
 
 abbrev markedIn : List ℤ → List ℕ → ℕ → ℕ → ℕ → ℕ → List ℤ
-markedIn patches exact n f a b = markedNumbers (markedAnswer patches exact f n a b)
+markedIn patches marks n f a b = markedNumbers (markedAnswer patches marks f n a b)
 
 -- the marked sample of the two lists of a mesh
-abbrev marked : IndexedMesh → ℕ → ℕ → ℕ → ℕ → List ℤ
-marked M n f a b = markedIn (patchesAfter M []) (marksAfter M []) n f a b
+abbrev markingNumbers : IndexedMesh → ℕ → ℕ → ℕ → ℕ → List ℤ
+markingNumbers M n f a b = markedIn (patchesAfter M []) (marksAfter M []) n f a b
 
 -- three coordinates of a sample that is exact, and of one that is not
 abbrev exactAt : ℕ → ℕ → ℕ → List ℤ
@@ -79,21 +79,21 @@ marks =
     -- only x leaves something
     ∷ example (marksLeft narrowSquare 16) (naturals (four 1 0 0 1 ++ four 1 0 0 1 ++ four 1 0 0 1 ++ four 1 0 0 1))
     -- a place too few: 2, and an untouched list
-    ∷ example (answered strip 32) (pos 6 ∷ pos 2 ∷ pos 7 ∷ pos 6 ∷ [])
-    ∷ example (answered strip 31) (pos 2 ∷ [])
+    ∷ example (patchingNumbers strip 32) (pos 6 ∷ pos 2 ∷ pos 7 ∷ pos 6 ∷ [])
+    ∷ example (patchingNumbers strip 31) (pos 2 ∷ [])
     ∷ example (marksLeft strip 31) (naturals (replicate 31 7))
     ∷ []
 
 unfoldable pub markedSamples : List Example
 markedSamples =
     -- the sample's own division leaves nothing; it leaves something, although all bytes are 1
-    example (marked strip 2 0 1 1) (exactAt 1152 1152 24)
-    ∷ example (marked strip 3 0 1 1) (inexactAt 768 768 9)
+    example (markingNumbers strip 2 0 1 1) (exactAt 1152 1152 24)
+    ∷ example (markingNumbers strip 3 0 1 1) (inexactAt 768 768 9)
     -- bytes of points that weigh nothing here count too
-    ∷ example (marked raisedStrip 1 0 0 0) (inexactAt 0 0 0)
-    ∷ example (marked square 2 0 1 0) (exactAt 2688 0 0)
-    ∷ example (marked square 2 0 1 1) (exactAt 2688 2688 0)
-    ∷ example (marked square 7 0 1 1) (exactAt 768 768 0)
+    ∷ example (markingNumbers raisedStrip 1 0 0 0) (inexactAt 0 0 0)
+    ∷ example (markingNumbers square 2 0 1 0) (exactAt 2688 0 0)
+    ∷ example (markingNumbers square 2 0 1 1) (exactAt 2688 2688 0)
+    ∷ example (markingNumbers square 7 0 1 1) (exactAt 768 768 0)
     -- a byte 2 is not 1
     ∷ example (markedIn squarePatches sixthTwo 2 0 1 1) (inexactAt 2688 2688 0)
     -- 15 marks: 12, before 13

@@ -15,7 +15,7 @@ use Rattle.limits.specs.Limits.{maxFaces}
 use Rattle.sample.specs.Refusal.{maxSteps}
 use Rattle.meshfile.specs.declared.model.Tessellation.{Tessellation}
 use Rattle.listing.specs.Listing.{sampleText, sampleTextAt, lineCount, lineAt, handedCount, linesFrom}
-use Rattle.listing.specs.Place.{index, Placed, Run}
+use Rattle.listing.specs.Place.{index, Placed, LinesPut}
 use Rattle.listing.specs.declared.model.Place.{Place}
 use Rattle.listing.specs.declared.model.Lines.{Lines}
 use Rattle.listing.proofs.ListingLaws.{text-at, place-below}
@@ -87,6 +87,6 @@ module _ (t : Tessellation) (patches : List ℤ) (line : ℕ) (p : Place) (some 
       omega (arith, all, here, some, place-below n faces (p .face) (p .b) n (omega arith) (placed .b-within) below, placed .a-within)
 
   pub row-run : {before after : List ℕ} {r : Lines}
-      → Run (λ j. sampleText patches (t .steps) (p .face) (p .b) (p .a + j)) (t .steps + 1 - p .a) before r after
-      → Run (linesFrom (result t) patches line) (handedCount (result t) - line) before r after
+      → LinesPut (λ j. sampleText patches (t .steps) (p .face) (p .b) (p .a + j)) (t .steps + 1 - p .a) before r after
+      → LinesPut (linesFrom (result t) patches line) (handedCount (result t) - line) before r after
   row-run run = run-ext row-within row-text run

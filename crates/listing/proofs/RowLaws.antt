@@ -13,7 +13,7 @@ use Rattle.finite.proofs.FoldLaws.{bool-cases}
 use Rattle.meshfile.specs.declared.model.Tessellation.{Tessellation}
 use Rattle.text.specs.Text.{linePlaces, Printed}
 use Rattle.listing.specs.Listing.{joined, lineAt, Stored, handedCount, linesFrom, linesFitting, Stretched}
-use Rattle.listing.specs.Place.{Room, Run}
+use Rattle.listing.specs.Place.{Room, LinesPut}
 use Rattle.listing.specs.declared.model.Lines.{Lines}
 use Rattle.listing.proofs.ListingLaws.{joined-ext, joined-add}
 use Rattle.listing.proofs.FittingLaws.{fitting-is}
@@ -22,7 +22,7 @@ use Rattle.listing.proofs.StretchLaws.{stored-none, stored-length, stor
 -- ---- a run of lines
 -- of other texts that are the same, where more may follow
 pub run-ext : {t u : ℕ → List ℕ} {most end : ℕ} {before after : List ℕ} {r : Lines} → most ≤ end → ((j : ℕ) → j < most → t j ≡ u j)
-    → Run t most before r after → Run u end before r after
+    → LinesPut t most before r after → LinesPut u end before r after
 run-ext {t} {u} {most} {end} {before} {after} {r} l h s = record {
   some = s .some;
   within = omega (arith, l, s .within);
@@ -35,7 +35,7 @@ run-ext {t} {u} {most} {end} {before} {after} {r} l h s = record {
 
 -- of one line
 pub run-one : (t : ℕ → List ℕ) (most : ℕ) {before after : List ℕ} {r : ℕ} → 0 < most → linePlaces ≤ length before → length after ≡ length before
-    → Printed (t 0) before after r → Run t most before (record { count = 1; length = r }) after
+    → Printed (t 0) before after r → LinesPut t most before (record { count = 1; length = r }) after
 unfolding joined
 run-one t most {before} l room same q = record {
   some = omega arith;
@@ -72,7 +72,7 @@ module _ {text : ℕ → List ℕ} {from end : ℕ} {before after : List ℕ} {a
   room-left = omega (arith, g .stored .length-is, stored-length (g .stored))
 
   -- a run more, in the part behind what is stored
-  module _ (k : List ℕ) (r : Lines) {most : ℕ} (run : Run (λ j. text (a - from + j)) most (take (length after - at) (drop at after)) r k) where
+  module _ (k : List ℕ) (r : Lines) {most : ℕ} (run : LinesPut (λ j. text (a - from + j)) most (take (length after - at) (drop at after)) r k) where
     room-more : (i : ℕ) → i < r .count → Room text (length before) (a - from + i)
     room-more i l =
         let part : length (take (length after - at) (drop at after)) ≡ length after - at = rw (length-take, length-drop) (omega arith) in
@@ -103,7 +103,7 @@ module _ {text : ℕ → List ℕ} {from end : ℕ} {before after : List ℕ} {a
       let none : length (joined text (a - from)) ≡ 0 = ap (λ (k : ℕ). length (joined text k)) (let z : a - from ≡ 0 = omega (arith, e) in z) in
       omega (arith, none, tight, room, room-left)
 
-  pub running-end : (from ≡ a → ⊥) → Run text (end - from) before (record { count = a - from; length = at }) after
+  pub running-end : (from ≡ a → ⊥) → LinesPut text (end - from) before (record { count = a - from; length = at }) after
   running-end moved = record {
     some = omega (arith, g .on, moved);
     within = omega (arith, g .within, g .on);
@@ -116,7 +116,7 @@ module _ (answer : Answer Tessellation) (patches : List ℤ) (line : ℕ) {lines
     (g : Running (linesFrom answer patches line) line (max line lines) before after to at) where
   -- a run of the lines from `to` on
   pub running-lines : (k : List ℕ) (r : Lines) → to < lines
-      → Run (linesFrom answer patches to) (handedCount answer - to) (take (length after - at) (drop at after)) r k
+      → LinesPut (linesFrom answer patches to) (handedCount answer - to) (take (length after - at) (drop at after)) r k
       → Running (linesFrom answer patches line) line (max line lines) before (take at after ++ (k ++ drop (length after - at) (drop at after)))
       (to + r .count) (at + r .length)
   running-lines k r l run =

@@ -3,7 +3,7 @@
 --   index n p         how many samples come before place p, where each side has n + 1
 --   Placed n p        a and b are places along a side, and n is within the upper limit of N
 --   Room text places k   behind the texts text 0, .., text (k - 1) so many places have room for a line
---   Run text most before r after   what was put into a buffer: the lines text 0, text 1, .. one behind the other, at least one, at most so many, each where
+--   LinesPut text most before r after   what was put into a buffer: the lines text 0, text 1, .. one behind the other, at least one, at most so many, each where
 --                     the buffer had room for a line
 use Prim.Native.Nat.{ℕ, _+_, _-_, _*_, _≤_, _<_}
 use mathlib.Core.List.{List}
@@ -25,7 +25,7 @@ pub record Placed (n : ℕ) (p : Place) : Type 0 where
 abbrev pub Room : (ℕ → List ℕ) → ℕ → ℕ → Type 0
 Room text places k = linePlaces ≤ places - length (joined text k)
 
-pub record Run (text : ℕ → List ℕ) (most : ℕ) (before : List ℕ) (r : Lines) (after : List ℕ) : Type 0 where
+pub record LinesPut (text : ℕ → List ℕ) (most : ℕ) (before : List ℕ) (r : Lines) (after : List ℕ) : Type 0 where
   pub some : 0 < r .count
   pub within : r .count ≤ most
   pub room : (k : ℕ) → k < r .count → Room text (length before) k

@@ -17,7 +17,7 @@ ghost use Rattle.answer.specs.Table.{result};
 ghost use Rattle.meshfile.specs.Answer.{opened};
 ghost use Rattle.text.specs.Text.{linePlaces};
 ghost use Rattle.listing.specs.Listing.{handedCount, linesFrom, Stretched};
-ghost use Rattle.listing.specs.Place.{Run};
+ghost use Rattle.listing.specs.Place.{LinesPut};
 
 // How many lines of an accepted file are handed out: all; where F or N is above its limit, the line of counts alone.
 fn mesh_count(t: Tessellation) -> usize
@@ -49,7 +49,7 @@ pub fn line_count(answer: Opened) -> usize
 // Lines of the text from `line` on, at least one: that of a refusal, or lines of a mesh.
 fn next_lines(answer: Opened, patches: &[i32], line: usize, out: &mut [u8]) -> Lines
     requires { ⌜ (line < handedCount (opened answer)) × (linePlaces ≤ length (now out)) ⌝ }
-    ensures { λ r. ⌜ Run (linesFrom (opened answer) (now (patches .entry)) line) (handedCount (opened answer) - line)
+    ensures { λ r. ⌜ LinesPut (linesFrom (opened answer) (now (patches .entry)) line) (handedCount (opened answer) - line)
         (now (out .entry)) r (now (out .exit)) ⌝ }
 {
     match answer {

@@ -13,7 +13,7 @@ ghost use Rattle.sample.specs.Refusal.{maxSteps};
 ghost use Rattle.line.specs.Line.{lineLength, pointIn};
 ghost use Rattle.text.specs.Text.{linePlaces, Printed};
 ghost use Rattle.listing.specs.Listing.{lineOf, sampleText, handedCount, linesFrom};
-ghost use Rattle.listing.specs.Place.{index, Placed, Run};
+ghost use Rattle.listing.specs.Place.{index, Placed, LinesPut};
 
 // The place of sample i.
 fn place_of(n: usize, i: usize) -> Place
@@ -43,7 +43,7 @@ fn point_line(points: &[i32], p: Place, a: usize, out: &mut [u8]) -> usize
 // The lines of the points of a row from p on, as many as have room.
 fn point_lines(points: &[i32], n: usize, p: Place, out: &mut [u8]) -> Lines
     requires { ⌜ Placed n p × (lineLength n ≤ length (now points)) × (linePlaces ≤ length (now out)) ⌝ }
-    ensures { λ r. ⌜ Run (λ j. lineOf (result (pointIn (now (points .entry)) (p .a + j))) (p .face) (p .a + j) (p .b)) (n + 1 - p .a)
+    ensures { λ r. ⌜ LinesPut (λ j. lineOf (result (pointIn (now (points .entry)) (p .a + j))) (p .face) (p .a + j) (p .b)) (n + 1 - p .a)
         (now (out .entry)) r (now (out .exit)) ⌝ }
 {
     let mut a = p.a;
@@ -61,7 +61,7 @@ fn point_lines(points: &[i32], n: usize, p: Place, out: &mut [u8]) -> Lines
 // The lines of the samples of a row from p on, as many as have room; of a refused row the line of one sample.
 fn row_lines(patches: &[i32], n: usize, p: Place, out: &mut [u8]) -> Lines
     requires { ⌜ Placed n p × (linePlaces ≤ length (now out)) ⌝ }
-    ensures { λ r. ⌜ Run (λ j. sampleText (now (patches .entry)) n (p .face) (p .b) (p .a + j)) (n + 1 - p .a)
+    ensures { λ r. ⌜ LinesPut (λ j. sampleText (now (patches .entry)) n (p .face) (p .b) (p .a + j)) (n + 1 - p .a)
         (now (out .entry)) r (now (out .exit)) ⌝ }
 {
     let mut points = [0i32; MAX_LINE];
@@ -77,7 +77,7 @@ fn row_lines(patches: &[i32], n: usize, p: Place, out: &mut [u8]) -> Lines
 // Lines of an accepted file from `line` on, at least one: that of the counts, or those of a row of samples.
 pub(crate) fn mesh_lines(t: Tessellation, patches: &[i32], line: usize, out: &mut [u8]) -> Lines
     requires { ⌜ (line < handedCount (result t)) × (linePlaces ≤ length (now out)) ⌝ }
-    ensures { λ r. ⌜ Run (linesFrom (result t) (now (patches .entry)) line) (handedCount (result t) - line)
+    ensures { λ r. ⌜ LinesPut (linesFrom (result t) (now (patches .entry)) line) (handedCount (result t) - line)
         (now (out .entry)) r (now (out .exit)) ⌝ }
 {
     if line == 0 {

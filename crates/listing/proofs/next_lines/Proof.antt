@@ -9,7 +9,7 @@ use Rattle.answer.specs.Table.{Answer}
 use Rattle.meshfile.specs.Answer.{opened}
 use Rattle.meshfile.specs.declared.model.Tessellation.{Tessellation}
 use Rattle.listing.specs.Listing.{handedCount, linesFrom}
-use Rattle.listing.specs.Place.{Run}
+use Rattle.listing.specs.Place.{LinesPut}
 use Rattle.listing.specs.declared.model.Lines.{Lines}
 use Rattle.listing.proofs.RowLaws.{run-one}
 use Rattle.listing.proofs.next_lines.Statement.{statement}
@@ -17,9 +17,9 @@ use Rattle.listing.proofs.next_lines.Tie as tie
 
 -- lines by an answer that is known
 run-as : (patches : List ℤ) (line : ℕ) {a b : Answer Tessellation} {before after : List ℕ} {r : Lines} → a ≡ b
-    → Run (linesFrom a patches line) (handedCount a - line) before r after → Run (linesFrom b patches line) (handedCount b - line) before r after
+    → LinesPut (linesFrom a patches line) (handedCount a - line) before r after → LinesPut (linesFrom b patches line) (handedCount b - line) before r after
 run-as patches line {before = before} {after = after} {r = r} e s =
-    subst (λ (x : Answer Tessellation). Run (linesFrom x patches line) (handedCount x - line) before r after) e s
+    subst (λ (x : Answer Tessellation). LinesPut (linesFrom x patches line) (handedCount x - line) before r after) e s
 
 -- ---- the answer is known
 abbrev accepted : tie.After-answer → tie.Start
