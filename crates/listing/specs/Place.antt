@@ -3,8 +3,8 @@
 --   index n p         how many samples come before place p, where each side has n + 1
 --   Placed n p        a and b are places along a side, and n is within the upper limit of N
 --   Room text places k   behind the texts text 0, .., text (k - 1) so many places have room for a line
---   LinesPut text most before r after   what was put into a buffer: the lines text 0, text 1, .. one behind the other, at least one, at most so many, each where
---                     the buffer had room for a line
+--   LinesPut text most before r after   what was put into a buffer: the lines text 0, text 1, .. one behind the other, at least one, at most so many,
+--                     each where the buffer had room for a line
 use Prim.Native.Nat.{ℕ, _+_, _-_, _*_, _≤_, _<_}
 use mathlib.Core.List.{List}
 use lib.ListN.{length}

@@ -43,7 +43,7 @@ pub fn edge_mask(w: u16, a: FaceValues, b: FaceValues) -> Fraction
     }
 }
 
-// The edge point near p on the sharp half-edge between p and q. Writes: nothing. Refuses: nothing.
+// The edge point near p on the boundary half-edge between p and q. Writes: nothing. Refuses: nothing.
 pub fn boundary_edge_mask(p: i32, q: i32) -> Fraction
     ensures { λ r. ⌜ fractionOf r ≡ boundaryEdgeMask p q ⌝ }
 {
