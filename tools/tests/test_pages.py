@@ -138,6 +138,14 @@ class Links(unittest.TestCase):
                 count += 1
         self.assertGreater(count, 30)
 
+    def test_edits(self):
+        """Each must-fail edit that docs/LIMITS.md names is there."""
+        found = re.findall(r"`edit (\w+)/([\w-]+)`", (ROOT / "docs" / "LIMITS.md").read_text(encoding="utf-8"))
+        self.assertGreater(len(found), 5)
+        for crate, label in found:
+            folders = (ROOT / "crates" / crate / "must-fail", TOOLS / "edits" / crate)
+            self.assertTrue(any((folder / f"{label}.edit").is_file() for folder in folders), label)
+
     def test_pages_are_listed(self):
         """Each page of docs/ is in the README's list."""
         for page in (ROOT / "docs").glob("*.md"):
