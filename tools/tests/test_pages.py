@@ -115,10 +115,15 @@ class Readme(Case):
         self.assertEqual((done.returncode, done.stderr), (0, ""))
 
 
+def anchor(heading):
+    """The name that a link asks for of a heading: in small letters, without signs, with hyphens for blanks."""
+    return re.sub(r"[^\w\- ]", "", heading.lower()).replace(" ", "-")
+
+
 def anchors(path):
-    """The names that a link may ask for of a page's headings: in small letters, without signs, with hyphens for blanks."""
-    headings = re.findall(r"^#+ (.*)$", re.sub(r"^```.*?^```$", "", path.read_text(encoding="utf-8"), flags=re.MULTILINE | re.DOTALL), re.MULTILINE)
-    return {re.sub(r"[^\w\- ]", "", heading.lower()).replace(" ", "-") for heading in headings}
+    """The names of all headings of a page."""
+    page = re.sub(r"^```.*?^```$", "", path.read_text(encoding="utf-8"), flags=re.MULTILINE | re.DOTALL)
+    return {anchor(heading) for heading in re.findall(r"^#+ (.*)$", page, re.MULTILINE)}
 
 
 class Links(unittest.TestCase):
@@ -145,6 +150,14 @@ class Links(unittest.TestCase):
         for crate, label in found:
             folders = (ROOT / "crates" / crate / "must-fail", TOOLS / "edits" / crate)
             self.assertTrue(any((folder / f"{label}.edit").is_file() for folder in folders), label)
+
+    def test_index(self):
+        """The index of docs/DECISIONS.md leads to each decision."""
+        index, _, decisions = (ROOT / "docs" / "DECISIONS.md").read_text(encoding="utf-8").partition("\n## Forms and numbers\n")
+        titles = re.findall(r"^### (.*)$", decisions, re.MULTILINE)
+        self.assertGreater(len(titles), 80)
+        for title in titles:
+            self.assertIn(f"[{title}](#{anchor(title)})", index)
 
     def test_pages_are_listed(self):
         """Each page of docs/ is in the README's list."""
