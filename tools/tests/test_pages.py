@@ -21,6 +21,9 @@ COMMANDS = ("obj2mesh", "explain", "survey", "listing2obj", "preview")
 # The most lines of the README, and of its examples in C and Rust.
 README_LINES, C_LINES, RUST_LINES = 120, 15, 10
 
+# What stands on a page for a name of its form.
+FORMS = {"crate/specs/File.antt", "proofs/MODULE/FUNCTION/Proof.antt", "rusketja_call"}
+
 # The model that the page shows a refusal of.
 PYRAMID = "v 0 0 0\nv 9 0 0\nv 9 9 0\nv 0 9 0\nv 4 4 9\nf 4 3 2 1\nf 1 2 5\nf 2 3 5\nf 3 4 5\nf 4 1 5\n"
 
@@ -126,6 +129,11 @@ def anchors(path):
     return {anchor(heading) for heading in re.findall(r"^#+ (.*)$", page, re.MULTILINE)}
 
 
+def current():
+    """The pages that speak of the repository as it is."""
+    return [ROOT / "README.md", *(page for page in sorted((ROOT / "docs").glob("*.md")) if page.name != "CHANGES.md")]
+
+
 class Links(unittest.TestCase):
     def test_links(self):
         pages = [ROOT / "README.md", *sorted((ROOT / "docs").glob("*.md"))]
@@ -142,6 +150,22 @@ class Links(unittest.TestCase):
                         self.assertIn(section, anchors(path))
                 count += 1
         self.assertGreater(count, 30)
+
+    def test_paths(self):
+        """Each file that a page names is there, but for those of former landings."""
+        for page in current():
+            for path in re.findall(r"(?<![\w/.])((?:[\w-]+/)+[\w-]+\.(?:antt|rt|md|py|rs|h|c|obj|csv|corners))\b", page.read_text(encoding="utf-8")):
+                if path not in FORMS:
+                    self.assertTrue((ROOT / path).exists() or (ROOT / "crates" / path).exists(), f"{page.name}: {path}")
+
+    def test_names(self):
+        """Each name between backticks is one of the repository's."""
+        folders = ("crates/*/src", "crates/*/specs", "crates/*/proofs", "tools", "rust/src", "rust/tests", "rust/examples", "include")
+        files = [path for folder in folders for root in ROOT.glob(folder) for path in root.rglob("*") if path.suffix in ("", ".antt", ".rt", ".py", ".rs", ".h")]
+        known = "\n".join(path.read_text(encoding="utf-8", errors="replace") for path in files if path.is_file())
+        for page in current():
+            for name in set(re.findall(r"`([A-Za-z_][\w-]*)`", page.read_text(encoding="utf-8"))) - FORMS:
+                self.assertTrue(name in known or (ROOT / "crates" / name).is_dir(), f"{page.name}: {name}")
 
     def test_edits(self):
         """Each must-fail edit that docs/LIMITS.md names is there."""
