@@ -189,6 +189,45 @@ class Links(unittest.TestCase):
             self.assertIn(f"](docs/{page.name})", README)
 
 
+class Trace(Case):
+    """tools/trace finds nothing missing here, and finds what is missing in altered pages."""
+
+    def setUp(self):
+        super().setUp()
+        for name in ("crates", "rust", "tools", "include"):
+            (self.folder / name).symlink_to(ROOT / name)
+        shutil.copytree(ROOT / "docs", self.folder / "docs")
+
+    def traced(self):
+        """The exit status, and the lines printed."""
+        done = subprocess.run([TOOLS / "trace", self.folder], stdout=subprocess.PIPE, text=True, timeout=60)
+        return done.returncode, done.stdout.splitlines()
+
+    def test_pages(self):
+        status, lines = self.traced()
+        self.assertEqual((status, len(lines)), (0, 1), lines)
+        self.assertIn("nothing missing", lines[0])
+
+    def test_altered(self):
+        for page, old, new, said in (
+            ("TRACE", "| I3 |", "| I1 |", "rule I3 has 0 rows in the trace tables"),
+            ("TRACE", "`edit integer/divisor-0`", "`edit integer/no-such-edit`", "no edit integer/no-such-edit"),
+            ("TRACE", "`nearest-0`", "`nearest-nought`", "no nearest-nought in crates/integer/proofs/NearestLaws.antt"),
+            ("SPECIFICATION", "| `patch::patches` |", "| `patch::patch` |", "public call patch::patches has 0 rows in the table of calls"),
+            ("SPECIFICATION", "- **I3** ", "- **I9** ", "no rule I3"),
+            ("LIMITS", "(rule M5)", "(rule M55)", "no rule M55"),
+        ):
+            with self.subTest(new=new):
+                path = self.folder / "docs" / f"{page}.md"
+                text = path.read_text(encoding="utf-8")
+                self.assertEqual(text.count(old), 1)
+                path.write_text(text.replace(old, new), encoding="utf-8")
+                status, lines = self.traced()
+                self.assertEqual(status, 1)
+                self.assertTrue(any(line.endswith(said) for line in lines), lines)
+                path.write_text(text, encoding="utf-8")
+
+
 def definitions():
     """The files of definitions of the library, each with its number of lines."""
     files = [path for path in (ROOT / "crates").glob("*/specs/*.antt") if path.stem != "Lib" and path.parts[-3] != "examples"]
