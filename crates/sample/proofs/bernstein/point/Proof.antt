@@ -43,8 +43,8 @@ module _ (c : tie.After-divisor) where
   abbrev sampled : ℕ → ℤ
   sampled k = rounded (start .args .n) (start .args .a) (start .args .b) (controlOf (start .args .patch .now) k)
 
-  abbrev exact : ℕ → Bool
-  exact k = whole (numerator (start .args .n) (start .args .a) (start .args .b) (controlOf (start .args .patch .now) k)) (start .args .n ^ 6)
+  abbrev exactAt : ℕ → Bool
+  exactAt k = whole (numerator (start .args .n) (start .args .a) (start .args .b) (controlOf (start .args .patch .now) k)) (start .args .n ^ 6)
 
   u-light : Light u
   u-light = subst Light (sym (c .before .before .weights .ensures)) (weights-light (start .pre .1))
@@ -72,7 +72,7 @@ module _ (c : tie.After-divisor) where
       ∙ ap (λ (z : ℤ). nearest z (c .divisor .result)) h
       ∙ rounded-blended _ _ _ _ (c .before .before .weights .ensures) (c .before .weights2 .ensures) (c .divisor .ensures) (start .pre .1 .least))
 
-  marked : (k : ℕ) {r : Coordinate} {z : ℤ} → z ≡ sum k → r ≡ divided z → r .exact ≡ exact k
+  marked : (k : ℕ) {r : Coordinate} {z : ℤ} → z ≡ sum k → r ≡ divided z → r .exact ≡ exactAt k
   marked k h e =
       ap (λ (r : Coordinate). r .exact) e
       ∙ ap (λ (z : ℤ). whole z (c .divisor .result)) h
@@ -131,7 +131,7 @@ returns c =
     (told d 0 (third .before .before .struct-told .given .0 .1) hx ex)
     (told d 1 (third .before .struct-told2 .given .0 .1) hy ey)
     (told d 2 (third .struct-told3 .given .0 .1) hz ez))
-    (ap₂ _&&_ (ap₂ _&&_ (marked d 0 hx ex) (marked d 1 hy ey)) (marked d 2 hz ez) ∙ all-three (exact d))
+    (ap₂ _&&_ (ap₂ _&&_ (marked d 0 hx ex) (marked d 1 hy ey)) (marked d 2 hz ez) ∙ all-three (exactAt d))
 
 pub point-spec : {M : Type 1} → statement M
 point-spec =
