@@ -4,13 +4,15 @@
 --   difference₂, difference₃   the second and the third: the first of the one before
 --   differencesAt f a     f at a, and its three differences there
 --   nextOf d              the same one place further, where the third difference stays
---   Fine values           four values whose small multiples fit 64 bits
+--   Summable n curve      N in its range, and a curve with four values whose small multiples fit 64 bits
 --   Tame d                four numbers whose sums by two fit 64 bits
 --   cubic n h a           the sum of the values h 0 to h 3 of a curve by the weights of place a, in powers of a: so it goes on behind a = N
 use mathlib.Core.List.{List, [], _∷_}
 use Prim.Native.Nat.{ℕ, _+_, _*_, _^_, _≤_, _<_}
 use lib.IntN.{ℤ, pos, natAbs, _+ℤ_, _-ℤ_, _*ℤ_}
 use lib.ListN.{getD}
+use Rattle.sample.specs.Refusal.{maxSteps}
+use Rattle.sample.specs.Blend.{Fine}
 
 abbrev pub difference : (ℕ → ℤ) → ℕ → ℤ
 difference f a = f (a + 1) -ℤ f a
@@ -29,8 +31,9 @@ nextOf d =
     let at : ℕ → ℤ = λ i. getD d i (pos 0) in
     (at 0 +ℤ at 1) ∷ ((at 1 +ℤ at 2) ∷ ((at 2 +ℤ at 3) ∷ (at 3 ∷ [])))
 
-pub record Fine (values : List ℤ) : Type 0 where
-  pub fine : (i : ℕ) → i < 4 → natAbs (getD values i (pos 0)) ≤ 2 ^ 45
+pub record Summable (n : ℕ) (curve : List ℤ) : Type 0 where
+  pub few : n ≤ maxSteps
+  pub fine : Fine curve
 
 pub record Tame (d : List ℤ) : Type 0 where
   pub tame : (i : ℕ) → i < 4 → natAbs (getD d i (pos 0)) ≤ 2 ^ 61

@@ -1,16 +1,13 @@
 // Sums along a curve, from one place to the next by their differences: a cubic has a third difference that never changes.
 ghost use mathlib.Core.Path.{_≡_};
-ghost use Prim.Native.Nat.{_≤_};
 ghost use lib.IntN.{pos, _+ℤ_, _*ℤ_};
 ghost use lib.ListN.{getD};
-ghost use mir.Syntax.{w64};
-ghost use mir.Val.{SFits};
-ghost use Rattle.sample.specs.Refusal.{maxSteps};
-ghost use Rattle.line.specs.Differences.{Fine, Tame, differencesAt, nextOf, cubic};
+ghost use Rattle.sample.specs.Blend.{Addable, Fine};
+ghost use Rattle.line.specs.Differences.{Summable, Tame, differencesAt, nextOf, cubic};
 
 // One term more of a sum.
 fn add_product(sum: i64, weight: u32, value: i64) -> i64
-    requires { ⌜ SFits w64 (pos weight *ℤ value) × SFits w64 (sum +ℤ pos weight *ℤ value) ⌝ }
+    requires { ⌜ Addable sum weight value ⌝ }
     ensures { λ r. ⌜ r ≡ sum +ℤ pos weight *ℤ value ⌝ }
 {
     sum + weight as i64 * value
@@ -28,7 +25,7 @@ fn differences(values: [i64; 4]) -> [i64; 4]
 
 // The sum along a curve at a = 0, and its three differences.
 pub(crate) fn first_sums(n: usize, curve: [i64; 4]) -> [i64; 4]
-    requires { ⌜ (n ≤ maxSteps) × Fine curve ⌝ }
+    requires { ⌜ Summable n curve ⌝ }
     ensures { λ r. ⌜ r ≡ differencesAt (cubic n (λ i. getD curve i (pos 0))) 0 ⌝ }
 {
     let m = n as u32;

@@ -7,21 +7,21 @@ use native.Mathlib.Omega.{arith}
 use lib.IntN.{ℤ, pos, natAbs, _+ℤ_, _*ℤ_}
 use lib.ListN.{getD}
 use Rattle.line.specs.Differences.{differencesAt}
-use Rattle.line.proofs.SizedLaws.{read, Sized, sized, plus-fits, plus-sized, sum-fits, sum-sized}
+use Rattle.line.proofs.SizedLaws.{read, ReadAs, sized, plus-fits, plus-sized, sum-fits, sum-sized}
 use Rattle.line.proofs.DifferenceLaws.{first-size, second-size, third-size, cubic-start}
 use Rattle.line.proofs.differences.first_sums.Statement.{statement}
 use Rattle.line.proofs.differences.first_sums.Tie as tie
 
-zero : Sized (pos 0) (pos 0) 0
+zero : ReadAs (pos 0) (pos 0) 0
 zero = record { is = refl; size = omega arith }
 
 -- ---- at the entry: N, its square and its cube are small
 module _ (s : tie.Start) where
   square : s .args .n * s .args .n ≤ 32 * 32
-  square = mul-le-mul (s .pre .0) (s .pre .0)
+  square = mul-le-mul (s .pre .few) (s .pre .few)
 
   cube : s .args .n * s .args .n * s .args .n ≤ 32 * 32 * 32
-  cube = mul-le-mul square (s .pre .0)
+  cube = mul-le-mul square (s .pre .few)
 
 -- ---- the differences of the curve are there, and are small
 module _ (c : tie.After-differences) where
@@ -37,30 +37,30 @@ module _ (c : tie.After-differences) where
   abbrev read-entry : ℕ → ℤ
   read-entry i = read (getD (c .differences .result) i (pos 0))
 
-  entry-sized : (i G : ℕ) → natAbs (entry i) ≤ G → G ≤ 2 ^ 48 → Sized (read-entry i) (entry i) G
+  entry-sized : (i G : ℕ) → natAbs (entry i) ≤ G → G ≤ 2 ^ 48 → ReadAs (read-entry i) (entry i) G
   entry-sized i G p l =
       let s = sized (entry i) p (omega arith) in
       record { is = ap (λ (d : List ℤ). read (getD d i (pos 0))) (c .differences .ensures) ∙ s .is; size = s .size }
 
-  entry-0 : Sized (read-entry 0) (entry 0) (2 ^ 45)
-  entry-0 = entry-sized 0 _ (start .pre .1 .fine 0 (omega arith)) (omega arith)
+  entry-0 : ReadAs (read-entry 0) (entry 0) (2 ^ 45)
+  entry-0 = entry-sized 0 _ (start .pre .fine .fine 0 (omega arith)) (omega arith)
 
-  entry-1 : Sized (read-entry 1) (entry 1) (2 * 2 ^ 45)
-  entry-1 = entry-sized 1 _ (first-size at (2 ^ 45) (start .pre .1 .fine) 0 (omega arith)) (omega arith)
+  entry-1 : ReadAs (read-entry 1) (entry 1) (2 * 2 ^ 45)
+  entry-1 = entry-sized 1 _ (first-size at (2 ^ 45) (start .pre .fine .fine) 0 (omega arith)) (omega arith)
 
-  entry-2 : Sized (read-entry 2) (entry 2) (4 * 2 ^ 45)
-  entry-2 = entry-sized 2 _ (second-size at (2 ^ 45) (start .pre .1 .fine) 0 (omega arith)) (omega arith)
+  entry-2 : ReadAs (read-entry 2) (entry 2) (4 * 2 ^ 45)
+  entry-2 = entry-sized 2 _ (second-size at (2 ^ 45) (start .pre .fine .fine) 0 (omega arith)) (omega arith)
 
-  entry-3 : Sized (read-entry 3) (entry 3) (8 * 2 ^ 45)
-  entry-3 = entry-sized 3 _ (third-size at (2 ^ 45) (start .pre .1 .fine)) (omega arith)
+  entry-3 : ReadAs (read-entry 3) (entry 3) (8 * 2 ^ 45)
+  entry-3 = entry-sized 3 _ (third-size at (2 ^ 45) (start .pre .fine .fine)) (omega arith)
 
 -- ---- half of the second difference is there, but for the third
 module _ (c : tie.After-add-product) where
   abbrev entries : tie.After-differences
   entries = c .before .before
 
-  half : Sized (read (c .add-product .result)) (pos 0 +ℤ pos (3 * start entries .args .n) *ℤ entry entries 2) (96 * (4 * 2 ^ 45))
-  half = sum-sized zero (entry-2 entries) _ 96 (omega (arith, start entries .pre .0)) (c .add-product .ok) (c .add-product .ensures)
+  half : ReadAs (read (c .add-product .result)) (pos 0 +ℤ pos (3 * start entries .args .n) *ℤ entry entries 2) (96 * (4 * 2 ^ 45))
+  half = sum-sized zero (entry-2 entries) _ 96 (omega (arith, start entries .pre .few)) (c .add-product .ok) (c .add-product .ensures)
 
 -- ---- the first difference is there
 module _ (c : tie.After-add-product2) where
@@ -84,7 +84,7 @@ module _ (c : tie.After-add-product3) where
   abbrev entries-3 : tie.After-differences
   entries-3 = entries-2 past-first
 
-  third : Sized (read (c .add-product3 .result)) (pos 0 +ℤ pos 6 *ℤ entry entries-3 3) (6 * (8 * 2 ^ 45))
+  third : ReadAs (read (c .add-product3 .result)) (pos 0 +ℤ pos 6 *ℤ entry entries-3 3) (6 * (8 * 2 ^ 45))
   third = sum-sized zero (entry-3 entries-3) 6 6 (omega arith) (c .add-product3 .ok) (c .add-product3 .ensures)
 
 -- ---- the sum is there
@@ -103,16 +103,16 @@ cast-m : tie.Need-cast-m
 cast-m c = omega arith
 
 differences-requires : tie.Need-differences-requires
-differences-requires c κs = c .pre .1
+differences-requires c κs = c .pre .fine
 
 mul-add-product : tie.Need-mul-add-product
-mul-add-product c = omega (arith, start c .pre .0)
+mul-add-product c = omega (arith, start c .pre .few)
 
 array-copy-out-add-product : tie.Need-array-copy-out-add-product
 array-copy-out-add-product c = omega arith
 
 add-product-requires : tie.Need-add-product-requires
-add-product-requires c κs = let d = c .before in sum-fits zero (entry-2 d) _ 96 (omega (arith, start d .pre .0)) (omega arith)
+add-product-requires c κs = let d = c .before in sum-fits zero (entry-2 d) _ 96 (omega (arith, start d .pre .few)) (omega arith)
 
 array-copy-out-add-product-2 : tie.Need-array-copy-out-add-product-2
 array-copy-out-add-product-2 c = omega arith
@@ -121,7 +121,7 @@ add-add-product : tie.Need-add-add-product
 add-add-product c = let h = c .before in plus-fits (half h) (entry-3 (entries h)) (omega arith)
 
 mul-add-product-2 : tie.Need-mul-add-product-2
-mul-add-product-2 c = omega (arith, start (entries (c .before)) .pre .0)
+mul-add-product-2 c = omega (arith, start (entries (c .before)) .pre .few)
 
 mul-add-product-3 : tie.Need-mul-add-product-3
 mul-add-product-3 c = omega (arith, square (start (entries (c .before))))

@@ -7,7 +7,7 @@ use lib.IntN.{ℤ, pos, _+ℤ_}
 use lib.ListN.{getD}
 use mir.Syntax.{w64}
 use mir.Val.{SFits}
-use Rattle.line.proofs.SizedLaws.{read, Sized, sized, plus-fits, plus-sized}
+use Rattle.line.proofs.SizedLaws.{read, ReadAs, sized, plus-fits, plus-sized}
 use Rattle.line.proofs.differences.stepped.Statement.{statement}
 use Rattle.line.proofs.differences.stepped.Tie as tie
 
@@ -16,13 +16,13 @@ module _ (s : tie.Start) where
   abbrev at : ℕ → ℤ
   at i = getD (s .args .t1) i (pos 0)
 
-  number : (i : ℕ) → i < 4 → Sized (read (at i)) (at i) (2 ^ 61)
+  number : (i : ℕ) → i < 4 → ReadAs (read (at i)) (at i) (2 ^ 61)
   number i l = sized (at i) (s .pre .tame i l) (omega arith)
 
   sum-fits : (i : ℕ) → i < 3 → SFits w64 (read (at i) +ℤ read (at (i + 1)))
   sum-fits i l = plus-fits (number i (omega arith)) (number (i + 1) (omega arith)) (omega arith)
 
-  sum : (i : ℕ) → i < 3 → Sized (read (read (at i) +ℤ read (at (i + 1)))) (at i +ℤ at (i + 1)) (2 ^ 62)
+  sum : (i : ℕ) → i < 3 → ReadAs (read (read (at i) +ℤ read (at (i + 1)))) (at i +ℤ at (i + 1)) (2 ^ 62)
   sum i l = plus-sized (number i (omega arith)) (number (i + 1) (omega arith)) (omega arith)
 
 -- ---- the way back from each sum
