@@ -21,7 +21,6 @@ use Rattle.sample.proofs.BernsteinLaws.{cube-small, sixth-small}
 use Rattle.sample.proofs.SampleLaws.{curve-weighted}
 use Rattle.sample.specs.declared.model.Curves.{Curves}
 use Rattle.line.specs.Differences.{differencesAt, nextOf, Summable, Tame, cubic}
-use Rattle.line.specs.Line.{lineLength}
 use Rattle.line.specs.Points.{Curved, curveCoordinate, curveIn, Drawable}
 use Rattle.line.proofs.SizedLaws.{read, sized}
 use Rattle.line.proofs.DifferenceLaws.{cubic-next, cubic-tame, cubic-weighed}
