@@ -1,17 +1,21 @@
 -- The sum along a curve as a cubic: its differences, one place further, and its values where they are samples.
-use mathlib.Core.Path.{_≡_, refl, sym, ap, ap₂, _∙_}
-use mathlib.Core.List.{[], _∷_}
-use Prim.Native.Nat.{ℕ, zero, suc, _+_, _-_, _*_, _^_, _≤_, _<_}
+use mathlib.Core.Path.{_≡_, sym, ap, ap₂, _∙_}
+use Prim.Native.Nat.{ℕ, _+_, _-_, _*_, _^_, _≤_, _<_}
 use native.Mathlib.Nat.{mul-le-mul}
 use native.Mathlib.Omega.{arith}
 use lib.IntN.{ℤ, pos, natAbs, _+ℤ_, _-ℤ_, _*ℤ_}
-use lib.ListN.{getD}
 use Rattle.integer.proofs.Difference.{Expr, int, nat, _⊕_, _⊝_, _⊛_, prove-eq}
 use Rattle.integer.proofs.Laws.{abs-+, abs--, abs-*-≤}
 use Rattle.finite.specs.Fold.{foldBelow, sumBelowℤ}
 use Rattle.sample.specs.Bernstein.{bernstein}
 use Rattle.sample.specs.Refusal.{maxSteps}
+use Rattle.line.specs.declared.model.Differences.{Differences}
 use Rattle.line.specs.Differences.{difference, difference₂, difference₃, differencesAt, nextOf, Tame, cubic}
+
+-- ---- by their parts
+pub same-differences : {w x y z w' x' y' z' : ℤ} → w ≡ w' → x ≡ x' → y ≡ y' → z ≡ z'
+    → _≡_ {A = Differences} (record { value = w; first = x; second = y; third = z }) (record { value = w'; first = x'; second = y'; third = z' })
+same-differences e f g h = cc
 
 -- ---- one place further, where the third difference stays
 grown : (x y : ℤ) → x +ℤ (y -ℤ x) ≡ y
@@ -20,10 +24,11 @@ grown x y = prove-eq (int x ⊕ (int y ⊝ int x)) (int y) (omega arith)
 next-is : (f : ℕ → ℤ) (a : ℕ) → difference₃ f a ≡ difference₃ f (a + 1)
     → nextOf (differencesAt f a) ≡ differencesAt f (a + 1)
 next-is f a e =
-    ap₂ _∷_ (grown (f a) (f (a + 1)))
-    (ap₂ _∷_ (grown (difference f a) (difference f (a + 1)))
-    (ap₂ _∷_ (grown (difference₂ f a) (difference₂ f (a + 1)))
-    (ap₂ _∷_ e refl)))
+    same-differences
+    (grown (f a) (f (a + 1)))
+    (grown (difference f a) (difference f (a + 1)))
+    (grown (difference₂ f a) (difference₂ f (a + 1)))
+    e
 
 -- ---- the third difference, by the first and the last value
 pub third-is : (h : ℕ → ℤ) → (h 3 -ℤ h 0) -ℤ pos 3 *ℤ difference h 1 ≡ difference₃ h 0
@@ -102,9 +107,12 @@ module _ (h : ℕ → ℤ) where
     -- at a = 0
     pub cubic-start : (let half = pos 0 +ℤ pos (3 * n) *ℤ difference₂ h 0 in
         let third = pos 0 +ℤ pos 6 *ℤ difference₃ h 0 in
-        differencesAt (cubic n h) 0
-        ≡ (pos 0 +ℤ pos (n * n * n) *ℤ h 0)
-        ∷ ((half +ℤ difference₃ h 0 +ℤ pos (3 * n * n) *ℤ difference h 0) ∷ ((third +ℤ pos 2 *ℤ half) ∷ (third ∷ []))))
+        differencesAt (cubic n h) 0 ≡ record {
+          value = pos 0 +ℤ pos (n * n * n) *ℤ h 0;
+          first = half +ℤ difference₃ h 0 +ℤ pos (3 * n * n) *ℤ difference h 0;
+          second = third +ℤ pos 2 *ℤ half;
+          third = third;
+        })
     unfolding cubic
     cubic-start =
         let half : Expr = nat 0 ⊕ nat (3 * n) ⊛ int (difference₂ h 0) in
@@ -115,7 +123,7 @@ module _ (h : ℕ → ℤ) where
         (half ⊕ int (difference₃ h 0) ⊕ nat (3 * n * n) ⊛ int (difference h 0)) (omega arith) in
         let second = prove-eq (combined-expr 0 0 (6 * n) (6 * (0 + 1))) (third ⊕ nat 2 ⊛ half) (omega arith) in
         let last = prove-eq (combined-expr 0 0 0 6) third (omega arith) in
-        ap₂ _∷_ value (ap₂ _∷_ (cubic-first 0 ∙ first) (ap₂ _∷_ (cubic-second 0 ∙ second) (ap₂ _∷_ (cubic-third 0 ∙ last) refl)))
+        same-differences value (cubic-first 0 ∙ first) (cubic-second 0 ∙ second) (cubic-third 0 ∙ last)
 
     pub cubic-next : (a : ℕ) → nextOf (differencesAt (cubic n h) a) ≡ differencesAt (cubic n h) (a + 1)
     cubic-next a = next-is (cubic n h) a (cubic-third a ∙ sym (cubic-third (a + 1)))
@@ -123,19 +131,17 @@ module _ (h : ℕ → ℤ) where
 -- ---- the size of what is carried from place to place
 pub cubic-tame : (h : ℕ → ℤ) → ((i : ℕ) → i < 4 → natAbs (h i) ≤ 2 ^ 45) → (n a : ℕ) → n ≤ maxSteps → a ≤ maxSteps → natAbs (cubic n h a) ≤ 2 ^ 61
     → Tame (differencesAt (cubic n h) a)
-cubic-tame h fine n a few at small = record { tame = go }
+cubic-tame h fine n a few at small = record {
+  value = small;
+  first =
+      rw (cubic-first h n a)
+      (omega (arith, size 0 (3 * n * n) (3 * n * (2 * a + 1)) (3 * a * a + 3 * a + 1), mul-le-mul few few, mul-le-mul few at, mul-le-mul at at));
+  second = rw (cubic-second h n a) (omega (arith, size 0 0 (6 * n) (6 * (a + 1))));
+  third = rw (cubic-third h n a) (omega (arith, size 0 0 0 6));
+}
   where
     size : (k l m o : ℕ) → natAbs (combined h k l m o) ≤ k * 2 ^ 45 + l * (2 * 2 ^ 45) + m * (4 * 2 ^ 45) + o * (8 * 2 ^ 45)
     size = combined-size h (2 ^ 45) fine
-
-    go : (i : ℕ) → i < 4 → natAbs (getD (differencesAt (cubic n h) a) i (pos 0)) ≤ 2 ^ 61
-    go zero l = small
-    go (suc zero) l =
-        rw (cubic-first h n a)
-        (omega (arith, size 0 (3 * n * n) (3 * n * (2 * a + 1)) (3 * a * a + 3 * a + 1), mul-le-mul few few, mul-le-mul few at, mul-le-mul at at))
-    go (suc (suc zero)) l = rw (cubic-second h n a) (omega (arith, size 0 0 (6 * n) (6 * (a + 1))))
-    go (suc (suc (suc zero))) l = rw (cubic-third h n a) (omega (arith, size 0 0 0 6))
-    go (suc (suc (suc (suc i)))) l = absurd (omega arith)
 
 -- ---- its values, by the weights
 weighed : (k l m o : ℕ) (w x y z : ℤ)

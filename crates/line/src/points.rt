@@ -43,9 +43,9 @@ pub(crate) fn write_points(curves: Curves, n: usize, line: &mut [i32])
     let mut y = first_sums(n, along_y);
     let mut z = first_sums(n, along_z);
     for a in 0..n + 1 {
-        let p = quotient(x[0], curves.divisor);
-        let q = quotient(y[0], curves.divisor);
-        let r = quotient(z[0], curves.divisor);
+        let p = quotient(x.value, curves.divisor);
+        let q = quotient(y.value, curves.divisor);
+        let r = quotient(z.value, curves.divisor);
         store_point(line, a, p, q, r);
         x = stepped(x);
         y = stepped(y);

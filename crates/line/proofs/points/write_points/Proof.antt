@@ -51,7 +51,7 @@ module _ (c : tie.In-loop Inv-loop μ-loop) where
   within : at-loop .loop .a ≤ entry at-loop .args .n
   within = omega (arith, c .loop-test .taken)
 
-  asked : (k : ℕ) → k < 3 → Mean (let l = at-loop .loop in read (getD (ofThree (l .x) (l .y) (l .z) k) 0 (pos 0))) (entry at-loop .args .curves .divisor)
+  asked : (k : ℕ) → k < 3 → Mean (let l = at-loop .loop in read (ofThree (l .x) (l .y) (l .z) k .value)) (entry at-loop .args .curves .divisor)
   asked = drawn-asked (at-loop .loop .inv) (entry at-loop .pre) within
 
   tame : (k : ℕ) → k < 3 → Tame (let l = at-loop .loop in ofThree (l .x) (l .y) (l .z) k)
@@ -91,20 +91,11 @@ add-a-end c = omega (arith, few (start (c .before .before .before)))
 loop-holds : tie.Need-loop-holds Inv-loop μ-loop
 loop-holds c = drawn-start _ _ _ (c .before .before .first-sums .ensures) (c .before .first-sums2 .ensures) (c .first-sums3 .ensures)
 
-array-copy-out-quotient : tie.Need-array-copy-out-quotient Inv-loop μ-loop
-array-copy-out-quotient c = omega arith
-
 quotient-requires : tie.Need-quotient-requires Inv-loop μ-loop
 quotient-requires c κs = asked (c .before) 0 (omega arith)
 
-array-copy-out-quotient-2 : tie.Need-array-copy-out-quotient-2 Inv-loop μ-loop
-array-copy-out-quotient-2 c = omega arith
-
 quotient-requires-2 : tie.Need-quotient-requires-2 Inv-loop μ-loop
 quotient-requires-2 c κs = asked (past-x (c .before)) 1 (omega arith)
-
-array-copy-out-quotient-3 : tie.Need-array-copy-out-quotient-3 Inv-loop μ-loop
-array-copy-out-quotient-3 c = omega arith
 
 quotient-requires-3 : tie.Need-quotient-requires-3 Inv-loop μ-loop
 quotient-requires-3 c κs = asked (past-y (c .before)) 2 (omega arith)
@@ -169,11 +160,8 @@ write-points-spec =
     first-sums-requires-3
     add-a-end
     loop-holds
-    array-copy-out-quotient
     quotient-requires
-    array-copy-out-quotient-2
     quotient-requires-2
-    array-copy-out-quotient-3
     quotient-requires-3
     store-point-requires
     stepped-requires
