@@ -70,7 +70,8 @@ module _ (c : tie.After-add-product2) where
   entries-2 = entries past-half
 
   first : (let n = start entries-2 .args .n in
-      read (c .add-product2 .result) ≡ pos 0 +ℤ pos (3 * n) *ℤ difference₂ (at entries-2) 0 +ℤ difference₃ (at entries-2) 0 +ℤ pos (3 * n * n) *ℤ difference (at entries-2) 0)
+      let h = at entries-2 in
+      read (c .add-product2 .result) ≡ pos 0 +ℤ pos (3 * n) *ℤ difference₂ h 0 +ℤ difference₃ h 0 +ℤ pos (3 * n * n) *ℤ difference h 0)
   first =
       sum-sized (plus-sized (half past-half) (curve-third entries-2) (omega arith)) (curve-first entries-2) _ 3072 (omega (arith, square (start entries-2)))
       (c .add-product2 .ok) (c .add-product2 .ensures) .is

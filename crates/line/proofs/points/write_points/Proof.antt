@@ -3,15 +3,15 @@ use mathlib.Core.Path.{_≡_, ap, _∙_}
 use Prim.Native.Nat.{ℕ, _+_, _*_, _-_, _≤_, _<_}
 use native.Mathlib.Nat.{le-antisymm}
 use native.Mathlib.Omega.{arith}
-use lib.IntN.{pos}
-use lib.ListN.{length, getD}
+use lib.ListN.{length}
 use Rattle.finite.specs.Filled.{filled}
 use Rattle.sample.specs.Refusal.{maxSteps}
 use Rattle.sample.specs.Blend.{Mean}
 use Rattle.line.specs.Differences.{Summable, Tame}
 use Rattle.line.specs.Points.{curveIn}
 use Rattle.line.proofs.SizedLaws.{read}
-use Rattle.line.proofs.LineLaws.{ofThree, lineAlong, curve-summable, LineDrawn, drawn-start, drawn-length, drawn-asked, drawn-tame, drawn-told, drawn-more}
+use Rattle.line.proofs.LineLaws.{ofThree, lineAlong, curve-summable, LineDrawn, drawn-start, drawn-length}
+use Rattle.line.proofs.LineLaws.{drawn-asked, drawn-tame, drawn-told, drawn-more}
 use Rattle.line.proofs.points.write_points.Statement.{statement}
 use Rattle.line.proofs.points.write_points.Tie as tie
 
