@@ -1,7 +1,7 @@
 -- What only the contracts of private functions cite: differences, and the sum along a curve as a cubic in a.
 --
---   difference f a        the first difference: how much f grows from a to a + 1
---   difference₂, difference₃   the second and the third: the first of the one before
+--   forward f a           the forward difference: how much f grows from a to a + 1
+--   forward₂, forward₃    the second and the third: the first of the one before
 --   differencesAt f a     f at a, and its three differences there
 --   nextOf d              the same one place further, where the third difference stays
 --   Summable n curve      N in its range, and a curve with four values whose small multiples fit 64 bits
@@ -14,17 +14,17 @@ use Rattle.sample.specs.Refusal.{maxSteps}
 use Rattle.sample.specs.Blend.{Fine}
 use Rattle.line.specs.declared.model.Differences.{Differences}
 
-abbrev pub difference : (ℕ → ℤ) → ℕ → ℤ
-difference f a = f (a + 1) -ℤ f a
+abbrev pub forward : (ℕ → ℤ) → ℕ → ℤ
+forward f a = f (a + 1) -ℤ f a
 
-abbrev pub difference₂ : (ℕ → ℤ) → ℕ → ℤ
-difference₂ f = difference (difference f)
+abbrev pub forward₂ : (ℕ → ℤ) → ℕ → ℤ
+forward₂ f = forward (forward f)
 
-abbrev pub difference₃ : (ℕ → ℤ) → ℕ → ℤ
-difference₃ f = difference (difference₂ f)
+abbrev pub forward₃ : (ℕ → ℤ) → ℕ → ℤ
+forward₃ f = forward (forward₂ f)
 
 abbrev pub differencesAt : (ℕ → ℤ) → ℕ → Differences
-differencesAt f a = record { value = f a; first = difference f a; second = difference₂ f a; third = difference₃ f a }
+differencesAt f a = record { value = f a; first = forward f a; second = forward₂ f a; third = forward₃ f a }
 
 abbrev pub nextOf : Differences → Differences
 nextOf d = record { value = d .value +ℤ d .first; first = d .first +ℤ d .second; second = d .second +ℤ d .third; third = d .third }
@@ -42,6 +42,6 @@ pub record Tame (d : Differences) : Type 0 where
 unfoldable pub cubic : ℕ → (ℕ → ℤ) → ℕ → ℤ
 cubic n h a =
     pos (n * n * n) *ℤ h 0
-    +ℤ pos (3 * n * n * a) *ℤ difference h 0
-    +ℤ pos (3 * n * a * a) *ℤ difference₂ h 0
-    +ℤ pos (a * a * a) *ℤ difference₃ h 0
+    +ℤ pos (3 * n * n * a) *ℤ forward h 0
+    +ℤ pos (3 * n * a * a) *ℤ forward₂ h 0
+    +ℤ pos (a * a * a) *ℤ forward₃ h 0

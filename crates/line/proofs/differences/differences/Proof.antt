@@ -4,7 +4,7 @@ use Prim.Native.Nat.{ℕ, _+_, _*_, _^_, _<_}
 use native.Mathlib.Omega.{arith}
 use lib.IntN.{ℤ, pos, _-ℤ_, _*ℤ_}
 use lib.ListN.{getD}
-use Rattle.line.specs.Differences.{difference}
+use Rattle.line.specs.Differences.{forward}
 use Rattle.line.proofs.SizedLaws.{read, ReadAs, sized, times-fits, times-sized, minus-fits, minus-sized}
 use Rattle.line.proofs.DifferenceLaws.{same-differences, third-is}
 use Rattle.line.proofs.differences.differences.Statement.{statement}
@@ -18,13 +18,13 @@ module _ (s : tie.Start) where
   value : (i : ℕ) → i < 4 → ReadAs (read (at i)) (at i) (2 ^ 45)
   value i l = sized (at i) (s .pre .fine i l) (omega arith)
 
-  first : (i : ℕ) → i < 3 → ReadAs (read (read (at (i + 1)) -ℤ read (at i))) (difference at i) (2 ^ 46)
+  first : (i : ℕ) → i < 3 → ReadAs (read (read (at (i + 1)) -ℤ read (at i))) (forward at i) (2 ^ 46)
   first i l = minus-sized (value (i + 1) (omega arith)) (value i (omega arith)) (omega arith)
 
   span : ReadAs (read (read (at 3) -ℤ read (at 0))) (at 3 -ℤ at 0) (2 ^ 46)
   span = minus-sized (value 3 (omega arith)) (value 0 (omega arith)) (omega arith)
 
-  thrice : ReadAs (read (pos 3 *ℤ read (read (at 2) -ℤ read (at 1)))) (pos 3 *ℤ difference at 1) (3 * 2 ^ 46)
+  thrice : ReadAs (read (pos 3 *ℤ read (read (at 2) -ℤ read (at 1)))) (pos 3 *ℤ forward at 1) (3 * 2 ^ 46)
   thrice = times-sized 3 (first 1 (omega arith)) (omega arith)
 
 -- ---- the way back from each difference

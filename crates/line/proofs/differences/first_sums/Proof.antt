@@ -6,7 +6,7 @@ use native.Mathlib.Omega.{arith}
 use lib.IntN.{ℤ, pos, natAbs, _+ℤ_, _*ℤ_}
 use lib.ListN.{getD}
 use Rattle.line.specs.declared.model.Differences.{Differences}
-use Rattle.line.specs.Differences.{difference, difference₂, difference₃, differencesAt}
+use Rattle.line.specs.Differences.{forward, forward₂, forward₃, differencesAt}
 use Rattle.line.proofs.SizedLaws.{read, ReadAs, sized, plus-fits, plus-sized, sum-fits, sum-sized}
 use Rattle.line.proofs.DifferenceLaws.{same-differences, first-size, second-size, third-size, cubic-start}
 use Rattle.line.proofs.differences.first_sums.Statement.{statement}
@@ -40,13 +40,13 @@ module _ (c : tie.After-differences) where
   curve-value : ReadAs (read (c .differences .result .value)) (at 0) (2 ^ 45)
   curve-value = part-sized (λ d. d .value) _ (start .pre .fine .fine 0 (omega arith)) (omega arith)
 
-  curve-first : ReadAs (read (c .differences .result .first)) (difference at 0) (2 * 2 ^ 45)
+  curve-first : ReadAs (read (c .differences .result .first)) (forward at 0) (2 * 2 ^ 45)
   curve-first = part-sized (λ d. d .first) _ (first-size at (2 ^ 45) (start .pre .fine .fine) 0 (omega arith)) (omega arith)
 
-  curve-second : ReadAs (read (c .differences .result .second)) (difference₂ at 0) (4 * 2 ^ 45)
+  curve-second : ReadAs (read (c .differences .result .second)) (forward₂ at 0) (4 * 2 ^ 45)
   curve-second = part-sized (λ d. d .second) _ (second-size at (2 ^ 45) (start .pre .fine .fine) 0 (omega arith)) (omega arith)
 
-  curve-third : ReadAs (read (c .differences .result .third)) (difference₃ at 0) (8 * 2 ^ 45)
+  curve-third : ReadAs (read (c .differences .result .third)) (forward₃ at 0) (8 * 2 ^ 45)
   curve-third = part-sized (λ d. d .third) _ (third-size at (2 ^ 45) (start .pre .fine .fine)) (omega arith)
 
 -- ---- half of the second difference is there, but for the third
@@ -54,7 +54,7 @@ module _ (c : tie.After-add-product) where
   abbrev entries : tie.After-differences
   entries = c .before .before
 
-  half : ReadAs (read (c .add-product .result)) (pos 0 +ℤ pos (3 * start entries .args .n) *ℤ difference₂ (at entries) 0) (96 * (4 * 2 ^ 45))
+  half : ReadAs (read (c .add-product .result)) (pos 0 +ℤ pos (3 * start entries .args .n) *ℤ forward₂ (at entries) 0) (96 * (4 * 2 ^ 45))
   half = sum-sized zero (curve-second entries) _ 96 (omega (arith, start entries .pre .few)) (c .add-product .ok) (c .add-product .ensures)
 
 -- ---- the third difference of the curve is read
@@ -71,7 +71,7 @@ module _ (c : tie.After-add-product2) where
 
   first : (let n = start entries-2 .args .n in
       let h = at entries-2 in
-      read (c .add-product2 .result) ≡ pos 0 +ℤ pos (3 * n) *ℤ difference₂ h 0 +ℤ difference₃ h 0 +ℤ pos (3 * n * n) *ℤ difference h 0)
+      read (c .add-product2 .result) ≡ pos 0 +ℤ pos (3 * n) *ℤ forward₂ h 0 +ℤ forward₃ h 0 +ℤ pos (3 * n * n) *ℤ forward h 0)
   first =
       sum-sized (plus-sized (half past-half) (curve-third entries-2) (omega arith)) (curve-first entries-2) _ 3072 (omega (arith, square (start entries-2)))
       (c .add-product2 .ok) (c .add-product2 .ensures) .is
@@ -84,7 +84,7 @@ module _ (c : tie.After-add-product3) where
   abbrev entries-3 : tie.After-differences
   entries-3 = entries-2 past-first
 
-  third : ReadAs (read (c .add-product3 .result)) (pos 0 +ℤ pos 6 *ℤ difference₃ (at entries-3) 0) (6 * (8 * 2 ^ 45))
+  third : ReadAs (read (c .add-product3 .result)) (pos 0 +ℤ pos 6 *ℤ forward₃ (at entries-3) 0) (6 * (8 * 2 ^ 45))
   third = sum-sized zero (curve-third entries-3) 6 6 (omega arith) (c .add-product3 .ok) (c .add-product3 .ensures)
 
 -- ---- the sum is there
