@@ -1,32 +1,37 @@
 -- The sum along a curve as a cubic: its differences, one place further, and its values where they are samples.
-use mathlib.Core.Path.{_≡_, refl, sym, ap, ap₂, _∙_}
-use mathlib.Core.List.{[], _∷_}
-use Prim.Native.Nat.{ℕ, zero, suc, _+_, _-_, _*_, _^_, _≤_, _<_}
+use mathlib.Core.Path.{_≡_, sym, ap, ap₂, _∙_}
+use Prim.Native.Nat.{ℕ, _+_, _-_, _*_, _^_, _≤_, _<_}
 use native.Mathlib.Nat.{mul-le-mul}
 use native.Mathlib.Omega.{arith}
 use lib.IntN.{ℤ, pos, natAbs, _+ℤ_, _-ℤ_, _*ℤ_}
-use lib.ListN.{getD}
 use Rattle.integer.proofs.Difference.{Expr, int, nat, _⊕_, _⊝_, _⊛_, prove-eq}
 use Rattle.integer.proofs.Laws.{abs-+, abs--, abs-*-≤}
 use Rattle.finite.specs.Fold.{foldBelow, sumBelowℤ}
 use Rattle.sample.specs.Bernstein.{bernstein}
 use Rattle.sample.specs.Refusal.{maxSteps}
-use Rattle.line.specs.Differences.{difference, difference₂, difference₃, differencesAt, nextOf, Tame, cubic}
+use Rattle.line.specs.declared.model.Differences.{Differences}
+use Rattle.line.specs.Differences.{forward, forward₂, forward₃, differencesAt, nextOf, Tame, cubic}
+
+-- ---- by their parts
+pub same-differences : {w x y z w' x' y' z' : ℤ} → w ≡ w' → x ≡ x' → y ≡ y' → z ≡ z'
+    → _≡_ {A = Differences} (record { value = w; first = x; second = y; third = z }) (record { value = w'; first = x'; second = y'; third = z' })
+same-differences e f g h = cc
 
 -- ---- one place further, where the third difference stays
 grown : (x y : ℤ) → x +ℤ (y -ℤ x) ≡ y
 grown x y = prove-eq (int x ⊕ (int y ⊝ int x)) (int y) (omega arith)
 
-next-is : (f : ℕ → ℤ) (a : ℕ) → difference₃ f a ≡ difference₃ f (a + 1)
+next-is : (f : ℕ → ℤ) (a : ℕ) → forward₃ f a ≡ forward₃ f (a + 1)
     → nextOf (differencesAt f a) ≡ differencesAt f (a + 1)
 next-is f a e =
-    ap₂ _∷_ (grown (f a) (f (a + 1)))
-    (ap₂ _∷_ (grown (difference f a) (difference f (a + 1)))
-    (ap₂ _∷_ (grown (difference₂ f a) (difference₂ f (a + 1)))
-    (ap₂ _∷_ e refl)))
+    same-differences
+    (grown (f a) (f (a + 1)))
+    (grown (forward f a) (forward f (a + 1)))
+    (grown (forward₂ f a) (forward₂ f (a + 1)))
+    e
 
 -- ---- the third difference, by the first and the last value
-pub third-is : (h : ℕ → ℤ) → (h 3 -ℤ h 0) -ℤ pos 3 *ℤ difference h 1 ≡ difference₃ h 0
+pub third-is : (h : ℕ → ℤ) → (h 3 -ℤ h 0) -ℤ pos 3 *ℤ forward h 1 ≡ forward₃ h 0
 third-is h =
     let p : Expr = int (h 1) ⊝ int (h 0) in
     let q : Expr = int (h 2) ⊝ int (h 1) in
@@ -35,29 +40,29 @@ third-is h =
 
 -- ---- the size of differences
 module _ (h : ℕ → ℤ) (B : ℕ) (fine : (i : ℕ) → i < 4 → natAbs (h i) ≤ B) where
-  pub first-size : (i : ℕ) → i < 3 → natAbs (difference h i) ≤ 2 * B
+  pub first-size : (i : ℕ) → i < 3 → natAbs (forward h i) ≤ 2 * B
   first-size i l = omega (arith, abs-- (h (i + 1)) (h i), fine (i + 1) (omega arith), fine i (omega arith))
 
-  pub second-size : (i : ℕ) → i < 2 → natAbs (difference₂ h i) ≤ 4 * B
-  second-size i l = omega (arith, abs-- (difference h (i + 1)) (difference h i), first-size (i + 1) (omega arith), first-size i (omega arith))
+  pub second-size : (i : ℕ) → i < 2 → natAbs (forward₂ h i) ≤ 4 * B
+  second-size i l = omega (arith, abs-- (forward h (i + 1)) (forward h i), first-size (i + 1) (omega arith), first-size i (omega arith))
 
-  pub third-size : natAbs (difference₃ h 0) ≤ 8 * B
-  third-size = omega (arith, abs-- (difference₂ h 1) (difference₂ h 0), second-size 1 (omega arith), second-size 0 (omega arith))
+  pub third-size : natAbs (forward₃ h 0) ≤ 8 * B
+  third-size = omega (arith, abs-- (forward₂ h 1) (forward₂ h 0), second-size 1 (omega arith), second-size 0 (omega arith))
 
 -- ---- the differences of the cubic
 module _ (h : ℕ → ℤ) where
   -- h 0 and its three differences, by four weights
   abbrev combined : ℕ → ℕ → ℕ → ℕ → ℤ
-  combined k l m o = pos k *ℤ h 0 +ℤ pos l *ℤ difference h 0 +ℤ pos m *ℤ difference₂ h 0 +ℤ pos o *ℤ difference₃ h 0
+  combined k l m o = pos k *ℤ h 0 +ℤ pos l *ℤ forward h 0 +ℤ pos m *ℤ forward₂ h 0 +ℤ pos o *ℤ forward₃ h 0
 
   abbrev combined-expr : ℕ → ℕ → ℕ → ℕ → Expr
   combined-expr k l m o =
-      nat k ⊛ int (h 0) ⊕ nat l ⊛ int (difference h 0) ⊕ nat m ⊛ int (difference₂ h 0) ⊕ nat o ⊛ int (difference₃ h 0)
+      nat k ⊛ int (h 0) ⊕ nat l ⊛ int (forward h 0) ⊕ nat m ⊛ int (forward₂ h 0) ⊕ nat o ⊛ int (forward₃ h 0)
 
   -- where the weights of a grow by k', l', m', o', so does the sum
   combined-difference : (k l m o k' l' m' o' : ℕ → ℕ) (a : ℕ)
       → k (a + 1) ≡ k a + k' a → l (a + 1) ≡ l a + l' a → m (a + 1) ≡ m a + m' a → o (a + 1) ≡ o a + o' a
-      → difference (λ a. combined (k a) (l a) (m a) (o a)) a ≡ combined (k' a) (l' a) (m' a) (o' a)
+      → forward (λ a. combined (k a) (l a) (m a) (o a)) a ≡ combined (k' a) (l' a) (m' a) (o' a)
   combined-difference k l m o k' l' m' o' a d e f g =
       rw (d, e, f, g)
       (prove-eq (combined-expr (k a + k' a) (l a + l' a) (m a + m' a) (o a + o' a) ⊝ combined-expr (k a) (l a) (m a) (o a))
@@ -66,56 +71,59 @@ module _ (h : ℕ → ℤ) where
   combined-size : (B : ℕ) → ((i : ℕ) → i < 4 → natAbs (h i) ≤ B) → (k l m o : ℕ) → natAbs (combined k l m o) ≤ k * B + l * (2 * B) + m * (4 * B) + o * (8 * B)
   combined-size B fine k l m o =
       let x : ℤ = pos k *ℤ h 0 in
-      let y : ℤ = pos l *ℤ difference h 0 in
-      let z : ℤ = pos m *ℤ difference₂ h 0 in
-      let w : ℤ = pos o *ℤ difference₃ h 0 in
+      let y : ℤ = pos l *ℤ forward h 0 in
+      let z : ℤ = pos m *ℤ forward₂ h 0 in
+      let w : ℤ = pos o *ℤ forward₃ h 0 in
       omega (
         arith,
         abs-+ (x +ℤ y +ℤ z) w,
         abs-+ (x +ℤ y) z,
         abs-+ x y,
         abs-*-≤ (pos k) (h 0) {A = k} (omega arith) (fine 0 (omega arith)),
-        abs-*-≤ (pos l) (difference h 0) {A = l} (omega arith) (first-size h B fine 0 (omega arith)),
-        abs-*-≤ (pos m) (difference₂ h 0) {A = m} (omega arith) (second-size h B fine 0 (omega arith)),
-        abs-*-≤ (pos o) (difference₃ h 0) {A = o} (omega arith) (third-size h B fine),
+        abs-*-≤ (pos l) (forward h 0) {A = l} (omega arith) (first-size h B fine 0 (omega arith)),
+        abs-*-≤ (pos m) (forward₂ h 0) {A = m} (omega arith) (second-size h B fine 0 (omega arith)),
+        abs-*-≤ (pos o) (forward₃ h 0) {A = o} (omega arith) (third-size h B fine),
       )
 
   module _ (n : ℕ) where
-    cubic-first : (a : ℕ) → difference (cubic n h) a ≡ combined 0 (3 * n * n) (3 * n * (2 * a + 1)) (3 * a * a + 3 * a + 1)
+    cubic-first : (a : ℕ) → forward (cubic n h) a ≡ combined 0 (3 * n * n) (3 * n * (2 * a + 1)) (3 * a * a + 3 * a + 1)
     unfolding cubic
     cubic-first a =
         combined-difference (λ _. n * n * n) (λ a. 3 * n * n * a) (λ a. 3 * n * a * a) (λ a. a * a * a)
         (λ _. 0) (λ _. 3 * n * n) (λ a. 3 * n * (2 * a + 1)) (λ a. 3 * a * a + 3 * a + 1) a (omega arith) (omega arith) (omega arith) (omega arith)
 
-    cubic-second : (a : ℕ) → difference₂ (cubic n h) a ≡ combined 0 0 (6 * n) (6 * (a + 1))
+    cubic-second : (a : ℕ) → forward₂ (cubic n h) a ≡ combined 0 0 (6 * n) (6 * (a + 1))
     cubic-second a =
         ap₂ _-ℤ_ (cubic-first (a + 1)) (cubic-first a)
         ∙ combined-difference (λ _. 0) (λ _. 3 * n * n) (λ a. 3 * n * (2 * a + 1)) (λ a. 3 * a * a + 3 * a + 1)
         (λ _. 0) (λ _. 0) (λ _. 6 * n) (λ a. 6 * (a + 1)) a (omega arith) (omega arith) (omega arith) (omega arith)
 
-    cubic-third : (a : ℕ) → difference₃ (cubic n h) a ≡ combined 0 0 0 6
+    cubic-third : (a : ℕ) → forward₃ (cubic n h) a ≡ combined 0 0 0 6
     cubic-third a =
         ap₂ _-ℤ_ (cubic-second (a + 1)) (cubic-second a)
         ∙ combined-difference (λ _. 0) (λ _. 0) (λ _. 6 * n) (λ a. 6 * (a + 1))
         (λ _. 0) (λ _. 0) (λ _. 0) (λ _. 6) a (omega arith) (omega arith) (omega arith) (omega arith)
 
     -- at a = 0
-    pub cubic-start : (let half = pos 0 +ℤ pos (3 * n) *ℤ difference₂ h 0 in
-        let third = pos 0 +ℤ pos 6 *ℤ difference₃ h 0 in
-        differencesAt (cubic n h) 0
-        ≡ (pos 0 +ℤ pos (n * n * n) *ℤ h 0)
-        ∷ ((half +ℤ difference₃ h 0 +ℤ pos (3 * n * n) *ℤ difference h 0) ∷ ((third +ℤ pos 2 *ℤ half) ∷ (third ∷ []))))
+    pub cubic-start : (let half = pos 0 +ℤ pos (3 * n) *ℤ forward₂ h 0 in
+        let third = pos 0 +ℤ pos 6 *ℤ forward₃ h 0 in
+        differencesAt (cubic n h) 0 ≡ record {
+          value = pos 0 +ℤ pos (n * n * n) *ℤ h 0;
+          first = half +ℤ forward₃ h 0 +ℤ pos (3 * n * n) *ℤ forward h 0;
+          second = third +ℤ pos 2 *ℤ half;
+          third = third;
+        })
     unfolding cubic
     cubic-start =
-        let half : Expr = nat 0 ⊕ nat (3 * n) ⊛ int (difference₂ h 0) in
-        let third : Expr = nat 0 ⊕ nat 6 ⊛ int (difference₃ h 0) in
+        let half : Expr = nat 0 ⊕ nat (3 * n) ⊛ int (forward₂ h 0) in
+        let third : Expr = nat 0 ⊕ nat 6 ⊛ int (forward₃ h 0) in
         let value = prove-eq (combined-expr (n * n * n) (3 * n * n * 0) (3 * n * 0 * 0) (0 * 0 * 0)) (nat 0 ⊕ nat (n * n * n) ⊛ int (h 0)) (omega arith) in
         let first =
         prove-eq (combined-expr 0 (3 * n * n) (3 * n * (2 * 0 + 1)) (3 * 0 * 0 + 3 * 0 + 1))
-        (half ⊕ int (difference₃ h 0) ⊕ nat (3 * n * n) ⊛ int (difference h 0)) (omega arith) in
+        (half ⊕ int (forward₃ h 0) ⊕ nat (3 * n * n) ⊛ int (forward h 0)) (omega arith) in
         let second = prove-eq (combined-expr 0 0 (6 * n) (6 * (0 + 1))) (third ⊕ nat 2 ⊛ half) (omega arith) in
         let last = prove-eq (combined-expr 0 0 0 6) third (omega arith) in
-        ap₂ _∷_ value (ap₂ _∷_ (cubic-first 0 ∙ first) (ap₂ _∷_ (cubic-second 0 ∙ second) (ap₂ _∷_ (cubic-third 0 ∙ last) refl)))
+        same-differences value (cubic-first 0 ∙ first) (cubic-second 0 ∙ second) (cubic-third 0 ∙ last)
 
     pub cubic-next : (a : ℕ) → nextOf (differencesAt (cubic n h) a) ≡ differencesAt (cubic n h) (a + 1)
     cubic-next a = next-is (cubic n h) a (cubic-third a ∙ sym (cubic-third (a + 1)))
@@ -123,19 +131,17 @@ module _ (h : ℕ → ℤ) where
 -- ---- the size of what is carried from place to place
 pub cubic-tame : (h : ℕ → ℤ) → ((i : ℕ) → i < 4 → natAbs (h i) ≤ 2 ^ 45) → (n a : ℕ) → n ≤ maxSteps → a ≤ maxSteps → natAbs (cubic n h a) ≤ 2 ^ 61
     → Tame (differencesAt (cubic n h) a)
-cubic-tame h fine n a few at small = record { tame = go }
+cubic-tame h fine n a few at small = record {
+  value = small;
+  first =
+      rw (cubic-first h n a)
+      (omega (arith, size 0 (3 * n * n) (3 * n * (2 * a + 1)) (3 * a * a + 3 * a + 1), mul-le-mul few few, mul-le-mul few at, mul-le-mul at at));
+  second = rw (cubic-second h n a) (omega (arith, size 0 0 (6 * n) (6 * (a + 1))));
+  third = rw (cubic-third h n a) (omega (arith, size 0 0 0 6));
+}
   where
     size : (k l m o : ℕ) → natAbs (combined h k l m o) ≤ k * 2 ^ 45 + l * (2 * 2 ^ 45) + m * (4 * 2 ^ 45) + o * (8 * 2 ^ 45)
     size = combined-size h (2 ^ 45) fine
-
-    go : (i : ℕ) → i < 4 → natAbs (getD (differencesAt (cubic n h) a) i (pos 0)) ≤ 2 ^ 61
-    go zero l = small
-    go (suc zero) l =
-        rw (cubic-first h n a)
-        (omega (arith, size 0 (3 * n * n) (3 * n * (2 * a + 1)) (3 * a * a + 3 * a + 1), mul-le-mul few few, mul-le-mul few at, mul-le-mul at at))
-    go (suc (suc zero)) l = rw (cubic-second h n a) (omega (arith, size 0 0 (6 * n) (6 * (a + 1))))
-    go (suc (suc (suc zero))) l = rw (cubic-third h n a) (omega (arith, size 0 0 0 6))
-    go (suc (suc (suc (suc i)))) l = absurd (omega arith)
 
 -- ---- its values, by the weights
 weighed : (k l m o : ℕ) (w x y z : ℤ)

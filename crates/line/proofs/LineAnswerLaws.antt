@@ -22,7 +22,7 @@ use Rattle.sample.specs.declared.model.Curves.{Curves}
 use Rattle.sample.proofs.BlendLaws.{same-point}
 use Rattle.sample.proofs.RefusalLaws.{allowed}
 use Rattle.sample.proofs.CurveLaws.{curve-bound, curve-numerator}
-use Rattle.line.specs.Points.{Curved, along, curveIn}
+use Rattle.line.specs.Points.{curveCoordinate, curveIn, Drawable}
 use Rattle.line.proofs.LineLaws.{each-three}
 
 -- ---- the causes of a line: those of its sample at a = 0, then 17
@@ -73,24 +73,27 @@ module _ {patches : List ℤ} {f n b : ℕ} {r : Curves} (gave : CurvesGiven pat
   pub given-at : (k : ℕ) → k < 3 → curveIn r k ≡ curveAt patches f n b k
   given-at = each-three (λ k. curveIn r k ≡ curveAt patches f n b k) (gave .x-is ∙ rw met) (gave .y-is ∙ rw met) (gave .z-is ∙ rw met)
 
-  pub curved : (k : ℕ) → k < 3 → Curved n (r .divisor) (curveIn r k)
-  curved k below =
-      let steps = allowed patches f n 0 b met .across in
+  pub drawable : {line : List ℤ} → lineLength n ≤ length line → Drawable r n line
+  drawable room =
+      let steps = allowed patches f n 0 b met .samplable .across in
       record {
-        least = steps .least;
-        most = steps .most;
-        over = gave .divisor-is ∙ rw met;
-        size = rw (given-at k below) (curve-bound patches f n b met k below);
+        curved = λ k below. record {
+          least = steps .least;
+          most = steps .most;
+          over = gave .divisor-is ∙ rw met;
+          size = rw (given-at k below) (curve-bound patches f n b met k below);
+        };
+        room = room;
       }
 
 -- coordinate k of a line is that of its samples
-along-is : (patches : List ℤ) (f n b k a : ℕ) {curve : List ℤ} → curve ≡ curveAt patches f n b k → along n curve a ≡ coordinateAt patches f n a b k
+along-is : (patches : List ℤ) (f n b k a : ℕ) {curve : List ℤ} → curve ≡ curveAt patches f n b k → curveCoordinate n curve a ≡ coordinateAt patches f n a b k
 unfolding rounded
 along-is patches f n b k a e =
-    ap (λ (c : List ℤ). along n c a) e ∙ ap (λ (z : ℤ). nearest z (n ^ 6)) (curve-numerator patches f n b a k)
+    ap (λ (c : List ℤ). curveCoordinate n c a) e ∙ ap (λ (z : ℤ). nearest z (n ^ 6)) (curve-numerator patches f n b a k)
 
 pub line-along : {patches : List ℤ} {f n b : ℕ} (line : List ℤ) {r : Curves} → CurvesGiven patches f n b r → curveRefusal patches f n b ≡ none
-    → filled (λ i. along n (curveIn r (i % 3)) (i / 3)) (lineLength n) line ≡ filled (lineCoordinate patches f n b) (lineLength n) line
+    → filled (λ i. curveCoordinate n (curveIn r (i % 3)) (i / 3)) (lineLength n) line ≡ filled (lineCoordinate patches f n b) (lineLength n) line
 line-along {patches} {f} {n} {b} line gave met =
     filled-ext (lineLength n) line (λ i _. along-is patches f n b (i % 3) (i / 3) (given-at gave met (i % 3) (omega arith)))
 

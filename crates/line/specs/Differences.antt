@@ -1,43 +1,47 @@
 -- What only the contracts of private functions cite: differences, and the sum along a curve as a cubic in a.
 --
---   difference f a        the first difference: how much f grows from a to a + 1
---   difference₂, difference₃   the second and the third: the first of the one before
+--   forward f a           the forward difference: how much f grows from a to a + 1
+--   forward₂, forward₃    the second and the third: the first of the one before
 --   differencesAt f a     f at a, and its three differences there
 --   nextOf d              the same one place further, where the third difference stays
---   Fine values           four values whose small multiples fit 64 bits
---   Tame d                four numbers whose sums by two fit 64 bits
+--   Summable n curve      N in its range, and a curve with four values whose small multiples fit 64 bits
+--   Tame d                a number and its differences whose sums by two fit 64 bits
 --   cubic n h a           the sum of the values h 0 to h 3 of a curve by the weights of place a, in powers of a: so it goes on behind a = N
-use mathlib.Core.List.{List, [], _∷_}
-use Prim.Native.Nat.{ℕ, _+_, _*_, _^_, _≤_, _<_}
+use mathlib.Core.List.{List}
+use Prim.Native.Nat.{ℕ, _+_, _*_, _^_, _≤_}
 use lib.IntN.{ℤ, pos, natAbs, _+ℤ_, _-ℤ_, _*ℤ_}
-use lib.ListN.{getD}
+use Rattle.sample.specs.Refusal.{maxSteps}
+use Rattle.sample.specs.Blend.{Fine}
+use Rattle.line.specs.declared.model.Differences.{Differences}
 
-abbrev pub difference : (ℕ → ℤ) → ℕ → ℤ
-difference f a = f (a + 1) -ℤ f a
+abbrev pub forward : (ℕ → ℤ) → ℕ → ℤ
+forward f a = f (a + 1) -ℤ f a
 
-abbrev pub difference₂ : (ℕ → ℤ) → ℕ → ℤ
-difference₂ f = difference (difference f)
+abbrev pub forward₂ : (ℕ → ℤ) → ℕ → ℤ
+forward₂ f = forward (forward f)
 
-abbrev pub difference₃ : (ℕ → ℤ) → ℕ → ℤ
-difference₃ f = difference (difference₂ f)
+abbrev pub forward₃ : (ℕ → ℤ) → ℕ → ℤ
+forward₃ f = forward (forward₂ f)
 
-abbrev pub differencesAt : (ℕ → ℤ) → ℕ → List ℤ
-differencesAt f a = f a ∷ (difference f a ∷ (difference₂ f a ∷ (difference₃ f a ∷ [])))
+abbrev pub differencesAt : (ℕ → ℤ) → ℕ → Differences
+differencesAt f a = record { value = f a; first = forward f a; second = forward₂ f a; third = forward₃ f a }
 
-abbrev pub nextOf : List ℤ → List ℤ
-nextOf d =
-    let at : ℕ → ℤ = λ i. getD d i (pos 0) in
-    (at 0 +ℤ at 1) ∷ ((at 1 +ℤ at 2) ∷ ((at 2 +ℤ at 3) ∷ (at 3 ∷ [])))
+abbrev pub nextOf : Differences → Differences
+nextOf d = record { value = d .value +ℤ d .first; first = d .first +ℤ d .second; second = d .second +ℤ d .third; third = d .third }
 
-pub record Fine (values : List ℤ) : Type 0 where
-  pub fine : (i : ℕ) → i < 4 → natAbs (getD values i (pos 0)) ≤ 2 ^ 45
+pub record Summable (n : ℕ) (curve : List ℤ) : Type 0 where
+  pub few : n ≤ maxSteps
+  pub fine : Fine curve
 
-pub record Tame (d : List ℤ) : Type 0 where
-  pub tame : (i : ℕ) → i < 4 → natAbs (getD d i (pos 0)) ≤ 2 ^ 61
+pub record Tame (d : Differences) : Type 0 where
+  pub value : natAbs (d .value) ≤ 2 ^ 61
+  pub first : natAbs (d .first) ≤ 2 ^ 61
+  pub second : natAbs (d .second) ≤ 2 ^ 61
+  pub third : natAbs (d .third) ≤ 2 ^ 61
 
 unfoldable pub cubic : ℕ → (ℕ → ℤ) → ℕ → ℤ
 cubic n h a =
     pos (n * n * n) *ℤ h 0
-    +ℤ pos (3 * n * n * a) *ℤ difference h 0
-    +ℤ pos (3 * n * a * a) *ℤ difference₂ h 0
-    +ℤ pos (a * a * a) *ℤ difference₃ h 0
+    +ℤ pos (3 * n * n * a) *ℤ forward h 0
+    +ℤ pos (3 * n * a * a) *ℤ forward₂ h 0
+    +ℤ pos (a * a * a) *ℤ forward₃ h 0

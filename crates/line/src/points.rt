@@ -3,13 +3,14 @@ use crate::differences::first_sums;
 use crate::differences::stepped;
 use sample::model::Curves;
 ghost use mathlib.Core.Path.{_≡_};
-ghost use Prim.Native.Nat.{ℕ, _+_, _*_, _/_, _%_, _≤_, _<_};
+ghost use Prim.Native.Nat.{_+_, _*_, _/_, _%_, _≤_};
 ghost use lib.ListN.{length, set};
 ghost use Rattle.integer.specs.Nearest.{nearest};
 ghost use Rattle.sample.specs.Refusal.{maxSteps};
+ghost use Rattle.sample.specs.Blend.{Mean};
 ghost use Rattle.finite.specs.Filled.{filled};
 ghost use Rattle.line.specs.Line.{lineLength};
-ghost use Rattle.line.specs.Points.{Mean, Curved, along, curveIn};
+ghost use Rattle.line.specs.Points.{curveCoordinate, curveIn, Drawable};
 
 // A sum along a curve over its divisor, rounded once: no further from 0 than a control value, so it fits.
 fn quotient(sum: i64, divisor: u32) -> i32
@@ -32,8 +33,8 @@ fn store_point(line: &mut [i32], a: usize, x: i32, y: i32, z: i32)
 
 // Writes the points along the three curves, a from 0 to n, three coordinates each.
 pub(crate) fn write_points(curves: Curves, n: usize, line: &mut [i32])
-    requires { ⌜ ((k : ℕ) → k < 3 → Curved n (curves .divisor) (curveIn curves k)) × (lineLength n ≤ length (now line)) ⌝ }
-    ensures { λ _. ⌜ now (line .exit) ≡ filled (λ i. along n (curveIn curves (i % 3)) (i / 3)) (lineLength n) (now (line .entry)) ⌝ }
+    requires { ⌜ Drawable curves n (now line) ⌝ }
+    ensures { λ _. ⌜ now (line .exit) ≡ filled (λ i. curveCoordinate n (curveIn curves (i % 3)) (i / 3)) (lineLength n) (now (line .entry)) ⌝ }
 {
     let along_x = curves.x;
     let along_y = curves.y;
@@ -42,9 +43,9 @@ pub(crate) fn write_points(curves: Curves, n: usize, line: &mut [i32])
     let mut y = first_sums(n, along_y);
     let mut z = first_sums(n, along_z);
     for a in 0..n + 1 {
-        let p = quotient(x[0], curves.divisor);
-        let q = quotient(y[0], curves.divisor);
-        let r = quotient(z[0], curves.divisor);
+        let p = quotient(x.value, curves.divisor);
+        let q = quotient(y.value, curves.divisor);
+        let r = quotient(z.value, curves.divisor);
         store_point(line, a, p, q, r);
         x = stepped(x);
         y = stepped(y);

@@ -21,31 +21,31 @@ use Rattle.sample.specs.Refusal.{maxControl}
 use Rattle.sample.specs.declared.model.Coordinate.{Coordinate}
 use Rattle.sample.specs.declared.model.Point.{Point}
 use Rattle.sample.specs.declared.model.MarkedPoint.{MarkedPoint}
-use Rattle.sample.specs.Blend.{controlOf, Small, Steps, Light, Fine, Mean, blended, blendedTwice, curveOf}
-use Rattle.sample.proofs.BernsteinLaws.{bernstein-small, sixth-small}
+use Rattle.sample.specs.Blend.{controlOf, SmallPatch, AtStep, Samplable, LightWeights, Fine, Blendable, ForCurve, Mean, blended, blendedTwice, curveOf}
+use Rattle.sample.proofs.BernsteinLaws.{bernstein-small}
 use Rattle.sample.proofs.SampleLaws.{numerator-rows, rounded-nearest, numerator-bound}
 
 -- ---- the first i terms
 abbrev pub term : List ℕ → (ℕ → ℤ) → ℕ → ℤ
 term weights h i = pos (getD weights i 0) *ℤ h i
 
-partial-size : {weights : List ℕ} (h : ℕ → ℤ) (B : ℕ) → Light weights → ((i : ℕ) → i < 4 → natAbs (h i) ≤ B)
+partial-size : {weights : List ℕ} (h : ℕ → ℤ) (B : ℕ) → LightWeights weights → ((i : ℕ) → i < 4 → natAbs (h i) ≤ B)
     → (i : ℕ) → i ≤ 4 → natAbs (sumBelowℤ (term weights h) i) ≤ i * (2 ^ 15 * B)
 partial-size {weights} h B light fine i l =
     sum-size (2 ^ 15 * B) (term weights h) i (λ j k. abs-*-≤ (pos (getD weights j 0)) (h j) (light .light j (omega arith)) (fine j (omega arith)))
 
-module _ {weights : List ℕ} {values : List ℤ} (light : Light weights) (fine : Fine values) where
+module _ {weights : List ℕ} {values : List ℤ} (b : Blendable weights values) where
   abbrev value : ℕ → ℤ
   value i = getD values i (pos 0)
 
   pub value-fits : (i : ℕ) → i < 4 → SFits w64 (value i)
-  value-fits i l = sfits-abs (value i) (omega (arith, fine .fine i l))
+  value-fits i l = sfits-abs (value i) (omega (arith, b .fine .fine i l))
 
   pub term-fits : (i : ℕ) → i < 4 → SFits w64 (term weights value i)
-  term-fits i l = sfits-abs (term weights value i) (omega (arith, abs-*-≤ (pos (getD weights i 0)) (value i) (light .light i l) (fine .fine i l)))
+  term-fits i l = sfits-abs (term weights value i) (omega (arith, abs-*-≤ (pos (getD weights i 0)) (value i) (b .light .light i l) (b .fine .fine i l)))
 
   pub partial-fits : (i : ℕ) → i ≤ 4 → SFits w64 (sumBelowℤ (term weights value) i)
-  partial-fits i l = sfits-abs (sumBelowℤ (term weights value) i) (omega (arith, partial-size value (2 ^ 45) light (fine .fine) i l))
+  partial-fits i l = sfits-abs (sumBelowℤ (term weights value) i) (omega (arith, partial-size value (2 ^ 45) (b .light) (b .fine .fine) i l))
 
 -- ---- four values as a list
 pub list-of-four : {A : Type 0} (f : ℕ → A) {w x y z : A} → w ≡ f 0 → x ≡ f 1 → y ≡ f 2 → z ≡ f 3 → w ∷ (x ∷ (y ∷ (z ∷ []))) ≡ listBelow f 4
@@ -57,15 +57,15 @@ pub blended-list : (weights : List ℕ) (h : ℕ → ℤ) {values : List ℤ} {r
 unfolding foldBelow listBelow
 blended-list weights h e q = q ∙ ap (λ (xs : List ℤ). blended weights (λ i. getD xs i (pos 0))) e
 
--- ---- another place of the same N
-pub steps-at : {n b : ℕ} → Steps n b → (a : ℕ) → a ≤ n → Steps n a
-steps-at s a l = record { least = s .least; most = s .most; within = l }
+-- ---- another step of the same N
+pub step-at : {n b : ℕ} → AtStep n b → (a : ℕ) → a ≤ n → AtStep n a
+step-at s a l = record { least = s .least; most = s .most; within = l }
 
 -- ---- one patch
-pub weights-light : {n a : ℕ} → Steps n a → Light (listBelow (bernstein n a) 4)
+pub weights-light : {n a : ℕ} → AtStep n a → LightWeights (listBelow (bernstein n a) 4)
 weights-light {n} {a} s = record { light = λ i l. rw (listBelow-at (bernstein n a) 4 i 0 l) (bernstein-small n a (s .within) (s .most) i l) }
 
-module _ {patch : List ℤ} (small : Small patch) (k : ℕ) (below : k < 3) where
+module _ {patch : List ℤ} (small : SmallPatch patch) (k : ℕ) (below : k < 3) where
   pub control-small : (m : ℕ) → m < 16 → natAbs (controlOf patch k m) ≤ maxControl
   control-small m l = small .small (3 * m + k) (omega arith)
 
@@ -75,21 +75,25 @@ module _ {patch : List ℤ} (small : Small patch) (k : ℕ) (below : k < 3) wher
   pub column-fine : (i : ℕ) → i < 4 → Fine (listBelow (column i) 4)
   column-fine i l = record { fine = λ j q. rw (listBelow-at (column i) 4 j (pos 0) q) (omega (arith, control-small (i + 4 * j) (omega arith))) }
 
-  pub curve-fine : {v : List ℕ} → Light v → Fine (listBelow (λ i. blended v (column i)) 4)
-  curve-fine {v} light =
-      record {
-        fine = λ i l.
-            rw (listBelow-at (λ i. blended v (column i)) 4 i (pos 0) l)
-            (omega (arith, partial-size (column i) maxControl light (λ j q. control-small (i + 4 * j) (omega arith)) 4 (omega arith)));
-      }
+pub curve-fine : {patch : List ℤ} {k : ℕ} {v : List ℕ} → ForCurve patch k v → Fine (listBelow (λ i. blended v (λ j. controlOf patch k (i + 4 * j))) 4)
+curve-fine {patch} {k} {v} s =
+    let column : ℕ → ℕ → ℤ = λ i j. controlOf patch k (i + 4 * j) in
+    record {
+      fine = λ i l.
+          rw (listBelow-at (λ i. blended v (column i)) 4 i (pos 0) l)
+          (omega (
+            arith,
+            partial-size (column i) maxControl (s .light) (λ j q. control-small (s .small) k (s .axis) (i + 4 * j) (omega arith)) 4 (omega arith),
+          ));
+    }
 
-  pub sample-mean : {n a b : ℕ} → Steps n a → Steps n b → Mean (numerator n a b (controlOf patch k)) (n ^ 6)
-  sample-mean {n} {a} {b} s t =
-      record {
-        least = one-le-pow 6 n (s .least);
-        most = sixth-small n (s .most);
-        within = rw mul-comm (numerator-bound n a b (s .within) (t .within) (controlOf patch k) maxControl control-small);
-      }
+pub sample-mean : {patch : List ℤ} {n a b : ℕ} → Samplable patch n a b → (k : ℕ) → k < 3 → Mean (numerator n a b (controlOf patch k)) (n ^ 6)
+sample-mean {patch} {n} {a} {b} s k l = record {
+  least = one-le-pow 6 n (s .at .least);
+  within =
+      rw mul-comm
+      (numerator-bound n a b (s .at .within) (s .across .within) (controlOf patch k) maxControl (control-small (s .small) k l));
+}
 
 -- ---- the sample, by the lists of the weights
 module _ (n a b : ℕ) (g : ℕ → ℤ) {u v : List ℕ} {d : ℕ} (e : u ≡ listBelow (bernstein n a) 4) (f : v ≡ listBelow (bernstein n b) 4) (h : d ≡ n ^ 6) where

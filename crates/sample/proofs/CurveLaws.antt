@@ -1,5 +1,5 @@
 -- The curves that the samples of one b share: what is given where a cause is met and where none is, their size, and the sum of a sample by them.
-use mathlib.Core.Path.{_≡_, refl, sym, ap, _∙_}
+use mathlib.Core.Path.{_≡_, sym, ap, _∙_}
 use mathlib.Core.List.{List}
 use mathlib.Core.Option.{none, some}
 use Prim.Native.Nat.{ℕ, _+_, _*_, _/_, _^_, _≤_, _<_}
@@ -57,9 +57,9 @@ module _ (patches : List ℤ) (f n b : ℕ) where
       rw (listBelow-at (λ i. sumBelowℤ (λ j. pos (bernstein n b j) *ℤ controlAt patches f k (i + 4 * j)) 4) 4 i (pos 0) l)
       (omega (
         arith,
-        curve-weighted n b (h .across .within) (λ j. controlAt patches f k (i + 4 * j)) 1 maxControl (λ j q.
+        curve-weighted n b (h .samplable .across .within) (λ j. controlAt patches f k (i + 4 * j)) 1 maxControl (λ j q.
             rw (sym (patch-control patches f (h .listed) k (i + 4 * j) below (omega arith)))
-            (omega (arith, control-small (h .small) k below (i + 4 * j) (omega arith)))),
+            (omega (arith, control-small (h .samplable .small) k below (i + 4 * j) (omega arith)))),
       ))
 
   -- ---- the sum of a sample, along its curve

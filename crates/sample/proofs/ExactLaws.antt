@@ -44,14 +44,14 @@ exact-sample n a b num den q L g r common points own =
     ∙ ap (λ (z : ℤ). z *ℤ pos (q m)) (sym (points m l)))
 
 -- ---- what a mark says
-module _ (patches : List ℤ) (exact : List ℕ) (f n a b : ℕ) (set : sampleExact patches exact f n a b ≡ true) where
-  both : (patchMarked exact f ≡ true) × (divisionWhole patches f n a b ≡ true)
-  both = and-true (patchMarked exact f) (divisionWhole patches f n a b) set
+module _ (patches : List ℤ) (marks : List ℕ) (f n a b : ℕ) (set : sampleExact patches marks f n a b ≡ true) where
+  both : (patchMarked marks f ≡ true) × (divisionWhole patches f n a b ≡ true)
+  both = and-true (patchMarked marks f) (divisionWhole patches f n a b) set
 
   -- each of the sixteen bytes is 1
-  pub exact-byte : (m : ℕ) → m < 16 → getD exact (16 * f + m) 0 ≡ 1
+  pub exact-byte : (m : ℕ) → m < 16 → getD marks (16 * f + m) 0 ≡ 1
   unfolding patchMarked
-  exact-byte m l = eqb-true (getD exact (16 * f + m) 0) 1 (all-true _ 16 (both .0) m l)
+  exact-byte m l = eqb-true (getD marks (16 * f + m) 0) 1 (all-true _ 16 (both .0) m l)
 
   -- coordinate k times n^6 is its sum
   pub exact-division : (k : ℕ) → k < 3 → numerator n a b (controlAt patches f k) ≡ coordinateAt patches f n a b k *ℤ pos (n ^ 6)

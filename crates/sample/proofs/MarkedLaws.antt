@@ -21,32 +21,32 @@ use Rattle.sample.specs.Marked.{marksOff, markedRows, patchMarked, marke
 use Rattle.sample.proofs.RefusalLaws.{ownAnswer}
 
 -- ---- the causes: 12 for the marks, then those of a sample
-module _ (patches : List ℤ) (exact : List ℕ) (f n a b : ℕ) where
-  pub marks-off : length exact / 16 ≤ f → firstMet (markedRows patches exact f n a b) ≡ some 12
+module _ (patches : List ℤ) (marks : List ℕ) (f n a b : ℕ) where
+  pub marks-off : length marks / 16 ≤ f → firstMet (markedRows patches marks f n a b) ≡ some 12
   unfolding marksOff
   marks-off h =
-      let short = lt-ltb (length exact) (16 * f + 16) (omega arith) in
+      let short = lt-ltb (length marks) (16 * f + 16) (omega arith) in
       bool-cases (faceOff patches f) (λ e. rw e) (λ e. rw (e, short))
 
-  marks-on : f < length exact / 16 → firstMet (markedRows patches exact f n a b) ≡ firstMet (sampleRows patches f n a b)
+  marks-on : f < length marks / 16 → firstMet (markedRows patches marks f n a b) ≡ firstMet (sampleRows patches f n a b)
   unfolding marksOff
   marks-on h =
-      let long = le-ltb (length exact) (16 * f + 16) (omega arith) in
+      let long = le-ltb (length marks) (16 * f + 16) (omega arith) in
       bool-cases (faceOff patches f) (λ e. rw e) (λ e. rw (e, long))
 
 -- ---- the marks of a face
 -- the part that is handed on
 abbrev pub marksOf : List ℕ → ℕ → List ℕ
-marksOf exact f = take (16 * f + 16 - 16 * f) (drop (16 * f) exact)
+marksOf marks f = take (16 * f + 16 - 16 * f) (drop (16 * f) marks)
 
-module _ (exact : List ℕ) (f : ℕ) (within : f < length exact / 16) where
-  marks-length : length (marksOf exact f) ≡ 16
+module _ (marks : List ℕ) (f : ℕ) (within : f < length marks / 16) where
+  marks-length : length (marksOf marks f) ≡ 16
   marks-length = simp (length-take, length-drop) (omega arith)
 
-  marks-at : (i : ℕ) → i < 16 → getD (marksOf exact f) i 0 ≡ getD exact (16 * f + i) 0
+  marks-at : (i : ℕ) → i < 16 → getD (marksOf marks f) i 0 ≡ getD marks (16 * f + i) 0
   marks-at i l = let q : i < 16 * f + 16 - 16 * f = omega arith in rw (getD-take, getD-drop)
 
-  pub marks-all : allBelow (λ i. eqb (getD (marksOf exact f) i 0) 1) (length (marksOf exact f)) ≡ patchMarked exact f
+  pub marks-all : allBelow (λ i. eqb (getD (marksOf marks f) i 0) 1) (length (marksOf marks f)) ≡ patchMarked marks f
   unfolding patchMarked
   marks-all = rw marks-length (fold-ext true _&&_ 16 (λ i l. rw (marks-at i l)))
 
@@ -55,12 +55,12 @@ module _ (exact : List ℕ) (f : ℕ) (within : f < length exact / 16) where
 abbrev pub withMarks : Bool → MarkedPoint → MarkedPoint
 withMarks m p = record { point = p .point; exact = m && p .exact }
 
-module _ (patches : List ℤ) (exact : List ℕ) (f n a b : ℕ) where
-  pub marked-refused : {k : ℕ} → firstMet (markedRows patches exact f n a b) ≡ some k → refusal k ≡ markedAnswer patches exact f n a b
+module _ (patches : List ℤ) (marks : List ℕ) (f n a b : ℕ) where
+  pub marked-refused : {k : ℕ} → firstMet (markedRows patches marks f n a b) ≡ some k → refusal k ≡ markedAnswer patches marks f n a b
   unfolding markedAnswer
   marked-refused e = rw e
 
   -- where the marks are listed, the answer of the sample with its own mark is the call's, the marks asked as well
-  pub own-marked : f < length exact / 16 → over (withMarks (patchMarked exact f)) (ownAnswer patches f n a b) ≡ markedAnswer patches exact f n a b
+  pub own-marked : f < length marks / 16 → over (withMarks (patchMarked marks f)) (ownAnswer patches f n a b) ≡ markedAnswer patches marks f n a b
   unfolding markedAnswer
-  own-marked h = over-by (withMarks (patchMarked exact f)) (firstMet (sampleRows patches f n a b)) _ ∙ rw (marks-on patches exact f n a b h)
+  own-marked h = over-by (withMarks (patchMarked marks f)) (firstMet (sampleRows patches f n a b)) _ ∙ rw (marks-on patches marks f n a b h)

@@ -18,7 +18,7 @@ use Rattle.sample.specs.Refusal.{maxControl, controlOff}
 use Rattle.sample.specs.Answer.{pointAt}
 use Rattle.sample.specs.Marked.{divisionWhole}
 use Rattle.sample.specs.declared.model.MarkedPoint.{MarkedPoint}
-use Rattle.sample.specs.Blend.{controlOf, Small}
+use Rattle.sample.specs.Blend.{controlOf, SmallPatch}
 use Rattle.sample.proofs.SampleLaws.{numerator-ext, rounded-ext}
 use Rattle.sample.proofs.BlendLaws.{same-point}
 
@@ -46,7 +46,7 @@ module _ (patches : List ℤ) (f : ℕ) (within : f < length patches / 48) where
   unfolding controlOff
   patch-off = rw patch-length (fold-ext false _||_ 48 (λ i l. ap (λ (z : ℤ). ltb maxControl (natAbs z)) (patch-at i l)))
 
-  pub patch-small : controlOff patches f ≡ false → Small (patchOf patches f)
+  pub patch-small : controlOff patches f ≡ false → SmallPatch (patchOf patches f)
   unfolding controlOff
   patch-small e =
       record {

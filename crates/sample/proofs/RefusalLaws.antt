@@ -16,7 +16,7 @@ use Rattle.sample.specs.declared.model.MarkedPoint.{MarkedPoint}
 use Rattle.sample.specs.Refusal.{minSteps, maxSteps, faceOff, controlOff, placeOff, sampleRows}
 use Rattle.sample.specs.Answer.{pointAt, sampleAnswer}
 use Rattle.sample.specs.Marked.{divisionWhole}
-use Rattle.sample.specs.Blend.{Small, Steps}
+use Rattle.sample.specs.Blend.{Samplable}
 use Rattle.sample.proofs.BlendLaws.{same-marked}
 use Rattle.sample.proofs.PatchLaws.{patchOf, pointOf, patch-small, patch-point, patch-whole}
 
@@ -30,12 +30,10 @@ unfolding faceOff
 face-on patches f h = le-ltb (length patches) (48 * f + 48) (omega arith)
 
 -- ---- nothing is met
---   Allowed patches f n a b   the face is listed, its control values are within their limit, and a and b are places
-pub record Allowed (patches : List ℤ) (f n a b : ℕ) : Type 0 where
+--   SampleAllowed patches f n a b   the face is listed, and its patch can be sampled at (a, b)
+pub record SampleAllowed (patches : List ℤ) (f n a b : ℕ) : Type 0 where
   pub listed : f < length patches / 48
-  pub small : Small (patchOf patches f)
-  pub at : Steps n a
-  pub across : Steps n b
+  pub samplable : Samplable (patchOf patches f) n a b
 
 face-listed : (patches : List ℤ) (f : ℕ) → faceOff patches f ≡ false → f < length patches / 48
 unfolding faceOff
@@ -49,7 +47,7 @@ place-on n a b e =
     let h₃ = or-false (ltb n a) (ltb n b) (h₂ .1) in
     (ltb-false n minSteps (h₁ .0), ltb-false maxSteps n (h₂ .0), ltb-false n a (h₃ .0), ltb-false n b (h₃ .1))
 
-pub allowed : (patches : List ℤ) (f n a b : ℕ) → firstMet (sampleRows patches f n a b) ≡ none → Allowed patches f n a b
+pub allowed : (patches : List ℤ) (f n a b : ℕ) → firstMet (sampleRows patches f n a b) ≡ none → SampleAllowed patches f n a b
 allowed patches f n a b e =
     let past-12 = none-met (faceOff patches f) 12 _ e in
     let past-13 = none-met (controlOff patches f) 13 _ (past-12 .1) in
@@ -58,9 +56,11 @@ allowed patches f n a b e =
     let on = place-on n a b (past-14 .0) in
     record {
       listed = listed;
-      small = patch-small patches f listed (past-13 .0);
-      at = record { least = on .0; most = on .1; within = on .2 };
-      across = record { least = on .0; most = on .1; within = on .3 };
+      samplable = record {
+        small = patch-small patches f listed (past-13 .0);
+        at = record { least = on .0; most = on .1; within = on .2 };
+        across = record { least = on .0; most = on .1; within = on .3 };
+      };
     }
 
 -- ---- the answer, by the first cause met

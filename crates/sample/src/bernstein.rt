@@ -7,18 +7,16 @@ ghost use mathlib.Core.Path.{_≡_};
 ghost use Prim.Native.Nat.{_+_, _*_, _^_, _≤_, _<_};
 ghost use lib.IntN.{pos, _+ℤ_, _*ℤ_};
 ghost use lib.ListN.{length, getD};
-ghost use mir.Syntax.{w64};
-ghost use mir.Val.{SFits};
 ghost use Rattle.integer.specs.Nearest.{nearest, whole};
 ghost use Rattle.finite.specs.Fold.{allBelow};
 ghost use Rattle.finite.specs.Filled.{listBelow};
 ghost use Rattle.sample.specs.Bernstein.{bernstein, numerator, rounded};
 ghost use Rattle.sample.specs.Refusal.{maxSteps};
-ghost use Rattle.sample.specs.Blend.{controlOf, Small, Steps, Light, Fine, Mean, blended, blendedTwice, curveOf};
+ghost use Rattle.sample.specs.Blend.{controlOf, AtStep, Samplable, Addable, LightWeights, Blendable, ForCurve, Mean, blended, blendedTwice, curveOf};
 
 // The weights of place a.
 fn weights(n: usize, a: usize) -> [u32; 4]
-    requires { ⌜ Steps n a ⌝ }
+    requires { ⌜ AtStep n a ⌝ }
     ensures { λ r. ⌜ r ≡ listBelow (bernstein n a) 4 ⌝ }
 {
     let s = a as u32;
@@ -38,7 +36,7 @@ fn divisor(n: usize) -> u32
 
 // One term more of a sum.
 fn add_product(sum: i64, weight: u32, value: i64) -> i64
-    requires { ⌜ SFits w64 (pos weight *ℤ value) × SFits w64 (sum +ℤ pos weight *ℤ value) ⌝ }
+    requires { ⌜ Addable sum weight value ⌝ }
     ensures { λ r. ⌜ r ≡ sum +ℤ pos weight *ℤ value ⌝ }
 {
     sum + weight as i64 * value
@@ -46,7 +44,7 @@ fn add_product(sum: i64, weight: u32, value: i64) -> i64
 
 // Four values, each times its weight, added.
 fn blend(weights: [u32; 4], values: [i64; 4]) -> i64
-    requires { ⌜ Light weights × Fine values ⌝ }
+    requires { ⌜ Blendable weights values ⌝ }
     ensures { λ r. ⌜ r ≡ blended weights (λ i. getD values i (pos 0)) ⌝ }
 {
     let mut sum: i64 = 0;
@@ -79,7 +77,7 @@ fn column(patch: &[i32], k: usize, i: usize) -> [i64; 4]
 
 // The control values of coordinate k, blended along v: a curve along u that all samples with one b share.
 fn curve(patch: &[i32], k: usize, v: [u32; 4]) -> [i64; 4]
-    requires { ⌜ Small (now patch) × (k < 3) × Light v ⌝ }
+    requires { ⌜ ForCurve (now patch) k v ⌝ }
     ensures { λ r. ⌜ r ≡ listBelow (λ i. blended v (λ j. controlOf (now (patch .entry)) k (i + 4 * j))) 4 ⌝ }
 {
     [
@@ -92,7 +90,7 @@ fn curve(patch: &[i32], k: usize, v: [u32; 4]) -> [i64; 4]
 
 // The curves of all three coordinates at b.
 pub(crate) fn patch_curves(patch: &[i32], n: usize, b: usize) -> Curves
-    requires { ⌜ Small (now patch) × Steps n b ⌝ }
+    requires { ⌜ Samplable (now patch) n 0 b ⌝ }
     ensures { λ r. ⌜ r ≡ record {
       refusal = 0;
       divisor = n ^ 6;
@@ -128,7 +126,7 @@ fn rounded_quotient(sum: i64, divisor: u32) -> Coordinate
 
 // What coordinate k of the sample is divided from: blended along v, then along u.
 fn coordinate_sum(patch: &[i32], k: usize, u: [u32; 4], v: [u32; 4]) -> i64
-    requires { ⌜ Small (now patch) × (k < 3) × Light u × Light v ⌝ }
+    requires { ⌜ LightWeights u × ForCurve (now patch) k v ⌝ }
     ensures { λ r. ⌜ r ≡ blendedTwice u v (controlOf (now (patch .entry)) k) ⌝ }
 {
     blend(u, curve(patch, k, v))
@@ -136,7 +134,7 @@ fn coordinate_sum(patch: &[i32], k: usize, u: [u32; 4], v: [u32; 4]) -> i64
 
 // The point of the patch at (a, b), exact where the division left nothing in any coordinate.
 pub(crate) fn point(patch: &[i32], n: usize, a: usize, b: usize) -> MarkedPoint
-    requires { ⌜ Small (now patch) × Steps n a × Steps n b ⌝ }
+    requires { ⌜ Samplable (now patch) n a b ⌝ }
     ensures { λ r. ⌜ r ≡ record {
       point = record {
         x = rounded n a b (controlOf (now (patch .entry)) 0);

@@ -39,22 +39,22 @@ pub fn sample(patches: &[i32], f: usize, n: usize, a: usize, b: usize) -> Sample
 }
 
 // The sample of face f at (a, b), for N = n, and whether it is exact (rule S7).
-// Returns: the sample as `sample` gives it, and its mark: whether the sixteen bytes of face f in the list `exact` are all 1 and the sample's own
+// Returns: the sample as `sample` gives it, and its mark: whether the sixteen bytes of face f in the list `marks` are all 1 and the sample's own
 // division left nothing in any coordinate; or the number of the refusal.
 // Writes: nothing. Leaves alone: both lists; of them, places 48f to 48f + 47 and 16f to 16f + 15 are read and no others.
-// Refuses, in this order: 12 patch list shorter than 48f + 48, or the list `exact` shorter than 16f + 16, 13 and 14 as `sample`.
+// Refuses, in this order: 12 patch list shorter than 48f + 48, or the list `marks` shorter than 16f + 16, 13 and 14 as `sample`.
 // Units: control values and sample in 1/256 micrometre.
 pub fn marked_sample(
     patches: &[i32],
-    exact: &[u8],
+    marks: &[u8],
     f: usize,
     n: usize,
     a: usize,
     b: usize,
 ) -> Marked
-    ensures { λ r. ⌜ marked r ≡ markedAnswer (now (patches .entry)) (now (exact .entry)) f n a b ⌝ }
+    ensures { λ r. ⌜ marked r ≡ markedAnswer (now (patches .entry)) (now (marks .entry)) f n a b ⌝ }
 {
-    if exact.len() / 16 <= f {
+    if marks.len() / 16 <= f {
         return Marked::Refused(12);
     }
     match own_sample(patches, f, n, a, b) {
@@ -64,7 +64,7 @@ pub fn marked_sample(
             let end = at + 16;
             Marked::At(MarkedPoint {
                 point: p,
-                exact: all_exact(&exact[at..end]) & own.exact,
+                exact: all_exact(&marks[at..end]) & own.exact,
             })
         }
         Marked::Refused(k) => Marked::Refused(k),

@@ -21,20 +21,11 @@ fn any_control_off(patch: &[i32]) -> bool
     off
 }
 
-// Cause 14.
+// Cause 14. No early way out: the definition, test by test.
 fn place_off(n: usize, a: usize, b: usize) -> bool
     ensures { λ r. ⌜ r ≡ placeOff n a b ⌝ }
 {
-    if n < MIN_STEPS {
-        return true;
-    }
-    if MAX_STEPS < n {
-        return true;
-    }
-    if n < a {
-        return true;
-    }
-    n < b
+    (n < MIN_STEPS) | ((MAX_STEPS < n) | ((n < a) | (n < b)))
 }
 
 // The number of the first cause that is met for face f at (a, b), for N = n; 0 for none.

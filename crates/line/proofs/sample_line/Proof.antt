@@ -11,7 +11,7 @@ use Rattle.sample.specs.Refusal.{maxSteps}
 use Rattle.sample.specs.Curve.{curveRefusal}
 use Rattle.sample.proofs.RefusalLaws.{allowed}
 use Rattle.line.specs.Line.{lineLength}
-use Rattle.line.proofs.LineAnswerLaws.{line-stopped, line-short, line-clear, line-done, line-not-done, curved, line-along}
+use Rattle.line.proofs.LineAnswerLaws.{line-stopped, line-short, line-clear, line-done, line-not-done, drawable, line-along}
 use Rattle.line.proofs.sample_line.Statement.{statement}
 use Rattle.line.proofs.sample_line.Tie as tie
 
@@ -27,7 +27,7 @@ module _ (c : tie.Else1) where
   nothing-met = sym (called .curves .ensures .refusal-is) ∙ ap refusalOf (c .if1 .left)
 
   few : start .args .n ≤ maxSteps
-  few = allowed _ _ _ _ _ nothing-met .across .most
+  few = allowed _ _ _ _ _ nothing-met .samplable .across .most
 
 -- ---- the lent list is long enough
 module _ (c : tie.Else2) where
@@ -58,7 +58,7 @@ returns-2 c = let e : tie.Else1 = c .before in line-not-done _ _ _ _ _ (line-sho
 write-points-requires : tie.Need-write-points-requires
 write-points-requires c κs =
     let e : tie.Else2 = c .before in
-    (curved (called (passed e) .curves .ensures) (nothing-met (passed e)), long e)
+    drawable (called (passed e) .curves .ensures) (nothing-met (passed e)) (long e)
 
 same-length : tie.Need-same-length
 same-length c = search needs

@@ -6,7 +6,7 @@ use native.Mathlib.Omega.{arith}
 use Rattle.answer.specs.Table.{refusalOf}
 use Rattle.answer.proofs.TableLaws.{refusal-some}
 use Rattle.sample.specs.Curve.{curveRefusal}
-use Rattle.sample.proofs.RefusalLaws.{Allowed, allowed}
+use Rattle.sample.proofs.RefusalLaws.{SampleAllowed, allowed}
 use Rattle.sample.proofs.CurveLaws.{curves-refused, curves-given}
 use Rattle.sample.proofs.curves.Statement.{statement}
 use Rattle.sample.proofs.curves.Tie as tie
@@ -19,7 +19,7 @@ module _ (c : tie.Else1) where
   nothing-met : (let s = start .args in curveRefusal (s .patches .now) (s .f) (s .n) (s .b) ≡ none)
   nothing-met = sym (c .before .sample-refusal .ensures) ∙ ap refusalOf (c .if1 .left)
 
-  holds : (let s = start .args in Allowed (s .patches .now) (s .f) (s .n) 0 (s .b))
+  holds : (let s = start .args in SampleAllowed (s .patches .now) (s .f) (s .n) 0 (s .b))
   holds = allowed _ _ _ _ _ nothing-met
 
 sample-refusal-requires : tie.Need-sample-refusal-requires
@@ -49,7 +49,7 @@ part-patch-curves-end : tie.Need-part-patch-curves-end
 part-patch-curves-end c = omega (arith, holds c .listed)
 
 patch-curves-requires : tie.Need-patch-curves-requires
-patch-curves-requires c κs = let h = holds (c .before) in (h .small, h .across)
+patch-curves-requires c κs = holds (c .before) .samplable
 
 returns-2 : tie.Need-returns-2
 returns-2 c =

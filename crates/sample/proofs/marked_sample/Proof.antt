@@ -18,7 +18,7 @@ module _ (c : tie.After-own-sample) where
   abbrev start : tie.Start
   start = c .before .before .before
 
-  listed : (let s = start .args in s .f < length (s .exact .now) / 16)
+  listed : (let s = start .args in s .f < length (s .marks .now) / 16)
   listed = c .before .if1 .left
 
 -- ---- the sample is there
@@ -29,12 +29,12 @@ module _ (c : tie.After-p) where
   abbrev called : tie.After-own-sample
   called = known .before .before
 
-  held : (let s = start called .args in s .f < length (s .exact .now) / 16)
+  held : (let s = start called .args in s .f < length (s .marks .now) / 16)
   held = listed called
 
 -- ---- the answers, in the order of the code
 returns : tie.Need-returns
-returns c = marked-refused _ _ _ _ _ _ (let s = c .before .before .args in marks-off (s .patches .now) (s .exact .now) (s .f) _ _ _ (c .if1 .taken))
+returns c = marked-refused _ _ _ _ _ _ (let s = c .before .before .args in marks-off (s .patches .now) (s .marks .now) (s .f) _ _ _ (c .if1 .taken))
 
 own-sample-requires : tie.Need-own-sample-requires
 own-sample-requires c κs = tt
@@ -69,17 +69,17 @@ returns-2 c =
     let p : tie.After-p = tested .before .before in
     let own = called p in
     let s = start own .args in
-    ap (λ (m : Bool). result (withMarks m (known p .own .given .0 .0))) (tested .all-exact .ensures ∙ marks-all (s .exact .now) (s .f) (listed own))
-    ∙ ap (over (withMarks (patchMarked (s .exact .now) (s .f)))) (sym (ap marked (known p .own .given .1)) ∙ own .own-sample .ensures)
-    ∙ own-marked (s .patches .now) (s .exact .now) (s .f) (s .n) (s .a) (s .b) (listed own)
+    ap (λ (m : Bool). result (withMarks m (known p .own .given .0 .0))) (tested .all-exact .ensures ∙ marks-all (s .marks .now) (s .f) (listed own))
+    ∙ ap (over (withMarks (patchMarked (s .marks .now) (s .f)))) (sym (ap marked (known p .own .given .1)) ∙ own .own-sample .ensures)
+    ∙ own-marked (s .patches .now) (s .marks .now) (s .f) (s .n) (s .a) (s .b) (listed own)
 
 returns-3 : tie.Need-returns-3
 returns-3 c =
     let refused = c .before in
     let own : tie.After-own-sample = refused .before .before in
     let s = start own .args in
-    ap (over (withMarks (patchMarked (s .exact .now) (s .f)))) (sym (ap marked (refused .k .given .1)) ∙ own .own-sample .ensures)
-    ∙ own-marked (s .patches .now) (s .exact .now) (s .f) (s .n) (s .a) (s .b) (listed own)
+    ap (over (withMarks (patchMarked (s .marks .now) (s .f)))) (sym (ap marked (refused .k .given .1)) ∙ own .own-sample .ensures)
+    ∙ own-marked (s .patches .now) (s .marks .now) (s .f) (s .n) (s .a) (s .b) (listed own)
 
 pub marked-sample-spec : {M : Type 1} → statement M
 marked-sample-spec =

@@ -16,19 +16,19 @@ module _ (c : tie.Start) where
   sum :
       toZ w64 (ofZ w64 (c .args .sum)) +ℤ toZ w64 (ofZ w64 (toZ w64 (c .args .weight) *ℤ toZ w64 (ofZ w64 (c .args .value))))
       ≡ c .args .sum +ℤ pos (c .args .weight) *ℤ c .args .value
-  sum = ap₂ _+ℤ_ (toZ-ofZ (c .fits .sum)) (ap (λ (z : ℤ). toZ w64 (ofZ w64 z)) product ∙ toZ-ofZ (c .pre .0))
+  sum = ap₂ _+ℤ_ (toZ-ofZ (c .fits .sum)) (ap (λ (z : ℤ). toZ w64 (ofZ w64 z)) product ∙ toZ-ofZ (c .pre .product))
 
 cast-result : tie.Need-cast-result
 cast-result c = omega arith
 
 mul-result : tie.Need-mul-result
-mul-result c = rw (product c) (c .pre .0)
+mul-result c = rw (product c) (c .pre .product)
 
 add-result : tie.Need-add-result
-add-result c = rw (sum c) (c .pre .1)
+add-result c = rw (sum c) (c .pre .total)
 
 returns : tie.Need-returns
-returns c = ap (λ (z : ℤ). toZ w64 (ofZ w64 z)) (sum c) ∙ toZ-ofZ (c .pre .1)
+returns c = ap (λ (z : ℤ). toZ w64 (ofZ w64 z)) (sum c) ∙ toZ-ofZ (c .pre .total)
 
 pub add-product-spec : {M : Type 1} → statement M
 add-product-spec = tie.close (tie.spec cast-result mul-result add-result returns)

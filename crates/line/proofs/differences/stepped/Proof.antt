@@ -1,91 +1,57 @@
 -- `stepped` meets its contract: numbers of at most 2 ^ 61 have sums that fit.
-use mathlib.Core.Path.{refl, ap₂}
-use mathlib.Core.List.{_∷_}
-use Prim.Native.Nat.{ℕ, _+_, _^_, _<_}
+use Prim.Native.Nat.{_^_}
 use native.Mathlib.Omega.{arith}
-use lib.IntN.{ℤ, pos, _+ℤ_}
-use lib.ListN.{getD}
-use mir.Syntax.{w64}
-use mir.Val.{SFits}
-use Rattle.line.proofs.SizedLaws.{read, Sized, sized, plus-fits, plus-sized}
+use Rattle.line.specs.declared.model.Differences.{Differences}
+use Rattle.line.proofs.SizedLaws.{read, ReadAs, sized, plus-fits, plus-sized}
+use Rattle.line.proofs.DifferenceLaws.{same-differences}
 use Rattle.line.proofs.differences.stepped.Statement.{statement}
 use Rattle.line.proofs.differences.stepped.Tie as tie
 
--- ---- at the entry: number i and its sum with the next, as the machine reads them
+-- ---- at the entry: the four numbers, as the machine reads them
 module _ (s : tie.Start) where
-  abbrev at : ℕ → ℤ
-  at i = getD (s .args .t1) i (pos 0)
+  abbrev d : Differences
+  d = s .args .d
 
-  number : (i : ℕ) → i < 4 → Sized (read (at i)) (at i) (2 ^ 61)
-  number i l = sized (at i) (s .pre .tame i l) (omega arith)
+  value : ReadAs (read (d .value)) (d .value) (2 ^ 61)
+  value = sized (d .value) (s .pre .value) (omega arith)
 
-  sum-fits : (i : ℕ) → i < 3 → SFits w64 (read (at i) +ℤ read (at (i + 1)))
-  sum-fits i l = plus-fits (number i (omega arith)) (number (i + 1) (omega arith)) (omega arith)
+  first : ReadAs (read (d .first)) (d .first) (2 ^ 61)
+  first = sized (d .first) (s .pre .first) (omega arith)
 
-  sum : (i : ℕ) → i < 3 → Sized (read (read (at i) +ℤ read (at (i + 1)))) (at i +ℤ at (i + 1)) (2 ^ 62)
-  sum i l = plus-sized (number i (omega arith)) (number (i + 1) (omega arith)) (omega arith)
+  second : ReadAs (read (d .second)) (d .second) (2 ^ 61)
+  second = sized (d .second) (s .pre .second) (omega arith)
+
+  third : ReadAs (read (d .third)) (d .third) (2 ^ 61)
+  third = sized (d .third) (s .pre .third) (omega arith)
 
 -- ---- the way back from each sum
-abbrev start : tie.After-t8 → tie.Start
+abbrev start : tie.After-struct-told → tie.Start
 start c = c .before .before
 
-abbrev start-2 : tie.After-t15 → tie.Start
+abbrev start-2 : tie.After-struct-told2 → tie.Start
 start-2 c = start (c .before .before)
 
-abbrev start-3 : tie.After-t22 → tie.Start
+abbrev start-3 : tie.After-struct-told3 → tie.Start
 start-3 c = start-2 (c .before .before)
 
 -- ---- the answers, in the order of the code
-array-copy-out-t5 : tie.Need-array-copy-out-t5
-array-copy-out-t5 c = omega arith
+add-t2 : tie.Need-add-t2
+add-t2 c = let s = start c in plus-fits (value s) (first s) (omega arith)
 
-array-copy-out-t8 : tie.Need-array-copy-out-t8
-array-copy-out-t8 c = omega arith
+add-t3 : tie.Need-add-t3
+add-t3 c = let s = start-2 c in plus-fits (first s) (second s) (omega arith)
 
-add-t9 : tie.Need-add-t9
-add-t9 c = sum-fits (start c) 0 (omega arith)
-
-array-copy-out-t12 : tie.Need-array-copy-out-t12
-array-copy-out-t12 c = omega arith
-
-array-copy-out-t15 : tie.Need-array-copy-out-t15
-array-copy-out-t15 c = omega arith
-
-add-t16 : tie.Need-add-t16
-add-t16 c = sum-fits (start-2 c) 1 (omega arith)
-
-array-copy-out-t19 : tie.Need-array-copy-out-t19
-array-copy-out-t19 c = omega arith
-
-array-copy-out-t22 : tie.Need-array-copy-out-t22
-array-copy-out-t22 c = omega arith
-
-add-t23 : tie.Need-add-t23
-add-t23 c = sum-fits (start-3 c) 2 (omega arith)
-
-array-copy-out-t26 : tie.Need-array-copy-out-t26
-array-copy-out-t26 c = omega arith
+add-t4 : tie.Need-add-t4
+add-t4 c = let s = start-3 c in plus-fits (second s) (third s) (omega arith)
 
 returns : tie.Need-returns
 returns c =
     let s = start-3 (c .before) in
-    ap₂ _∷_ (sum s 0 (omega arith) .is)
-    (ap₂ _∷_ (sum s 1 (omega arith) .is)
-    (ap₂ _∷_ (sum s 2 (omega arith) .is)
-    (ap₂ _∷_ (number s 3 (omega arith) .is) refl)))
+    same-differences
+    (plus-sized (value s) (first s) (omega arith) .is)
+    (plus-sized (first s) (second s) (omega arith) .is)
+    (plus-sized (second s) (third s) (omega arith) .is)
+    (third s .is)
 
 pub stepped-spec : {M : Type 1} → statement M
-stepped-spec =
-    tie.close
-    (tie.spec
-    array-copy-out-t5
-    array-copy-out-t8
-    add-t9
-    array-copy-out-t12
-    array-copy-out-t15
-    add-t16
-    array-copy-out-t19
-    array-copy-out-t22
-    add-t23
-    array-copy-out-t26
-    returns)
+stepped-spec = tie.close (tie.spec add-t2 add-t3 add-t4 returns)

@@ -6,34 +6,34 @@ use Rattle.line.proofs.points.store_point.Statement.{statement}
 use Rattle.line.proofs.points.store_point.Tie as tie
 
 mul-x : tie.Need-mul-x
-mul-x c = search needs
+mul-x c = omega arith
 
 mul-x-2 : tie.Need-mul-x-2
-mul-x-2 c = search needs
+mul-x-2 c = omega arith
 
 slice-set-from-x : tie.Need-slice-set-from-x
-slice-set-from-x c = search needs
+slice-set-from-x c = omega arith
 
 mul-y : tie.Need-mul-y
-mul-y c = search needs
+mul-y c = omega arith
 
 add-y : tie.Need-add-y
-add-y c = search needs
+add-y c = omega arith
 
 mul-y-2 : tie.Need-mul-y-2
-mul-y-2 c = search needs
+mul-y-2 c = omega arith
 
 slice-set-from-y : tie.Need-slice-set-from-y
 slice-set-from-y c = rw length-set (omega arith)
 
 mul-z : tie.Need-mul-z
-mul-z c = search needs
+mul-z c = omega arith
 
 add-z : tie.Need-add-z
-add-z c = search needs
+add-z c = omega arith
 
 mul-z-2 : tie.Need-mul-z-2
-mul-z-2 c = search needs
+mul-z-2 c = omega arith
 
 slice-set-from-z : tie.Need-slice-set-from-z
 slice-set-from-z c = rw (length-set, length-set) (omega arith)

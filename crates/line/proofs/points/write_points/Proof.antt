@@ -3,33 +3,31 @@ use mathlib.Core.Path.{_≡_, ap, _∙_}
 use Prim.Native.Nat.{ℕ, _+_, _*_, _-_, _≤_, _<_}
 use native.Mathlib.Nat.{le-antisymm}
 use native.Mathlib.Omega.{arith}
-use lib.IntN.{pos}
-use lib.ListN.{length, getD}
+use lib.ListN.{length}
 use Rattle.finite.specs.Filled.{filled}
 use Rattle.sample.specs.Refusal.{maxSteps}
-use Rattle.line.specs.Differences.{Fine, Tame}
-use Rattle.line.specs.Points.{Mean, Curved, curveIn}
+use Rattle.sample.specs.Blend.{Mean}
+use Rattle.line.specs.Differences.{Summable, Tame}
+use Rattle.line.specs.Points.{curveIn}
 use Rattle.line.proofs.SizedLaws.{read}
-use Rattle.line.proofs.LineLaws.{ofThree, lineOf, curve-fine, Drawn, drawn-start, drawn-length, drawn-asked, drawn-tame, drawn-told, drawn-more}
+use Rattle.line.proofs.LineLaws.{ofThree, lineAlong, curve-summable, LineDrawn, drawn-start, drawn-length}
+use Rattle.line.proofs.LineLaws.{drawn-asked, drawn-tame, drawn-told, drawn-more}
 use Rattle.line.proofs.points.write_points.Statement.{statement}
 use Rattle.line.proofs.points.write_points.Tie as tie
 
 abbrev Inv-loop : tie.InvT-loop
-Inv-loop curves n line₀ x₀ y₀ z₀ a₀ a-end line x y z a = Drawn curves n line₀ line x y z a
+Inv-loop curves n line₀ x₀ y₀ z₀ a₀ a-end line x y z a = LineDrawn curves n line₀ line x y z a
 
 abbrev μ-loop : tie.MeasureT-loop
 μ-loop curves n line₀ x₀ y₀ z₀ a₀ a-end line x y z a = n + 1 - a
 
 -- ---- at the entry: the curve of coordinate k
 module _ (s : tie.Start Inv-loop μ-loop) where
-  abbrev curved : (k : ℕ) → k < 3 → Curved (s .args .n) (s .args .curves .divisor) (curveIn (s .args .curves) k)
-  curved = s .pre .0
-
   few : s .args .n ≤ maxSteps
-  few = curved 0 (omega arith) .most
+  few = s .pre .curved 0 (omega arith) .most
 
-  fine : (k : ℕ) → k < 3 → (s .args .n ≤ maxSteps) × Fine (curveIn (s .args .curves) k)
-  fine k below = (few, curve-fine (curved k below))
+  summable : (k : ℕ) → k < 3 → Summable (s .args .n) (curveIn (s .args .curves) k)
+  summable k below = curve-summable (s .pre .curved k below)
 
 abbrev start : tie.After-along-z Inv-loop μ-loop → tie.Start Inv-loop μ-loop
 start c = c .before .before .before
@@ -43,7 +41,7 @@ module _ (c : tie.At-loop Inv-loop μ-loop) where
   entry = start (begun .before .before .before)
 
   same : length (c .loop .line) ≡ length (entry .args .line .now)
-  same = drawn-length (c .loop .inv) (entry .pre .1)
+  same = drawn-length (c .loop .inv) (entry .pre)
 
 -- ---- in the loop: a is a place
 module _ (c : tie.In-loop Inv-loop μ-loop) where
@@ -53,11 +51,11 @@ module _ (c : tie.In-loop Inv-loop μ-loop) where
   within : at-loop .loop .a ≤ entry at-loop .args .n
   within = omega (arith, c .loop-test .taken)
 
-  asked : (k : ℕ) → k < 3 → Mean (let l = at-loop .loop in read (getD (ofThree (l .x) (l .y) (l .z) k) 0 (pos 0))) (entry at-loop .args .curves .divisor)
-  asked = drawn-asked (at-loop .loop .inv) (curved (entry at-loop)) within
+  asked : (k : ℕ) → k < 3 → Mean (let l = at-loop .loop in read (ofThree (l .x) (l .y) (l .z) k .value)) (entry at-loop .args .curves .divisor)
+  asked = drawn-asked (at-loop .loop .inv) (entry at-loop .pre) within
 
   tame : (k : ℕ) → k < 3 → Tame (let l = at-loop .loop in ofThree (l .x) (l .y) (l .z) k)
-  tame = drawn-tame (at-loop .loop .inv) (curved (entry at-loop)) within
+  tame = drawn-tame (at-loop .loop .inv) (entry at-loop .pre) within
 
 -- ---- the three numbers are there
 abbrev past-x : tie.After-quotient Inv-loop μ-loop → tie.In-loop Inv-loop μ-loop
@@ -79,13 +77,13 @@ stored c = c .before .before .before
 
 -- ---- the answers, in the order of the code
 first-sums-requires : tie.Need-first-sums-requires Inv-loop μ-loop
-first-sums-requires c κs = fine (start c) 0 (omega arith)
+first-sums-requires c κs = summable (start c) 0 (omega arith)
 
 first-sums-requires-2 : tie.Need-first-sums-requires-2 Inv-loop μ-loop
-first-sums-requires-2 c κs = fine (start (c .before)) 1 (omega arith)
+first-sums-requires-2 c κs = summable (start (c .before)) 1 (omega arith)
 
 first-sums-requires-3 : tie.Need-first-sums-requires-3 Inv-loop μ-loop
-first-sums-requires-3 c κs = fine (start (c .before .before)) 2 (omega arith)
+first-sums-requires-3 c κs = summable (start (c .before .before)) 2 (omega arith)
 
 add-a-end : tie.Need-add-a-end Inv-loop μ-loop
 add-a-end c = omega (arith, few (start (c .before .before .before)))
@@ -93,20 +91,11 @@ add-a-end c = omega (arith, few (start (c .before .before .before)))
 loop-holds : tie.Need-loop-holds Inv-loop μ-loop
 loop-holds c = drawn-start _ _ _ (c .before .before .first-sums .ensures) (c .before .first-sums2 .ensures) (c .first-sums3 .ensures)
 
-array-copy-out-quotient : tie.Need-array-copy-out-quotient Inv-loop μ-loop
-array-copy-out-quotient c = omega arith
-
 quotient-requires : tie.Need-quotient-requires Inv-loop μ-loop
 quotient-requires c κs = asked (c .before) 0 (omega arith)
 
-array-copy-out-quotient-2 : tie.Need-array-copy-out-quotient-2 Inv-loop μ-loop
-array-copy-out-quotient-2 c = omega arith
-
 quotient-requires-2 : tie.Need-quotient-requires-2 Inv-loop μ-loop
 quotient-requires-2 c κs = asked (past-x (c .before)) 1 (omega arith)
-
-array-copy-out-quotient-3 : tie.Need-array-copy-out-quotient-3 Inv-loop μ-loop
-array-copy-out-quotient-3 c = omega arith
 
 quotient-requires-3 : tie.Need-quotient-requires-3 Inv-loop μ-loop
 quotient-requires-3 c κs = asked (past-y (c .before)) 2 (omega arith)
@@ -115,7 +104,7 @@ store-point-requires : tie.Need-store-point-requires Inv-loop μ-loop
 store-point-requires c κs =
     let p = past-z (c .before) in
     let s = entry (at-loop p) in
-    (omega (arith, within p, few s), omega (arith, within p, s .pre .1, same (at-loop p)))
+    (omega (arith, within p, few s), omega (arith, within p, s .pre .room, same (at-loop p)))
 
 stepped-requires : tie.Need-stepped-requires Inv-loop μ-loop
 stepped-requires c κs = tame (past-z (numbers c)) 0 (omega arith)
@@ -140,9 +129,9 @@ loop-again c =
     let p = past-z third in
     let g = at-loop p .loop .inv in
     let s = entry (at-loop p) in
-    let told = drawn-told g (curved s) (within p) in
+    let told = drawn-told g (s .pre) (within p) in
     rw (stored c .before .store-point .ensures)
-    (drawn-more g (curved s) (within p) (s .pre .1)
+    (drawn-more g (s .pre) (within p)
     (told 0 (omega arith) _ (first .quotient .ok) (first .quotient .ensures))
     (told 1 (omega arith) _ (second .quotient2 .ok) (second .quotient2 .ensures))
     (told 2 (omega arith) _ (third .quotient3 .ok) (third .quotient3 .ensures))
@@ -158,7 +147,7 @@ returns c =
     let l = c .before in
     let s = entry l .args in
     l .loop .inv .points
-    ∙ ap (λ (a : ℕ). filled (lineOf (s .n) (s .curves)) (3 * a) (s .line .now)) (le-antisymm (l .loop .inv .within) (c .loop-test .left))
+    ∙ ap (λ (a : ℕ). filled (lineAlong (s .n) (s .curves)) (3 * a) (s .line .now)) (le-antisymm (l .loop .inv .within) (c .loop-test .left))
 
 pub write-points-spec : {M : Type 1} → statement M
 write-points-spec =
@@ -171,11 +160,8 @@ write-points-spec =
     first-sums-requires-3
     add-a-end
     loop-holds
-    array-copy-out-quotient
     quotient-requires
-    array-copy-out-quotient-2
     quotient-requires-2
-    array-copy-out-quotient-3
     quotient-requires-3
     store-point-requires
     stepped-requires

@@ -42,16 +42,17 @@ terms s = term (s .args .t1) (λ j. getD (s .args .t2) j (pos 0))
 sum-is : (c : tie.At-loop Inv-loop μ-loop) → toZ w64 (c .loop .sum) ≡ sumBelowℤ (terms (c .before)) (c .loop .i)
 sum-is c =
     let s = c .before in
-    ap (toZ w64) (c .loop .inv .1) ∙ toZ-ofZ (partial-fits (s .pre .0) (s .pre .1) (c .loop .i) (c .loop .inv .0))
+    ap (toZ w64) (c .loop .inv .1) ∙ toZ-ofZ (partial-fits (s .pre) (c .loop .i) (c .loop .inv .0))
 
 add-product-requires : tie.Need-add-product-requires Inv-loop μ-loop
 add-product-requires c κs =
     let l = c .before .before in
     let s = l .before in
-    let e = toZ-ofZ (value-fits (s .pre .0) (s .pre .1) (l .loop .i) (omega arith)) in (
-      rw e (term-fits (s .pre .0) (s .pre .1) (l .loop .i) (omega arith)),
-      rw (e, sum-is l, ← fold-step (pos 0) _+ℤ_ (terms s) (l .loop .i)) (partial-fits (s .pre .0) (s .pre .1) (l .loop .i + 1) (omega arith)),
-    )
+    let e = toZ-ofZ (value-fits (s .pre) (l .loop .i) (omega arith)) in
+    record {
+      product = rw e (term-fits (s .pre) (l .loop .i) (omega arith));
+      total = rw (e, sum-is l, ← fold-step (pos 0) _+ℤ_ (terms s) (l .loop .i)) (partial-fits (s .pre) (l .loop .i + 1) (omega arith));
+    }
 
 add-i : tie.Need-add-i Inv-loop μ-loop
 add-i c = omega arith
@@ -63,7 +64,7 @@ loop-again : tie.Need-loop-again Inv-loop μ-loop
 loop-again c =
     let l = c .before .before .before in
     let s = l .before in
-    let e = toZ-ofZ (value-fits (s .pre .0) (s .pre .1) (l .loop .i) (omega arith)) in (
+    let e = toZ-ofZ (value-fits (s .pre) (l .loop .i) (omega arith)) in (
       omega arith,
       ap (ofZ w64)
           (c .add-product .ensures

@@ -8,12 +8,12 @@ use Rattle.sample.proofs.bernstein.coordinate_sum.Statement.{statement}
 use Rattle.sample.proofs.bernstein.coordinate_sum.Tie as tie
 
 curve-requires : tie.Need-curve-requires
-curve-requires c κs = (c .pre .0, c .pre .1, c .pre .3)
+curve-requires c κs = c .pre .1
 
 blend-requires : tie.Need-blend-requires
 blend-requires c κs =
     let s = c .before in
-    (s .pre .2, subst Fine (sym (c .curve .ensures)) (curve-fine (s .pre .0) (s .args .k) (s .pre .1) (s .pre .3)))
+    record { light = s .pre .0; fine = subst Fine (sym (c .curve .ensures)) (curve-fine (s .pre .1)) }
 
 returns : tie.Need-returns
 returns c =

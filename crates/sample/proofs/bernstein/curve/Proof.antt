@@ -7,15 +7,15 @@ use lib.IntN.{ℤ}
 use mir.Syntax.{w64}
 use Rattle.integer.proofs.Laws.{read-back}
 use Rattle.finite.specs.Filled.{listBelow}
-use Rattle.sample.specs.Blend.{controlOf, Light, Fine}
+use Rattle.sample.specs.Blend.{controlOf, Fine, Blendable}
 use Rattle.sample.proofs.BlendLaws.{list-of-four, blended-list, column-fine}
 use Rattle.sample.proofs.bernstein.curve.Statement.{statement}
 use Rattle.sample.proofs.bernstein.curve.Tie as tie
 
 -- ---- at the entry: what the blend of column i asks
 asked : (s : tie.Start) (i : ℕ) → i < 4 → {values : List ℤ} → values ≡ listBelow (λ j. controlOf (s .args .patch .now) (s .args .k) (i + 4 * j)) 4
-    → Light (s .args .v) × Fine values
-asked s i l e = (s .pre .2, subst Fine (sym e) (column-fine (s .pre .0) (s .args .k) (s .pre .1) i l))
+    → Blendable (s .args .v) values
+asked s i l e = record { light = s .pre .light; fine = subst Fine (sym e) (column-fine (s .pre .small) (s .args .k) (s .pre .axis) i l) }
 
 -- ---- the way back from each blend
 abbrev start : tie.After-blend → tie.Start

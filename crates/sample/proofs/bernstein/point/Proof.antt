@@ -12,19 +12,19 @@ use Rattle.integer.specs.Nearest.{nearest, whole}
 use Rattle.integer.proofs.Laws.{read-back}
 use Rattle.sample.specs.Bernstein.{numerator, rounded}
 use Rattle.sample.specs.declared.model.Coordinate.{Coordinate}
-use Rattle.sample.specs.Blend.{controlOf, Small, Light, Mean, blendedTwice}
+use Rattle.sample.specs.Blend.{controlOf, LightWeights, ForCurve, Mean, blendedTwice}
 use Rattle.sample.proofs.BlendLaws.{weights-light, sample-mean, blended-mean, rounded-blended, whole-blended, same-point, same-marked, all-three}
 use Rattle.sample.proofs.bernstein.point.Statement.{statement}
 use Rattle.sample.proofs.bernstein.point.Tie as tie
 
 weights-requires : tie.Need-weights-requires
-weights-requires c κs = c .pre .1
+weights-requires c κs = c .pre .at
 
 weights-requires-2 : tie.Need-weights-requires-2
-weights-requires-2 c κs = c .before .pre .2
+weights-requires-2 c κs = c .before .pre .across
 
 divisor-requires : tie.Need-divisor-requires
-divisor-requires c κs = c .before .before .pre .1 .most
+divisor-requires c κs = c .before .before .pre .at .most
 
 -- at the three coordinates: the weights, what is divided and rounded, whether that leaves nothing, what the two calls for coordinate k ask, and what they gave
 module _ (c : tie.After-divisor) where
@@ -43,17 +43,17 @@ module _ (c : tie.After-divisor) where
   abbrev sampled : ℕ → ℤ
   sampled k = rounded (start .args .n) (start .args .a) (start .args .b) (controlOf (start .args .patch .now) k)
 
-  abbrev exact : ℕ → Bool
-  exact k = whole (numerator (start .args .n) (start .args .a) (start .args .b) (controlOf (start .args .patch .now) k)) (start .args .n ^ 6)
+  abbrev exactAt : ℕ → Bool
+  exactAt k = whole (numerator (start .args .n) (start .args .a) (start .args .b) (controlOf (start .args .patch .now) k)) (start .args .n ^ 6)
 
-  u-light : Light u
-  u-light = subst Light (sym (c .before .before .weights .ensures)) (weights-light (start .pre .1))
+  u-light : LightWeights u
+  u-light = subst LightWeights (sym (c .before .before .weights .ensures)) (weights-light (start .pre .at))
 
-  v-light : Light v
-  v-light = subst Light (sym (c .before .weights2 .ensures)) (weights-light (start .pre .2))
+  v-light : LightWeights v
+  v-light = subst LightWeights (sym (c .before .weights2 .ensures)) (weights-light (start .pre .across))
 
-  asked : (k : ℕ) → k < 3 → Small (start .args .patch .now) × (k < 3) × Light u × Light v
-  asked k l = (start .pre .0, l, u-light, v-light)
+  asked : (k : ℕ) → k < 3 → LightWeights u × ForCurve (start .args .patch .now) k v
+  asked k l = (u-light, record { small = start .pre .small; axis = l; light = v-light })
 
   -- what coordinate k is, of a number z that is its sum
   abbrev divided : ℤ → Coordinate
@@ -63,16 +63,16 @@ module _ (c : tie.After-divisor) where
   mean k l e =
       subst (λ (z : ℤ). Mean z (c .divisor .result)) (sym e)
       (blended-mean _ _ _ _ (c .before .before .weights .ensures) (c .before .weights2 .ensures) (c .divisor .ensures)
-      (sample-mean (start .pre .0) k l (start .pre .1) (start .pre .2)))
+      (sample-mean (start .pre) k l))
 
   told : (k : ℕ) {r : Coordinate} {z : ℤ} → mag (r .value) < 2 ^ 31 → z ≡ sum k → r ≡ divided z → toZ w32 (ofZ w32 (r .value)) ≡ sampled k
   told k ok h e =
       read-back w32 ok
       (ap (λ (r : Coordinate). r .value) e
       ∙ ap (λ (z : ℤ). nearest z (c .divisor .result)) h
-      ∙ rounded-blended _ _ _ _ (c .before .before .weights .ensures) (c .before .weights2 .ensures) (c .divisor .ensures) (start .pre .1 .least))
+      ∙ rounded-blended _ _ _ _ (c .before .before .weights .ensures) (c .before .weights2 .ensures) (c .divisor .ensures) (start .pre .at .least))
 
-  marked : (k : ℕ) {r : Coordinate} {z : ℤ} → z ≡ sum k → r ≡ divided z → r .exact ≡ exact k
+  marked : (k : ℕ) {r : Coordinate} {z : ℤ} → z ≡ sum k → r ≡ divided z → r .exact ≡ exactAt k
   marked k h e =
       ap (λ (r : Coordinate). r .exact) e
       ∙ ap (λ (z : ℤ). whole z (c .divisor .result)) h
@@ -131,7 +131,7 @@ returns c =
     (told d 0 (third .before .before .struct-told .given .0 .1) hx ex)
     (told d 1 (third .before .struct-told2 .given .0 .1) hy ey)
     (told d 2 (third .struct-told3 .given .0 .1) hz ez))
-    (ap₂ _&&_ (ap₂ _&&_ (marked d 0 hx ex) (marked d 1 hy ey)) (marked d 2 hz ez) ∙ all-three (exact d))
+    (ap₂ _&&_ (ap₂ _&&_ (marked d 0 hx ex) (marked d 1 hy ey)) (marked d 2 hz ez) ∙ all-three (exactAt d))
 
 pub point-spec : {M : Type 1} → statement M
 point-spec =

@@ -5,8 +5,8 @@ use native.Mathlib.Omega.{arith}
 use Rattle.answer.specs.Table.{firstMet, refusalOf}
 use Rattle.answer.proofs.TableLaws.{refusal-some}
 use Rattle.sample.specs.Refusal.{sampleRows}
-use Rattle.sample.proofs.BlendLaws.{steps-at}
-use Rattle.sample.proofs.RefusalLaws.{Allowed, allowed, refused, answered}
+use Rattle.sample.proofs.BlendLaws.{step-at}
+use Rattle.sample.proofs.RefusalLaws.{SampleAllowed, allowed, refused, answered}
 use Rattle.sample.proofs.marked.own_sample.Statement.{statement}
 use Rattle.sample.proofs.marked.own_sample.Tie as tie
 
@@ -18,7 +18,7 @@ module _ (c : tie.Else1) where
   nothing-met : (let s = start .args in firstMet (sampleRows (s .patches .now) (s .f) (s .n) (s .a) (s .b)) ≡ none)
   nothing-met = sym (c .before .sample-refusal .ensures) ∙ ap refusalOf (c .if1 .left)
 
-  holds : (let s = start .args in Allowed (s .patches .now) (s .f) (s .n) (s .a) (s .b))
+  holds : (let s = start .args in SampleAllowed (s .patches .now) (s .f) (s .n) (s .a) (s .b))
   holds = allowed _ _ _ _ _ nothing-met
 
 -- ---- the answers, in the order of the code
@@ -48,11 +48,12 @@ part-point-end c = omega (arith, holds c .listed)
 
 point-requires : tie.Need-point-requires
 point-requires c κs =
-    let h = holds (c .before) in (
-      h .small,
-      steps-at (h .at) _ (omega (arith, h .at .within, h .across .within)),
-      steps-at (h .at) _ (omega (arith, h .at .within, h .across .within)),
-    )
+    let h = holds (c .before) .samplable in
+    record {
+      small = h .small;
+      at = step-at (h .at) _ (omega (arith, h .at .within, h .across .within));
+      across = step-at (h .at) _ (omega (arith, h .at .within, h .across .within));
+    }
 
 returns-2 : tie.Need-returns-2
 returns-2 c =
