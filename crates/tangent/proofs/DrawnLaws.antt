@@ -39,7 +39,7 @@ blank-room n l = omega (arith, length-replicate (16 * maxFaces) (pos 0))
 pub count-is : (indices : List ℕ) (g s : ℕ) → s < 4 → getD (countsOf indices g) s 0 ≡ valencesIn indices g s
 count-is indices g s l = listBelow-at (valencesIn indices g) 4 s 0 l
 
-module _ {positions : List ℤ} {indices : List ℕ} {g : ℕ} {tangents : List ℤ} (d : Drawn positions indices g tangents) where
+module _ {positions : List ℤ} {indices twins : List ℕ} {g : ℕ} {tangents : List ℤ} (d : Drawn positions indices twins g tangents) where
   table-small : Small (valuesOf positions indices)
   table-small = record { within = values-small positions indices blank (blank-room (length indices) (d .few)) maxCoordinate (d .small) blank-small }
 
@@ -50,13 +50,13 @@ module _ {positions : List ℤ} {indices : List ℕ} {g : ℕ} {tangents : List 
       → SideSource values valences edge face g
   source e f w =
       rw (e, f) (record {
-        few = omega (arith, d .listed, d .few);
+        few = omega (arith, d .face .listed, d .few);
         ring = λ s l. record { small = table-small; weights = w; least = rw (count-is indices g s l) (d .least s l); most = count-most s l };
       })
 
-  pub known : (twins : List ℕ) {parts cosines : List ℤ} → parts ≡ partsFrom (valuesOf positions indices) twins (countsOf indices g) g
+  pub known : {parts cosines : List ℤ} → parts ≡ partsFrom (valuesOf positions indices) twins (countsOf indices g) g
       → cosines ≡ cosinesFrom (countsOf indices g) → Known parts cosines
-  known twins e f =
+  known e f =
       let told : ℕ → ℤ = partsTold (valuesOf positions indices) twins (countsOf indices g) g in
       let turned : ℕ → ℤ = λ s. cosine (getD (countsOf indices g) s 0) in
       rw (e, f) (record {

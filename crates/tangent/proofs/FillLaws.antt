@@ -25,7 +25,7 @@ use Rattle.tangent.specs.Vector.{facesAt, middleVector, innerVector, cos
 use Rattle.tangent.specs.Tangent.{Kind, start, middle, end, inner, startIn, endIn, rowOf, signed, vector, tangent, tangentNumber}
 use Rattle.tangent.specs.Answer.{faceOpen}
 use Rattle.tangent.specs.Told.{partAt, partsTold}
-use Rattle.tangent.specs.Lists.{Linked, listedPart, sideFrom, vectorOf, numberFrom, valuesOf, countsOf, cosinesFrom, partsFrom, numberOf, Drawn}
+use Rattle.tangent.specs.Lists.{Fanned, listedPart, sideFrom, vectorOf, numberFrom, valuesOf, countsOf, cosinesFrom, partsFrom, numberOf, Drawn}
 use Rattle.tangent.proofs.SeenLaws.{turn-after}
 use Rattle.tangent.proofs.TableLaws.{row-side-below}
 use Rattle.tangent.proofs.RenderLaws.{Renders}
@@ -45,21 +45,22 @@ module _ {M : IndexedMesh} (a : WellFormed M) where
       (λ t. let past : length (M .positions) ≤ i = omega (arith, a .sized .positions-are, ltb-false i (3 * M .vertices) t) in
       rw (List·getD-eq-default (M .positions) (pos 0) past) (omega arith))
 
-  pub renders : {twins : List ℕ} → Linked (M .indices) twins → Renders M (valuesOf (M .positions) (M .indices)) twins
+  pub renders : {twins : List ℕ} → Fanned (M .indices) twins → Renders M (valuesOf (M .positions) (M .indices)) twins
   renders t = record {
     values-are = λ k c axis l.
         value-told (M .positions) (M .indices) blank (blank-room (length (M .indices)) (omega (arith, whole, a .sized .faces-high))) k c axis
         (omega (arith, whole)) (omega (arith, a .sized .faces-high));
     twins-are = λ c l.
         let e : c % 1024 ≡ c = omega (arith, a .sized .faces-high) in
-        rw e (rw whole at (t .are c (omega (arith, whole))));
+        rw e (rw whole at (t .twinned .twins-are c (omega (arith, whole))));
   }
 
 -- ---- a face with no corner on the boundary
 module _ {M : IndexedMesh} (a : WellFormed M) (g : ℕ) (l : g < M .faces) (closed : faceOpen M g ≡ false) where
-  pub drawn : (d : List ℤ) → 72 ≤ length d → Drawn (M .positions) (M .indices) g d
-  drawn d long = record {
-    listed = omega (arith, whole a);
+  pub drawn : {twins : List ℕ} → Fanned (M .indices) twins → (d : List ℤ) → 72 ≤ length d → Drawn (M .positions) (M .indices) twins g d
+  unfolding faceOpen
+  drawn fanned d long = record {
+    face = record { fanned = fanned; listed = omega (arith, whole a); closed = rw (whole a) closed };
     few = omega (arith, whole a, a .sized .faces-high);
     small = number-small a;
     least = λ s b. rw (whole a) (least a g l closed s b);
@@ -80,7 +81,7 @@ module _ {M : IndexedMesh} (a : WellFormed M) (g : ℕ) (l : g < M .faces) (clos
       counted ((s + 1) % 4) (omega arith)
       ∙ ap (λ (c : ℕ). facesAt (view M 0) c) (ap (λ (n : ℕ). turn (n % 4) (4 * g)) (add-one s) ∙ sym (turn-after s (4 * g)))
 
-  module _ {twins : List ℕ} (t : Linked (M .indices) twins) where
+  module _ {twins : List ℕ} (t : Fanned (M .indices) twins) where
     abbrev valences : List ℕ
     valences = countsOf (M .indices) g
 

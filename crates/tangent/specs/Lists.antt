@@ -1,7 +1,9 @@
 -- What the code reads the tangents of a face from, and the numbers that it makes of it.
 --
---   Linked faces twins   the twins of all the half-edges are listed
+--   Fanned faces twins   the twins of all the half-edges are listed, and the corners at each vertex form a fan
+--   ringIn faces c     how many faces the vertex of corner c has, 0 where it is on the boundary
 --   openIn faces g     face g has a corner at a boundary vertex, by the list of faces
+--   InnerFace faces twins g   face g is there and has none
 --   valencesIn faces g s   how many faces the vertex of corner s of face g has
 --   listedPart parts t s k, Placed parts t s k   part t of side s, coordinate k, in their list; that place is in the list
 --   sideFrom parts cosines s k   coordinate k of side s, from the lists of the parts and of the cosines
@@ -14,9 +16,9 @@
 --   numberFrom .. i    number i of the 72
 --   valuesOf positions faces, countsOf faces g, cosinesFrom valences, partsFrom .. g   the four lists that these are made of, one from the other
 --   numberOf positions faces twins g i   number i of the 72 of face g, from the lists of the mesh and its twins
---   Drawn positions faces g tangents   what makes them fit: the face is there, its vertices have from 3 to 16 faces, and the coordinates are small; and
---                      the lent list has room
-use mathlib.Core.Bool.{Bool}
+--   Drawn positions faces twins g tangents   what makes them fit: the face is there and has no corner on the boundary, its vertices have from 3 to 16
+--                      faces, and the coordinates are small; and the lent list has room
+use mathlib.Core.Bool.{Bool, true, false, cond}
 use mathlib.Core.List.{List}
 use Prim.Native.Nat.{ℕ, _+_, _*_, _/_, _%_, _^_, _≤_, _<_}
 use mathlib.Core.Path.{_≡_}
@@ -25,9 +27,8 @@ use lib.ListN.{length, getD, replicate}
 use Rattle.finite.specs.Fold.{anyBelow}
 use Rattle.finite.specs.Filled.{listBelow}
 use Rattle.limits.specs.Limits.{maxFaces, maxCoordinate}
-use Rattle.mesh.specs.HalfEdge.{twin}
-use Rattle.mesh.specs.Fan.{valence, onBoundary}
-use Rattle.mesh.specs.Tables.{Holds, vertexOf}
+use Rattle.mesh.specs.Fan.{valence, onBoundary, fan}
+use Rattle.mesh.specs.Tables.{vertexOf, Twinned}
 use Rattle.cosine.specs.Cosine.{cosine}
 use Rattle.control.specs.Control.{valuesAfter}
 use Rattle.tangent.specs.Vector.{firstTerm, secondTerm, corrected}
@@ -37,12 +38,22 @@ use Rattle.tangent.specs.declared.side.Side as known
 use Rattle.tangent.specs.declared.side.Kind as enum
 use Rattle.tangent.specs.declared.side.Kind.the-variants.{Start, Middle, End, Inner, StartIn, EndIn}
 
-pub record Linked (indices twins : List ℕ) : Type 0 where
-  pub listed : length indices ≤ length twins
-  pub are : Holds 0 twins (length indices) (twin (vertexOf indices) (length indices))
+pub record Fanned (indices twins : List ℕ) : Type 0 where
+  pub twinned : Twinned indices twins (length indices)
+  pub fans : (c : ℕ) → c < length indices → fan (vertexOf indices) (length indices) (vertexOf indices c) ≡ true
+
+abbrev pub ringIn : List ℕ → ℕ → ℕ
+ringIn indices c =
+    let p = vertexOf indices c in
+    cond (onBoundary (vertexOf indices) (length indices) p) 0 (valence (vertexOf indices) (length indices) p)
 
 abbrev pub openIn : List ℕ → ℕ → Bool
 openIn indices g = anyBelow (λ s. onBoundary (vertexOf indices) (length indices) (vertexOf indices (4 * g + s))) 4
+
+pub record InnerFace (indices twins : List ℕ) (g : ℕ) : Type 0 where
+  pub fanned : Fanned indices twins
+  pub listed : 4 * g + 4 ≤ length indices
+  pub closed : openIn indices g ≡ false
 
 abbrev pub valencesIn : List ℕ → ℕ → ℕ → ℕ
 valencesIn indices g s = valence (vertexOf indices) (length indices) (vertexOf indices (4 * g + s))
@@ -140,8 +151,8 @@ abbrev pub numberOf : List ℤ → List ℕ → List ℕ → ℕ → ℕ → ℤ
 numberOf positions indices twins g =
     numberFrom (partsFrom (valuesOf positions indices) twins (countsOf indices g) g) (cosinesFrom (countsOf indices g))
 
-pub record Drawn (positions : List ℤ) (indices : List ℕ) (g : ℕ) (tangents : List ℤ) : Type 0 where
-  pub listed : 4 * g + 4 ≤ length indices
+pub record Drawn (positions : List ℤ) (indices twins : List ℕ) (g : ℕ) (tangents : List ℤ) : Type 0 where
+  pub face : InnerFace indices twins g
   pub few : length indices ≤ 4 * maxFaces
   pub small : (i : ℕ) → natAbs (getD positions i (pos 0)) ≤ maxCoordinate
   pub least : (s : ℕ) → s < 4 → 3 ≤ valencesIn indices g s

@@ -61,7 +61,7 @@ fn plus(a: i64, b: i64) -> i64
 }
 
 // The corner after e about its vertex.
-fn around(twins: &[u16; 1024], e: usize) -> usize
+pub(crate) fn around(twins: &[u16; 1024], e: usize) -> usize
     ensures { λ r. ⌜ r ≡ linkAt (now (twins .entry)) (prev e) ⌝ }
 {
     wide(twins[prev_corner(e) % 1024])

@@ -68,7 +68,7 @@ fill-values-requires : tie.Need-fill-values-requires
 fill-values-requires c κs = tt
 
 face-valences-requires : tie.Need-face-valences-requires
-face-valences-requires c κs = let v : tie.After-fill-values = c .before in v .before .before .before .pre .listed
+face-valences-requires c κs = let v : tie.After-fill-values = c .before in v .before .before .before .pre .face
 
 slice-aggregate-cosines-of : tie.Need-slice-aggregate-cosines-of
 slice-aggregate-cosines-of c = search needs
@@ -103,7 +103,7 @@ write-numbers-requires : tie.Need-write-numbers-requires
 write-numbers-requires c κs =
     let p : tie.After-fill-parts = c .before .before .before .before in
     let s = start (w p) in
-    (known (s .pre) (s .args .twins .now) (parts-are p (p .fill-parts .ensures)) (cosines-are p), s .pre .places)
+    (known (s .pre) (parts-are p (p .fill-parts .ensures)) (cosines-are p), s .pre .places)
 
 same-length : tie.Need-same-length
 same-length c = search needs
