@@ -26,7 +26,7 @@ use Rattle.mesh.proofs.AcceptedLaws.{accepted-from}
 use Rattle.mesh.proofs.SizeLaws.{mesh-sizes-false}
 use Rattle.mesh.proofs.PhaseLaws.{refusal-alike, refusal-split, twins-accepted}
 use Rattle.tangent.specs.Tangent.{tangentNumber, tangentList}
-use Rattle.tangent.specs.Answer.{faceOff, faceOpen, notGiven, tangentRows, tangentRefusal, TangentsGiven}
+use Rattle.tangent.specs.Answer.{faceMissing, faceOpen, notGiven, tangentRows, tangentRefusal, TangentsGiven}
 use Rattle.tangent.specs.Lists.{Fanned, openIn, numberOf}
 use Rattle.tangent.proofs.FillLaws.{number-is}
 
@@ -108,9 +108,9 @@ module _ (M : IndexedMesh) where
           unmet : tangentRefusal M g d ≡ none
           unmet = own-is ∙ ap refusalOf n
 
-          rows : (faceOff M g ≡ false) × (notGiven M g d ≡ false)
+          rows : (faceMissing M g ≡ false) × (notGiven M g d ≡ false)
           rows =
-              let first = none-met (faceOff M g) 12 _ (sym passed ∙ unmet) in
+              let first = none-met (faceMissing M g) 12 _ (sym passed ∙ unmet) in
               (first .0, none-met (notGiven M g d) 18 none (first .1) .0)
 
           pub face-below : g < M .faces

@@ -43,20 +43,20 @@ module _ {faces twins : List ℕ} (k : Fanned faces twins) where
 
   module _ (c : ℕ) (l : c < length faces) where
     -- ---- the walk on from c
-    abbrev pub Met : ℕ → ℕ → Type 0
-    Met met on = Onward (twinOf twins) (length faces) c met on
+    abbrev pub Circling : ℕ → ℕ → Type 0
+    Circling met on = Onward (twinOf twins) (length faces) c met on
 
-    pub met-first : (on : ℕ) → on ≡ linkAt twins (prev c) → Met 1 on
+    pub met-first : (on : ℕ) → on ≡ linkAt twins (prev c) → Circling 1 on
     met-first on e = onward-start whole paired c l on (e ∙ step-told c l)
 
-    pub met-more : (met on on′ : ℕ) → Met met on → (on ≡ noTwin → ⊥) → (on ≡ c → ⊥) → on′ ≡ linkAt twins (prev on) → Met (met + 1) on′
+    pub met-more : (met on on′ : ℕ) → Circling met on → (on ≡ noTwin → ⊥) → (on ≡ c → ⊥) → on′ ≡ linkAt twins (prev on) → Circling (met + 1) on′
     met-more met on on′ w h a e = onward-more whole paired c l met on on′ w h a (e ∙ step-told on (onward-in whole paired c l met on w h))
 
-    pub met-less : (met on : ℕ) → Met met on → (on ≡ noTwin → ⊥) → (on ≡ c → ⊥) → length faces - (met + 1) < length faces - met
+    pub met-less : (met on : ℕ) → Circling met on → (on ≡ noTwin → ⊥) → (on ≡ c → ⊥) → length faces - (met + 1) < length faces - met
     met-less met on w h a = onward-less whole paired c l met on w h a
 
     -- ---- where it ends
-    pub met-back : (met on : ℕ) → Met met on → on ≡ c → met ≡ ringIn faces c
+    pub met-back : (met on : ℕ) → Circling met on → on ≡ c → met ≡ ringIn faces c
     met-back met on w e =
         let p = vertexOf faces c in
         let run = onward-run whole paired c l met on c w e in
@@ -64,7 +64,7 @@ module _ {faces twins : List ℕ} (k : Fanned faces twins) where
         let all = fan-told (k .twinned) c p refl met (run-closed whole paired c l met true run refl) ∙ k .fans c l in
         eqb-true met (valence (vertexOf faces) n p) all ∙ ap (λ (b : _). cond b 0 (valence (vertexOf faces) n p)) inside
 
-    pub met-none : (met on : ℕ) → Met met on → on ≡ noTwin → 0 ≡ ringIn faces c
+    pub met-none : (met on : ℕ) → Circling met on → on ≡ noTwin → 0 ≡ ringIn faces c
     met-none met on w e =
         let p = vertexOf faces c in
         let run = onward-run whole paired c l met on noTwin w e in

@@ -10,7 +10,7 @@ use lib.Signed.{mag}
 use mir.Syntax.{w32, w64}
 use mir.Val.{SFits, hbits}
 use Rattle.finite.specs.Filled.{listBelow}
-use Rattle.tangent.specs.Lists.{Known, Sized, sideFrom}
+use Rattle.tangent.specs.Lists.{Known, SideSized, sideFrom}
 use Rattle.tangent.specs.declared.side.Side.{Side}
 
 pub record Fitting (a : Side) : Type 0 where
@@ -38,7 +38,7 @@ fitting a s e n f i j k l = record {
 }
 
 -- what the lists say of a side is small where they are
-pub side-sized : {parts cosines : List ℤ} → Known parts cosines → (s k : ℕ) → s < 4 → k < 3 → Sized (sideFrom parts cosines s k)
+pub side-sized : {parts cosines : List ℤ} → Known parts cosines → (s k : ℕ) → s < 4 → k < 3 → SideSized (sideFrom parts cosines s k)
 unfolding sideFrom
 side-sized w s k l h = record {
   start = w .parts-small (12 * 0 + (3 * s + k)) (omega arith);

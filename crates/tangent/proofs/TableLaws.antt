@@ -12,17 +12,17 @@ use Rattle.finite.proofs.AnyAll.{all-true}
 use Rattle.finite.proofs.FilledLaws.{agree}
 use Rattle.tangent.specs.Tangent.{rowOf}
 use Rattle.tangent.specs.Told.{partFor, partAt}
-use Rattle.tangent.specs.Lists.{kindOf}
+use Rattle.tangent.specs.Lists.{vectorKindOf}
 use Rattle.tangent.specs.declared.parts.Part as part
 use Rattle.tangent.specs.declared.parts.Part.the-variants.{AtStart, AtEnd, Near, Far, InnerNear, InnerFar}
-use Rattle.tangent.specs.declared.side.Kind as code
-use Rattle.tangent.specs.declared.side.Kind.the-variants.{Start, Middle, End, Inner, StartIn, EndIn}
+use Rattle.tangent.specs.declared.side.VectorKind as code
+use Rattle.tangent.specs.declared.side.VectorKind.the-variants.{Start, Middle, End, Inner, StartIn, EndIn}
 
 -- ---- the 24 rows
 abbrev pub sides : List ℕ
 sides = 0 ∷ 0 ∷ 0 ∷ 3 ∷ 0 ∷ 1 ∷ 3 ∷ 2 ∷ 1 ∷ 2 ∷ 2 ∷ 2 ∷ 3 ∷ 0 ∷ 0 ∷ 1 ∷ 3 ∷ 3 ∷ 1 ∷ 1 ∷ 3 ∷ 2 ∷ 2 ∷ 1 ∷ []
 
-abbrev pub kinds : List code.Kind
+abbrev pub kinds : List code.VectorKind
 kinds =
     Start ∷ Middle ∷ End ∷ EndIn ∷ Inner ∷ StartIn ∷ StartIn ∷ Inner ∷ EndIn ∷ End ∷ Middle ∷ Start
     ∷ End ∷ StartIn ∷ EndIn ∷ Start ∷ Middle ∷ Inner ∷ Inner ∷ Middle ∷ Start ∷ EndIn ∷ StartIn ∷ End ∷ []
@@ -46,9 +46,9 @@ side-is m l = agree (λ m. getD sides m 0) (λ m. rowOf m .side) 24 refl m l
 pub row-side-below : (m : ℕ) → m < 24 → rowOf m .side < 4
 row-side-below m l = rw (sym (side-is m l)) (side-below m l)
 
-pub kind-is : (z : code.Kind) (m : ℕ) → m < 24 → kindOf (getD kinds m z) ≡ rowOf m .kind
+pub kind-is : (z : code.VectorKind) (m : ℕ) → m < 24 → vectorKindOf (getD kinds m z) ≡ rowOf m .kind
 unfolding rowOf listBelow
-kind-is z m l = agree (λ m. kindOf (getD kinds m z)) (λ m. rowOf m .kind) 24 refl m l
+kind-is z m l = agree (λ m. vectorKindOf (getD kinds m z)) (λ m. rowOf m .kind) 24 refl m l
 
 pub reversed-is : (z : Bool) (m : ℕ) → m < 24 → getD reversals m z ≡ rowOf m .reversed
 unfolding rowOf listBelow

@@ -1,7 +1,7 @@
 -- What the tables by corner tell of the sides of a face, and what they are told from: the values of the corners, the twins, the two lists of weights.
 -- That they are those of a mesh, a caller shows (`Renders` of proofs/RenderLaws.antt).
 --
---   Small values       every entry of the table of values is within the range of a coordinate
+--   ValuesSmall values       every entry of the table of values is within the range of a coordinate
 --   Weighing edge face   the two lists of all weights
 --   Addends a x b y    two weights and two values, as the weights of the sum and the coordinates are
 --   RingSource .. n    what a corner vector at a vertex of n faces is made from
@@ -29,7 +29,7 @@ use Rattle.control.specs.Control.{units, valueAt, linkAt, innerAt, edgeAt}
 use Rattle.tangent.specs.declared.parts.Part as code
 use Rattle.tangent.specs.declared.parts.Part.the-variants.{AtStart, AtEnd, Near, Far, InnerNear, InnerFar}
 
-pub record Small (values : List ℤ) : Type 0 where
+pub record ValuesSmall (values : List ℤ) : Type 0 where
   pub within : (i : ℕ) → natAbs (getD values i (pos 0)) ≤ maxCoordinate
 
 pub record Weighing (edge face : List ℤ) : Type 0 where
@@ -43,7 +43,7 @@ pub record Addends (a x b y : ℤ) : Type 0 where
   pub face-value : natAbs y ≤ maxCoordinate
 
 pub record RingSource (values edge face : List ℤ) (n : ℕ) : Type 0 where
-  pub small : Small values
+  pub small : ValuesSmall values
   pub weights : Weighing edge face
   pub least : 3 ≤ n
   pub most : n ≤ 16

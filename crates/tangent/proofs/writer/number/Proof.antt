@@ -5,7 +5,7 @@ use native.Mathlib.Omega.{arith}
 use mir.Syntax.{w64}
 use Rattle.integer.proofs.Laws.{read-back}
 use Rattle.tangent.specs.Tangent.{signed}
-use Rattle.tangent.specs.Lists.{sideFrom, vectorOf, numberFrom}
+use Rattle.tangent.specs.Lists.{sideFrom, vectorOf, numberFromParts}
 use Rattle.tangent.proofs.SideLaws.{side-sized}
 use Rattle.tangent.proofs.TableLaws.{side-is, side-below, kind-is, reversed-is}
 use borrow.Author.Needs.{needs}
@@ -36,7 +36,7 @@ signed-requires : tie.Need-signed-requires
 signed-requires c κs = rw (read-back w64 (c .vector .ok) refl) (c .vector .ensures .1)
 
 returns : tie.Need-returns
-unfolding numberFrom
+unfolding numberFromParts
 returns c =
     let v = c .before in
     let d = v .before in

@@ -4,13 +4,13 @@ use native.Mathlib.Omega.{arith}
 use mir.Syntax.{w64}
 use mir.Facts.{toZ-ofZ}
 use Rattle.integer.proofs.Laws.{read-back}
-use Rattle.tangent.specs.Lists.{Placed, sideFrom}
+use Rattle.tangent.specs.Lists.{PartPlaced, sideFrom}
 use Rattle.tangent.proofs.writer.side_of.Statement.{statement}
 use Rattle.tangent.proofs.writer.side_of.Tie as tie
 
 -- ---- what each look-up asks, and the function's entry from behind two, four and six of them
 module _ (s : tie.Start) where
-  asked : {t : ℕ} → t < 6 → Placed (s .args .parts .now) t (s .args .s) (s .args .k)
+  asked : {t : ℕ} → t < 6 → PartPlaced (s .args .parts .now) t (s .args .s) (s .args .k)
   asked l = record { listed = s .pre .0 .parts-listed; part = l; side = s .pre .1; axis = s .pre .2 }
 
 abbrev start₂ : tie.After-listed2 → tie.Start

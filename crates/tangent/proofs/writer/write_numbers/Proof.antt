@@ -7,13 +7,13 @@ use mir.Syntax.{w64}
 use Rattle.integer.proofs.Laws.{read-back}
 use Rattle.finite.specs.Filled.{filled}
 use Rattle.finite.proofs.FilledLaws.{filled-start, filled-more, filled-all}
-use Rattle.tangent.specs.Lists.{numberFrom}
+use Rattle.tangent.specs.Lists.{numberFromParts}
 use Rattle.tangent.proofs.writer.write_numbers.Statement.{statement}
 use Rattle.tangent.proofs.writer.write_numbers.Tie as tie
 
 abbrev Inv-loop : tie.InvT-loop
 Inv-loop parts cosines tangents₀ i₀ tangents i =
-    (i ≤ 72) × (length tangents ≡ length tangents₀) × (tangents ≡ filled (numberFrom parts cosines) i tangents₀)
+    (i ≤ 72) × (length tangents ≡ length tangents₀) × (tangents ≡ filled (numberFromParts parts cosines) i tangents₀)
 
 abbrev μ-loop : tie.MeasureT-loop
 μ-loop parts cosines tangents₀ i₀ tangents i = 72 - i
