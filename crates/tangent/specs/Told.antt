@@ -5,6 +5,7 @@
 --   Weighing edge face   the two lists of all weights
 --   Addends a x b y    two weights and two values, as the weights of the sum and the coordinates are
 --   RingSource .. n    what a corner vector at a vertex of n faces is made from
+--   PartSource .. n m  what a part of a side is made from, with n faces at its start and m at its end
 --   turnedAt twins c i   the corner i steps about its vertex from corner c
 --   termAt .. n k c i  what edge i and face i add to the sum about the vertex of corner c, which has n faces, of coordinate k
 --   vectorAt .. n k c  the corner vector along half-edge c
@@ -47,6 +48,10 @@ pub record RingSource (values edge face : List ℤ) (n : ℕ) : Type 0 where
   pub weights : Weighing edge face
   pub least : 3 ≤ n
   pub most : n ≤ 16
+
+pub record PartSource (values edge face : List ℤ) (n m : ℕ) : Type 0 where
+  pub at-start : RingSource values edge face n
+  pub at-end : RingSource values edge face m
 
 abbrev pub turnedAt : List ℕ → ℕ → ℕ → ℕ
 turnedAt twins c i = iterate (λ e. linkAt twins (prev e)) i c
