@@ -1,8 +1,10 @@
 -- Circulating from a corner by the listed twins tells how many faces its vertex has, or that it is on the boundary.
+--
+--   Circling met on   the walk on from a corner has met so many corners, and `on` is the one after them
 use mathlib.Core.Path.{_≡_, refl, sym, ap, _∙_}
 use mathlib.Core.Bool.{true, false, cond}
 use mathlib.Core.List.{List}
-use Prim.Native.Nat.{ℕ, _+_, _-_, _*_, _%_, _≤_, _<_}
+use Prim.Native.Nat.{ℕ, _+_, _-_, _*_, _%_, _<_}
 use native.Mathlib.Omega.{arith}
 use lib.Dec.{eqb}
 use lib.ListN.{length}
@@ -13,7 +15,7 @@ use Rattle.limits.specs.Limits.{noTwin}
 use Rattle.corner.specs.Corner.{prev}
 use Rattle.mesh.specs.Fan.{valence, onBoundary, around}
 use Rattle.mesh.specs.Tables.{Corners, vertexOf, twinOf}
-use Rattle.mesh.specs.Circulation.{Paired, Run}
+use Rattle.mesh.specs.Circulation.{Paired}
 use Rattle.mesh.proofs.CornerLaws.{prev-below}
 use Rattle.mesh.proofs.CirculationLaws.{around-in}
 use Rattle.mesh.proofs.FanLaws.{fan-some}

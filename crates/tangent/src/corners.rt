@@ -11,7 +11,8 @@ ghost use Rattle.tangent.specs.Lists.{Fanned, InnerFace, ringIn, valence
 // "No twin", where a corner is wanted.
 const NO_CORNER: usize = Mesh::NO_TWIN as usize;
 
-// How many faces the vertex of corner c has, found by circulating from there; 0 where that ends at the boundary.
+// How many faces the vertex of corner c has, found by circulating from there; 0 where that ends at the boundary. The twins alone are read: the faces are
+// there for the contract.
 pub(crate) fn ring_size(faces: &[u16], twins: &[u16; 1024], c: usize) -> usize
     requires { ⌜ Fanned (now faces) (now twins) × (c < length (now faces)) ⌝ }
     ensures { λ r. ⌜ r ≡ ringIn (now (faces .entry)) c ⌝ }

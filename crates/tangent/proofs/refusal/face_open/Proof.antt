@@ -62,7 +62,7 @@ ring-size-requires : tie.Need-ring-size-requires Inv-loop μ-loop
 ring-size-requires c κs = (entry c .pre .0, omega (arith, entry c .pre .1, c .loop-test .taken))
 
 returns : tie.Need-returns Inv-loop μ-loop
-returns c = let d = c .before in any-found (asked d) 4 (head d .loop .s) _ (passing d .loop-test .taken) (told d) (eq-eqb _ 0 (c .if1 .taken))
+returns c = let d = c .before in any-found (asked d) 4 (head d .loop .s) _ (omega (arith, passing d .loop-test .taken)) (told d) (eq-eqb _ 0 (c .if1 .taken))
 
 add-s : tie.Need-add-s Inv-loop μ-loop
 add-s c = omega arith
