@@ -1,7 +1,7 @@
 -- `corner_valence` meets its contract: the vertex of the corner is not on the boundary.
 use mathlib.Core.Path.{_∙_}
 use native.Mathlib.Omega.{arith}
-use Rattle.tangent.proofs.CircleLaws.{corner-below, corner-small, ring-valence}
+use Rattle.tangent.proofs.RingSizeLaws.{corner-below, corner-small, ring-valence}
 use Rattle.tangent.proofs.corners.corner_valence.Statement.{statement}
 use Rattle.tangent.proofs.corners.corner_valence.Tie as tie
 

@@ -4,7 +4,7 @@ use native.Mathlib.Omega.{arith}
 use lib.ListN.{length}
 use Rattle.mesh.specs.Tables.{twinOf}
 use Rattle.mesh.proofs.WalkLaws.{Onward}
-use Rattle.tangent.proofs.CircleLaws.{met-first, met-more, met-less, met-back, met-none}
+use Rattle.tangent.proofs.RingSizeLaws.{met-first, met-more, met-less, met-back, met-none}
 use Rattle.tangent.proofs.corners.ring_size.Statement.{statement}
 use Rattle.tangent.proofs.corners.ring_size.Tie as tie
 

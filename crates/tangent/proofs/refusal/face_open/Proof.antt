@@ -11,7 +11,7 @@ use Rattle.finite.specs.Fold.{anyBelow}
 use Rattle.finite.proofs.AnyAll.{any-start, any-more, any-found, any-not}
 use Rattle.mesh.specs.Fan.{onBoundary}
 use Rattle.mesh.specs.Tables.{vertexOf}
-use Rattle.tangent.proofs.CircleLaws.{ring-open}
+use Rattle.tangent.proofs.RingSizeLaws.{ring-open}
 use Rattle.tangent.proofs.refusal.face_open.Statement.{statement}
 use Rattle.tangent.proofs.refusal.face_open.Tie as tie
 
