@@ -10,34 +10,35 @@ ghost use Rattle.finite.specs.Filled.{filled};
 ghost use Rattle.tangent.specs.Tangent.{signed as signedBy};
 ghost use Rattle.tangent.specs.Lists.{Known, PartPlaced, listedPart, sideFrom, numberFromParts};
 
-// The side, the kind and the sense of each of the 24 vectors.
+// The side of each of the 24 vectors, and 4 more where the vector is reversed.
 const SIDES: [u8; 24] = [
     0,
     0,
     0,
     3,
     0,
-    1,
+    5,
     3,
-    2,
-    1,
-    2,
-    2,
-    2,
-    3,
+    6,
+    5,
+    6,
+    6,
+    6,
+    7,
     0,
     0,
     1,
-    3,
-    3,
+    7,
+    7,
     1,
     1,
-    3,
-    2,
-    2,
+    7,
+    6,
+    6,
     1,
 ];
 
+// The kind of each.
 const KINDS: [VectorKind; 24] = [
     VectorKind::Start,
     VectorKind::Middle,
@@ -65,32 +66,6 @@ const KINDS: [VectorKind; 24] = [
     VectorKind::End,
 ];
 
-const REVERSED: [bool; 24] = [
-    false,
-    false,
-    false,
-    false,
-    false,
-    true,
-    false,
-    true,
-    true,
-    true,
-    true,
-    true,
-    true,
-    false,
-    false,
-    false,
-    true,
-    true,
-    false,
-    false,
-    true,
-    true,
-    true,
-    false,
-];
 // Part t of side s, coordinate k.
 fn listed(parts: &[i64], t: usize, s: usize, k: usize) -> i64
     requires { ⌜ PartPlaced (now parts) t s k ⌝ }
@@ -131,8 +106,9 @@ fn number(parts: &[i64], cosines: &[i32], i: usize) -> i64
 {
     let m = i / 3;
     let kind = KINDS[m];
-    let side = side_of(parts, cosines, SIDES[m] as usize, i % 3);
-    signed(REVERSED[m], vector(side, kind))
+    let sense = SIDES[m] as usize;
+    let side = side_of(parts, cosines, sense % 4, i % 3);
+    signed(sense >= 4, vector(side, kind))
 }
 
 // Writes the 72 numbers over the first places of the list.
