@@ -16,9 +16,9 @@ use Rattle.mask.specs.Mask.{innerMask, edgeMask}
 use Rattle.patch.specs.Point.{View, x, weight, sharp, innerPoint, edgePoint, alongPoint, point}
 use Rattle.control.specs.Control.{units}
 use Rattle.patch.specs.Patch.{owner, kind, patchPoint, controlValue}
-use Rattle.tangent.specs.Vector.{twinOf, cornerVector, endVector, middleVector, difference, cosineAt, correctedDivisor, startTerm, endTerm, startInto, endInto}
-use Rattle.tangent.specs.Document.{steps}
-use Rattle.tangent.proofs.DocumentLaws.{steps-back, first-back}
+use Rattle.tangent.specs.Vector.{twinAt, cornerVector, endVector, middleVector, tripleDifference, controlDifference, cosineAt, correctedDivisor}
+use Rattle.tangent.specs.Vector.{startTerm, endTerm, startInto, endInto}
+use Rattle.tangent.proofs.DocumentLaws.{triple-difference-back, first-back}
 use Rattle.surface.proofs.Seam.{along-inner, twin-inside, twin-points}
 use Rattle.tangency.proofs.NearLaws.{mean-near, sum-near}
 
@@ -44,7 +44,7 @@ module _ (w : ℕ) (p q a b f g : ℤ) where
 module _ (S : View) (k : Corners (S .shape .n)) (simple : Simple (S .shape .at) (S .shape .n)) (c : ℕ)
     (l : c < S .shape .n) (e : boundary (S .shape .at) (S .shape .n) c ≡ false) where
   abbrev d : ℕ
-  d = twinOf S c
+  d = twinAt S c
 
   inside : d < S .shape .n
   inside = twin-inside S k simple c l e
@@ -81,18 +81,18 @@ module _ (S : View) (k : Corners (S .shape .n)) (simple : Simple (S .shape .at) 
   -- ---- one cosine term
   middle-twin : middleVector S d ≡ negℤ (middleVector S c)
   unfolding middleVector
-  middle-twin = ap₂ steps (shared 2 (omega arith)) (shared 1 (omega arith)) ∙ sym (steps-back (controlValue S c 2) (controlValue S c 1))
+  middle-twin = ap₂ tripleDifference (shared 2 (omega arith)) (shared 1 (omega arith)) ∙ sym (triple-difference-back (controlValue S c 2) (controlValue S c 1))
 
   end-twin : endVector S d ≡ negℤ (cornerVector S c)
   unfolding endVector
   end-twin = ap (λ (b : ℕ). negℤ (cornerVector S b)) (twin-twin (S .shape .at) k simple c l inside)
 
-  pub terms-same : endTerm S (twinOf S c) ≡ startTerm S c
+  pub terms-same : endTerm S (twinAt S c) ≡ startTerm S c
   terms-same =
       rw (end-twin, middle-twin, ends .0, ends .1) (sym (first-back (cosineAt S c) (cosineAt S (next c)) (cornerVector S c) (middleVector S c)))
 
   -- ---- the sum
-  six : natAbs (difference S c 5 1 +ℤ difference S d 6 2) ≤ 6
+  six : natAbs (controlDifference S c 5 1 +ℤ controlDifference S d 6 2) ≤ 6
   six =
       rw (shared 2 (omega arith))
       (let m = edge-mean in
@@ -102,10 +102,10 @@ module _ (S : View) (k : Corners (S .shape .n)) (simple : Simple (S .shape .at) 
         read-abs (nat 3 ⊛ (int (controlValue S c 5) ⊝ int (controlValue S c 1)) ⊕ nat 3 ⊛ (int (controlValue S d 6) ⊝ int (controlValue S c 1))),
       ))
 
-  pub across-edge : natAbs (pos correctedDivisor *ℤ (startInto S c +ℤ endInto S (twinOf S c)) -ℤ pos 2 *ℤ startTerm S c) ≤ 7 * correctedDivisor
+  pub across-edge : natAbs (pos correctedDivisor *ℤ (startInto S c +ℤ endInto S (twinAt S c)) -ℤ pos 2 *ℤ startTerm S c) ≤ 7 * correctedDivisor
   unfolding startInto endInto
   across-edge =
-      sum-near (startTerm S c) (difference S c 5 1) (difference S d 6 2) (startInto S c) (endInto S d)
+      sum-near (startTerm S c) (controlDifference S c 5 1) (controlDifference S d 6 2) (startInto S c) (endInto S d)
       (nearest-meets _ correctedDivisor (omega arith))
       (rw terms-same (nearest-meets _ correctedDivisor (omega arith)))
       six

@@ -15,7 +15,7 @@ use Rattle.mesh.proofs.AcceptedLaws.{accepted-corners, accepted-well-formed}
 use Rattle.symmetry.proofs.WellFormedMoves.{alike-well-formed}
 use Rattle.patch.specs.Point.{sharp}
 use Rattle.patch.specs.Patch.{view}
-use Rattle.tangent.specs.Tangent.{Kind, tangentList}
+use Rattle.tangent.specs.Tangent.{VectorKind, tangentList}
 use Rattle.tangent.specs.Answer.{faceOpen, TangentsGiven}
 use Rattle.surface.specs.Renumbering.{Renumbering}
 use Rattle.surface.proofs.FromRenumbering.{alike}
@@ -72,7 +72,7 @@ module _ {M M′ : IndexedMesh} {g g′ : ℕ} {d x d′ x′ : List ℤ} {r r�
       second .answer-is
       ∙ rw (nothing-met (alike-well-formed a (alike m)) g′ x below (ap (faceOpen M′) at-face ∙ open-moves m a g l closed) long)
 
-  renumbered : (q : Kind) (s k : ℕ) → s < 4 → k < 3 → vectorAlong x′ q s k ≡ vectorAlong d′ q ((m .start g + s) % 4) k
+  renumbered : (q : VectorKind) (s k : ℕ) → s < 4 → k < 3 → vectorAlong x′ q s k ≡ vectorAlong d′ q ((m .start g + s) % 4) k
   renumbered q s k b axis =
       rw (written-list second taken, written-list first one, at-face) (renumbered-lists m a g l closed q s k b axis)
 

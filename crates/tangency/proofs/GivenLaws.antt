@@ -16,7 +16,7 @@ use Rattle.mesh.specs.WellFormed.{WellFormed}
 use Rattle.mesh.specs.Answer.{meshRefusal}
 use Rattle.mesh.proofs.AcceptedLaws.{accepted-early, accepted-late}
 use Rattle.tangent.specs.Tangent.{tangentList}
-use Rattle.tangent.specs.Answer.{faceOff, faceOpen, notGiven, tangentRows, tangentRefusal, TangentsGiven}
+use Rattle.tangent.specs.Answer.{faceMissing, faceOpen, notGiven, tangentRows, tangentRefusal, TangentsGiven}
 use Rattle.tangency.specs.Claim.{Written}
 
 -- ---- no cause is met
@@ -34,7 +34,7 @@ unfolding meshRefusal
 refusal-closed M g d e =
     let late = append-none (earlyRows M []) (lateRows M ++ tangentRows M g d) e .1 in
     let own = append-none (lateRows M) (tangentRows M g d) late .1 in
-    let given = none-met (faceOff M g) 12 _ own .1 in
+    let given = none-met (faceMissing M g) 12 _ own .1 in
     or-false (faceOpen M g) _ (none-met (notGiven M g d) 18 none given .0) .0
 
 -- ---- a call that wrote the tangents

@@ -14,7 +14,7 @@ use Rattle.symmetry.proofs.Iso.{turn-moves}
 use Rattle.symmetry.proofs.VertexMoves.{on-boundary-moves}
 use Rattle.symmetry.proofs.WellFormedMoves.{sound}
 use Rattle.patch.specs.Patch.{view}
-use Rattle.tangent.specs.Tangent.{Kind, vector, tangentList}
+use Rattle.tangent.specs.Tangent.{VectorKind, vector, tangentList}
 use Rattle.tangent.specs.Answer.{faceOpen}
 use Rattle.tangent.proofs.InnerLaws.{side-inner}
 use Rattle.surface.specs.Renumbering.{Renumbering}
@@ -54,14 +54,15 @@ module _ {M M′ : IndexedMesh} (r : Renumbering M M′) (a : WellFormed M) (g :
       ∙ turn-moves (sound a) (alike r .shape) s (turn (r .start g) (4 * g)) (turn-inside g (r .start g) (M .faces) l)
       ∙ ap (cornerMap r .to) (turn-turn s (r .start g) (4 * g) ∙ sym (turn-mod (r .start g + s) (4 * g)))
 
-  vector-renumbered : (q : Kind) (s k : ℕ) → s < 4 → k < 3 → vector (view M′ k) (turn s (4 * r .faceMap .to g)) q ≡ vector (view M k) (turn (was s) (4 * g)) q
+  vector-renumbered : (q : VectorKind) (s k : ℕ) → s < 4 → k < 3
+      → vector (view M′ k) (turn s (4 * r .faceMap .to g)) q ≡ vector (view M k) (turn (was s) (4 * g)) q
   vector-renumbered q s k b axis =
       let ends = side-inner a g l closed (was s) (mod-lt (r .start g + s) (omega arith)) in
       ap (λ (c : ℕ). vector (view M′ k) c q) (side-begins s)
       ∙ vector-moves a (alike r) (view M k .value) (view M′ k .value) (λ p h. position-moves r p k h axis)
       (turn (was s) (4 * g)) (turn-inside g (was s) (M .faces) l) (ends .0) (ends .1) q
 
-  pub renumbered-lists : (q : Kind) (s k : ℕ) → s < 4 → k < 3
+  pub renumbered-lists : (q : VectorKind) (s k : ℕ) → s < 4 → k < 3
       → vectorAlong (tangentList M′ (r .faceMap .to g)) q s k ≡ vectorAlong (tangentList M g) q ((r .start g + s) % 4) k
   renumbered-lists q s k b axis =
       along-is M′ (r .faceMap .to g) q s k b axis

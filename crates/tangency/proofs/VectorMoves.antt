@@ -26,7 +26,7 @@ use Rattle.patch.proofs.Related.{valued}
 use Rattle.correspondence.proofs.PointMoves.{twin-same, patch-moves}
 use Rattle.cosine.specs.Cosine.{scale, cosine}
 use Rattle.tangent.specs.Vector.{facesAt, turned, tangentTerm, cornerVector, endVector, middleVector, innerVector, cosineAt, startInto, endInto}
-use Rattle.tangent.specs.Tangent.{Kind, start, middle, end, inner, startIn, endIn, vector}
+use Rattle.tangent.specs.Tangent.{VectorKind, start, middle, end, inner, startIn, endIn, vector}
 use Rattle.tangent.proofs.InnerLaws.{ring-closed}
 
 module _ {M M′ : IndexedMesh} (a : WellFormed M) (r : Alike same M M′) (X X′ : ℕ → ℤ)
@@ -100,7 +100,7 @@ module _ {M M′ : IndexedMesh} (a : WellFormed M) (r : Alike same M M′) (X X�
     control : (m : ℕ) → m < 16 → controlValue S′ (φ c) m ≡ controlValue S c m
     control m b = control-moves c m l b
 
-    vector-here : (q : Kind) → vector S′ (φ c) q ≡ vector S c q
+    vector-here : (q : VectorKind) → vector S′ (φ c) q ≡ vector S c q
     unfolding vector middleVector innerVector startInto endInto
     vector-here start = start-moves c l w
     vector-here middle = rw (control 2 (omega arith), control 1 (omega arith))
@@ -110,5 +110,5 @@ module _ {M M′ : IndexedMesh} (a : WellFormed M) (r : Alike same M M′) (X X�
         rw (control 2 (omega arith), control 1 (omega arith), control 5 (omega arith), cosine-moves, cosine-next, start-moves c l w)
     vector-here endIn = rw (control 2 (omega arith), control 1 (omega arith), control 6 (omega arith), cosine-moves, cosine-next, end-moves)
 
-    pub vector-moves : (q : Kind) → vector (valued M′ X′) (r .shape .corners .to c) q ≡ vector (valued M X) c q
+    pub vector-moves : (q : VectorKind) → vector (valued M′ X′) (r .shape .corners .to c) q ≡ vector (valued M X) c q
     vector-moves q = ap (λ (f : ℕ). vector (with f) (φ c) q) (r .same-faces) ∙ vector-here q

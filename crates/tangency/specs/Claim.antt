@@ -26,11 +26,11 @@ use Rattle.mesh.specs.IndexedMesh.{IndexedMesh, corners, at}
 use Rattle.mesh.specs.Refusal.{Accepted}
 use Rattle.cosine.specs.Cosine.{cosine}
 use Rattle.tangent.specs.Vector.{correctedDivisor, firstTerm, secondTerm}
-use Rattle.tangent.specs.Tangent.{Kind, start, middle, end, inner, startIn, endIn, rowOf, signed}
+use Rattle.tangent.specs.Tangent.{VectorKind, start, middle, end, inner, startIn, endIn, rowOf, signed}
 use Rattle.tangent.specs.Answer.{faceOpen, TangentsGiven}
 use Rattle.surface.specs.Renumbering.{Renumbering}
 
-unfoldable pub vectorNumber : Kind → ℕ → ℕ
+unfoldable pub vectorNumber : VectorKind → ℕ → ℕ
 vectorNumber start s = getD (0 ∷ 15 ∷ 11 ∷ 20 ∷ []) s 0
 vectorNumber middle s = getD (1 ∷ 19 ∷ 10 ∷ 16 ∷ []) s 0
 vectorNumber end s = getD (2 ∷ 23 ∷ 9 ∷ 12 ∷ []) s 0
@@ -38,7 +38,7 @@ vectorNumber inner s = getD (4 ∷ 18 ∷ 7 ∷ 17 ∷ []) s 0
 vectorNumber startIn s = getD (13 ∷ 5 ∷ 22 ∷ 6 ∷ []) s 0
 vectorNumber endIn s = getD (14 ∷ 8 ∷ 21 ∷ 3 ∷ []) s 0
 
-abbrev pub vectorAlong : List ℤ → Kind → ℕ → ℕ → ℤ
+abbrev pub vectorAlong : List ℤ → VectorKind → ℕ → ℕ → ℤ
 vectorAlong r q s k = signed (rowOf (vectorNumber q s) .reversed) (getD r (3 * vectorNumber q s + k) (pos 0))
 
 abbrev pub cosineOf : IndexedMesh → ℕ → ℤ
@@ -76,4 +76,4 @@ pub record TangentClaim : Type 0 where
   -- a renumbered face gets its tangents as well, and they are those of the face, each on the side that it was on (rule D11)
   pub renumbered : {M M' : IndexedMesh} {g g' : ℕ} {d d' x x' : List ℤ} {r r' : Outcome} → Accepted M → TangentsGiven M g d r d' → TangentsGiven M' g' x r' x'
       → (m : Renumbering M M') → g < M .faces → g' ≡ m .faceMap .to g → Written r → length x ≡ 72
-      → Written r' × ((q : Kind) (s k : ℕ) → s < 4 → k < 3 → vectorAlong x' q s k ≡ vectorAlong d' q ((m .start g + s) % 4) k)
+      → Written r' × ((q : VectorKind) (s k : ℕ) → s < 4 → k < 3 → vectorAlong x' q s k ≡ vectorAlong d' q ((m .start g + s) % 4) k)

@@ -26,8 +26,8 @@ use Rattle.mesh.proofs.AcceptedLaws.{accepted-from}
 use Rattle.mesh.proofs.SizeLaws.{mesh-sizes-false}
 use Rattle.mesh.proofs.PhaseLaws.{refusal-alike, refusal-split, twins-accepted}
 use Rattle.tangent.specs.Tangent.{tangentNumber, tangentList}
-use Rattle.tangent.specs.Answer.{faceOff, faceOpen, notGiven, tangentRows, tangentRefusal, TangentsGiven}
-use Rattle.tangent.specs.Lists.{Linked, openIn, numberOf}
+use Rattle.tangent.specs.Answer.{faceMissing, faceOpen, notGiven, tangentRows, tangentRefusal, TangentsGiven}
+use Rattle.tangent.specs.Lists.{Fanned, openIn, numberOf}
 use Rattle.tangent.proofs.FillLaws.{number-is}
 
 -- ---- the twins of the call's own, which have room for every mesh whose sizes are in their ranges
@@ -66,14 +66,25 @@ module _ (M : IndexedMesh) where
       formed = accepted-from M (lentRows M ownTwins) (parts .0) (parts .1)
 
       -- the twins that the check left
-      pub twinned : (t : List ℕ) → t ≡ checkTwins M ownTwins → Linked (M .indices) t
-      twinned t left =
-          let whole = formed .sized .indices-are in
-          let long : corners M ≤ length ownTwins = omega (arith, formed .sized .faces-high, length-replicate {A = ℕ} (4 * maxFaces) 0) in
+      pub fanned : (t : List ℕ) → t ≡ checkTwins M ownTwins → Fanned (M .indices) t
+      fanned t left =
+          let z = formed .sized in
+          let whole = z .indices-are in
+          let long : corners M ≤ length ownTwins = omega (arith, z .faces-high, length-replicate {A = ℕ} (4 * maxFaces) 0) in
           let e = left ∙ sym (twins-accepted M (lentRows M ownTwins) (parts .0) (parts .1) ownTwins) in
           record {
-            listed = rw (whole, e, length-filled (twin (at M) (corners M)) (corners M) ownTwins long) long;
-            are = rw whole (λ c l. rw e (filled-at (twin (at M) (corners M)) (corners M) c ownTwins 0 l));
+            twinned = record {
+              indices = record {
+                whole = omega (arith, whole);
+                few = omega (arith, whole, z .faces-high);
+                listed = omega arith;
+                named = rw whole (λ c l. omega (arith, formed .named c l, z .vertices-high));
+              };
+              simple = rw whole (formed .simple);
+              twins-listed = rw (whole, e, length-filled (twin (at M) (corners M)) (corners M) ownTwins long) long;
+              twins-are = rw whole (λ c l. rw e (filled-at (twin (at M) (corners M)) (corners M) c ownTwins 0 l));
+            };
+            fans = rw whole (λ c l. formed .fans (at M c) (formed .named c l));
           }
 
       passed : tangentRefusal M g d ≡ firstMet (tangentRows M g d)
@@ -97,9 +108,9 @@ module _ (M : IndexedMesh) where
           unmet : tangentRefusal M g d ≡ none
           unmet = own-is ∙ ap refusalOf n
 
-          rows : (faceOff M g ≡ false) × (notGiven M g d ≡ false)
+          rows : (faceMissing M g ≡ false) × (notGiven M g d ≡ false)
           rows =
-              let first = none-met (faceOff M g) 12 _ (sym passed ∙ unmet) in
+              let first = none-met (faceMissing M g) 12 _ (sym passed ∙ unmet) in
               (first .0, none-met (notGiven M g d) 18 none (first .1) .0)
 
           pub face-below : g < M .faces
@@ -112,7 +123,7 @@ module _ (M : IndexedMesh) where
           list-long = eqb-true (length d) 72 (not-false (eqb (length d) 72) (or-false (faceOpen M g) (not (eqb (length d) 72)) (rows .1) .1))
 
           -- and the numbers were written, from the twins that are listed
-          pub done : (r : Outcome) → outcome r ≡ result tt → {t : List ℕ} → Linked (M .indices) t → {d' : List ℤ}
+          pub done : (r : Outcome) → outcome r ≡ result tt → {t : List ℕ} → Fanned (M .indices) t → {d' : List ℤ}
               → d' ≡ filled (numberOf (M .positions) (M .indices) t g) 72 d → TangentsGiven M g d r d'
           done r e linked written = record {
             answer-is = e ∙ rw unmet;

@@ -15,8 +15,8 @@ use Rattle.cosine.specs.Weight.{allWeights}
 use Rattle.cosine.specs.declared.model.Weights.{Weights}
 use Rattle.cosine.proofs.CosineLaws.{cosine-size}
 use Rattle.control.proofs.ValuesLaws.{values-small}
-use Rattle.tangent.specs.Told.{Small, Weighing, SideSource, partAt, partsTold}
-use Rattle.tangent.specs.Lists.{valencesIn, Known, valuesOf, countsOf, cosinesFrom, partsFrom, Drawn}
+use Rattle.tangent.specs.Told.{ValuesSmall, Weighing, SideSource, partAt, partsTold}
+use Rattle.tangent.specs.Lists.{valencesIn, Known, valuesOf, faceValences, cosinesFrom, partsFrom, Drawn}
 use Rattle.tangent.proofs.RingLaws.{part-size}
 
 pub weighing : (w : Weights) → w ≡ allWeights → Weighing (w .edge) (w .face)
@@ -36,34 +36,34 @@ blank-small i =
 pub blank-room : (n : ℕ) → n ≤ 4 * maxFaces → 4 * n ≤ length blank
 blank-room n l = omega (arith, length-replicate (16 * maxFaces) (pos 0))
 
-pub count-is : (indices : List ℕ) (g s : ℕ) → s < 4 → getD (countsOf indices g) s 0 ≡ valencesIn indices g s
+pub count-is : (indices : List ℕ) (g s : ℕ) → s < 4 → getD (faceValences indices g) s 0 ≡ valencesIn indices g s
 count-is indices g s l = listBelow-at (valencesIn indices g) 4 s 0 l
 
-module _ {positions : List ℤ} {indices : List ℕ} {g : ℕ} {tangents : List ℤ} (d : Drawn positions indices g tangents) where
-  table-small : Small (valuesOf positions indices)
+module _ {positions : List ℤ} {indices twins : List ℕ} {g : ℕ} {tangents : List ℤ} (d : Drawn positions indices twins g tangents) where
+  table-small : ValuesSmall (valuesOf positions indices)
   table-small = record { within = values-small positions indices blank (blank-room (length indices) (d .few)) maxCoordinate (d .small) blank-small }
 
-  count-most : (s : ℕ) → s < 4 → getD (countsOf indices g) s 0 ≤ 16
+  count-most : (s : ℕ) → s < 4 → getD (faceValences indices g) s 0 ≤ 16
   count-most s l = rw (count-is indices g s l) (d .most s l)
 
-  pub source : {edge face values : List ℤ} {valences : List ℕ} → values ≡ valuesOf positions indices → valences ≡ countsOf indices g → Weighing edge face
+  pub source : {edge face values : List ℤ} {valences : List ℕ} → values ≡ valuesOf positions indices → valences ≡ faceValences indices g → Weighing edge face
       → SideSource values valences edge face g
   source e f w =
       rw (e, f) (record {
-        few = omega (arith, d .listed, d .few);
+        few = omega (arith, d .face .listed, d .few);
         ring = λ s l. record { small = table-small; weights = w; least = rw (count-is indices g s l) (d .least s l); most = count-most s l };
       })
 
-  pub known : (twins : List ℕ) {parts cosines : List ℤ} → parts ≡ partsFrom (valuesOf positions indices) twins (countsOf indices g) g
-      → cosines ≡ cosinesFrom (countsOf indices g) → Known parts cosines
-  known twins e f =
-      let told : ℕ → ℤ = partsTold (valuesOf positions indices) twins (countsOf indices g) g in
-      let turned : ℕ → ℤ = λ s. cosine (getD (countsOf indices g) s 0) in
+  pub known : {parts cosines : List ℤ} → parts ≡ partsFrom (valuesOf positions indices) twins (faceValences indices g) g
+      → cosines ≡ cosinesFrom (faceValences indices g) → Known parts cosines
+  known e f =
+      let told : ℕ → ℤ = partsTold (valuesOf positions indices) twins (faceValences indices g) g in
+      let turned : ℕ → ℤ = λ s. cosine (getD (faceValences indices g) s 0) in
       rw (e, f) (record {
         parts-listed = length-listBelow told 72;
         parts-small = λ j l. rw (listBelow-at told 72 j (pos 0) l)
             (part-size table-small twins _ _ (j % 3) (4 * g + j % 12 / 3) (count-most (j % 12 / 3) (omega arith))
             (count-most ((j % 12 / 3 + 1) % 4) (omega arith)) (partAt (j / 12)));
         cosines-listed = length-listBelow turned 4;
-        cosines-small = λ s l. rw (listBelow-at turned 4 s (pos 0) l) (cosine-size (getD (countsOf indices g) s 0) (omega (arith, count-most s l)));
+        cosines-small = λ s l. rw (listBelow-at turned 4 s (pos 0) l) (cosine-size (getD (faceValences indices g) s 0) (omega (arith, count-most s l)));
       })

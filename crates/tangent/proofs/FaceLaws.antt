@@ -21,7 +21,7 @@ use Rattle.patch.specs.Point.{View, weight, sharp}
 use Rattle.patch.specs.Patch.{shape, view}
 use Rattle.patch.proofs.NeighbourLaws.{twin-below}
 use Rattle.control.specs.Control.{linkAt, edgeAt, units}
-use Rattle.tangent.specs.Vector.{twinOf, facesAt, endVector}
+use Rattle.tangent.specs.Vector.{twinAt, facesAt, endVector}
 use Rattle.tangent.specs.Answer.{faceOpen}
 use Rattle.tangent.specs.Told.{Part, atStart, atEnd, near, far, innerNear, innerFar, vectorAt, partTold}
 use Rattle.tangent.proofs.SeenLaws.{turn-after}
@@ -63,10 +63,10 @@ module _ {M : IndexedMesh} (a : WellFormed M) (g : ℕ) (l : g < M .faces) (clos
     half-smooth = start-inner .leaving (turn s (4 * g)) corner-below refl
 
     -- the twin of the side begins at its end
-    twin-in : twinOf (view M 0) (turn s (4 * g)) < corners M
+    twin-in : twinAt (view M 0) (turn s (4 * g)) < corners M
     twin-in = twin-below (shape M) (turn s (4 * g)) half-smooth
 
-    twin-at : at M (twinOf (view M 0) (turn s (4 * g))) ≡ at M (next (turn s (4 * g)))
+    twin-at : at M (twinAt (view M 0) (turn s (4 * g))) ≡ at M (next (turn s (4 * g)))
     twin-at = twin-ends (at M) (corners M) (turn s (4 * g)) (accepted-corners a) twin-in .0
 
     -- the weight of a corner at an inner vertex of n faces
@@ -87,7 +87,7 @@ module _ {M : IndexedMesh} (a : WellFormed M) (g : ℕ) (l : g < M .faces) (clos
       S = view M k
 
       abbrev d : ℕ
-      d = twinOf S c
+      d = twinAt S c
 
       whole : Corners (corners M)
       whole = accepted-corners a

@@ -22,10 +22,10 @@ use Rattle.patch.specs.Point.{View}
 use Rattle.patch.specs.Patch.{view}
 use Rattle.control.proofs.ValuesLaws.{value-told}
 use Rattle.tangent.specs.Vector.{facesAt, middleVector, innerVector, cosineAt, startInto, endInto}
-use Rattle.tangent.specs.Tangent.{Kind, start, middle, end, inner, startIn, endIn, rowOf, signed, vector, tangent, tangentNumber}
+use Rattle.tangent.specs.Tangent.{VectorKind, start, middle, end, inner, startIn, endIn, rowOf, signed, vector, tangent, tangentNumber}
 use Rattle.tangent.specs.Answer.{faceOpen}
 use Rattle.tangent.specs.Told.{partAt, partsTold}
-use Rattle.tangent.specs.Lists.{Linked, listedPart, sideFrom, vectorOf, numberFrom, valuesOf, countsOf, cosinesFrom, partsFrom, numberOf, Drawn}
+use Rattle.tangent.specs.Lists.{Fanned, listedPart, sideFrom, vectorOf, numberFromParts, valuesOf, faceValences, cosinesFrom, partsFrom, numberOf, Drawn}
 use Rattle.tangent.proofs.SeenLaws.{turn-after}
 use Rattle.tangent.proofs.TableLaws.{row-side-below}
 use Rattle.tangent.proofs.RenderLaws.{Renders}
@@ -45,21 +45,22 @@ module _ {M : IndexedMesh} (a : WellFormed M) where
       (λ t. let past : length (M .positions) ≤ i = omega (arith, a .sized .positions-are, ltb-false i (3 * M .vertices) t) in
       rw (List·getD-eq-default (M .positions) (pos 0) past) (omega arith))
 
-  pub renders : {twins : List ℕ} → Linked (M .indices) twins → Renders M (valuesOf (M .positions) (M .indices)) twins
+  pub renders : {twins : List ℕ} → Fanned (M .indices) twins → Renders M (valuesOf (M .positions) (M .indices)) twins
   renders t = record {
     values-are = λ k c axis l.
         value-told (M .positions) (M .indices) blank (blank-room (length (M .indices)) (omega (arith, whole, a .sized .faces-high))) k c axis
         (omega (arith, whole)) (omega (arith, a .sized .faces-high));
     twins-are = λ c l.
         let e : c % 1024 ≡ c = omega (arith, a .sized .faces-high) in
-        rw e (rw whole at (t .are c (omega (arith, whole))));
+        rw e (rw whole at (t .twinned .twins-are c (omega (arith, whole))));
   }
 
 -- ---- a face with no corner on the boundary
 module _ {M : IndexedMesh} (a : WellFormed M) (g : ℕ) (l : g < M .faces) (closed : faceOpen M g ≡ false) where
-  pub drawn : (d : List ℤ) → 72 ≤ length d → Drawn (M .positions) (M .indices) g d
-  drawn d long = record {
-    listed = omega (arith, whole a);
+  pub drawn : {twins : List ℕ} → Fanned (M .indices) twins → (d : List ℤ) → 72 ≤ length d → Drawn (M .positions) (M .indices) twins g d
+  unfolding faceOpen
+  drawn fanned d long = record {
+    face = record { fanned = fanned; listed = omega (arith, whole a); closed = rw (whole a) closed };
     few = omega (arith, whole a, a .sized .faces-high);
     small = number-small a;
     least = λ s b. rw (whole a) (least a g l closed s b);
@@ -68,21 +69,21 @@ module _ {M : IndexedMesh} (a : WellFormed M) (g : ℕ) (l : g < M .faces) (clos
   }
 
   -- how many faces are at corner s
-  counted : (s : ℕ) → s < 4 → getD (countsOf (M .indices) g) s 0 ≡ facesAt (view M 0) (turn s (4 * g))
+  counted : (s : ℕ) → s < 4 → getD (faceValences (M .indices) g) s 0 ≡ facesAt (view M 0) (turn s (4 * g))
   counted s b =
       let e : 4 * g + s ≡ turn s (4 * g) = omega arith in
       count-is (M .indices) g s b
       ∙ ap (λ (n : ℕ). valence (at M) n (at M (4 * g + s))) (whole a)
       ∙ ap (λ (c : ℕ). facesAt (view M 0) c) e
 
-  next-counted : (s : ℕ) → s < 4 → getD (countsOf (M .indices) g) ((s + 1) % 4) 0 ≡ facesAt (view M 0) (next (turn s (4 * g)))
+  next-counted : (s : ℕ) → s < 4 → getD (faceValences (M .indices) g) ((s + 1) % 4) 0 ≡ facesAt (view M 0) (next (turn s (4 * g)))
   next-counted s b =
       counted ((s + 1) % 4) (omega arith)
       ∙ ap (λ (c : ℕ). facesAt (view M 0) c) (ap (λ (n : ℕ). turn (n % 4) (4 * g)) (add-one s) ∙ sym (turn-after s (4 * g)))
 
-  module _ {twins : List ℕ} (t : Linked (M .indices) twins) where
+  module _ {twins : List ℕ} (t : Fanned (M .indices) twins) where
     abbrev valences : List ℕ
-    valences = countsOf (M .indices) g
+    valences = faceValences (M .indices) g
 
     abbrev told : ℕ → ℤ
     told = partsTold (valuesOf (M .positions) (M .indices)) twins valences g
@@ -116,7 +117,7 @@ module _ {M : IndexedMesh} (a : WellFormed M) (g : ℕ) (l : g < M .faces) (clos
       cosine-next : getD cosines ((s + 1) % 4) (pos 0) ≡ cosineAt S (next half)
       cosine-next = listBelow-at (λ s. cosine (getD valences s 0)) 4 ((s + 1) % 4) (pos 0) (omega arith) ∙ ap cosine (next-counted s b)
 
-      vector-is : (q : Kind) → vectorOf (sideFrom parts cosines s k) q ≡ vector S half q
+      vector-is : (q : VectorKind) → vectorOf (sideFrom parts cosines s k) q ≡ vector S half q
       unfolding sideFrom vectorOf vector middleVector innerVector startInto endInto partAt partOf
       vector-is start = listed-is 0 (omega arith)
       vector-is middle = rw (listed-is 3 (omega arith), listed-is 2 (omega arith))
@@ -128,7 +129,7 @@ module _ {M : IndexedMesh} (a : WellFormed M) (g : ℕ) (l : g < M .faces) (clos
           rw (cosine-here, cosine-next, listed-is 1 (omega arith), listed-is 2 (omega arith), listed-is 5 (omega arith), listed-is 3 (omega arith))
 
     pub number-is : (i : ℕ) → i < 72 → numberOf (M .positions) (M .indices) twins g i ≡ tangentNumber M g i
-    unfolding numberFrom tangent tangentNumber
+    unfolding numberFromParts tangent tangentNumber
     number-is i q =
         let r = rowOf (i / 3) in
         ap (signed (r .reversed)) (vector-is (r .side) (i % 3) (row-side-below (i / 3) (omega arith)) (omega arith) (r .kind))

@@ -5,6 +5,7 @@ pub mod TurnLaws
 pub mod InnerLaws
 pub mod MachineLaws
 pub mod RingLaws
+pub mod RingSizeLaws
 pub mod RenderLaws
 pub mod PartLaws
 pub mod SideLaws

@@ -10,7 +10,7 @@ use Rattle.mesh.proofs.CornerLaws.{turn-none, prev-next}
 use Rattle.patch.specs.Point.{View, sharp, point, innerPoint, edgePoint, alongPoint, beforePoint}
 use Rattle.patch.specs.Patch.{owner, kind, patchPoint, controlValue}
 use Rattle.control.specs.Control.{units}
-use Rattle.tangent.specs.Vector.{twinOf, cornerVector, endVector}
+use Rattle.tangent.specs.Vector.{twinAt, cornerVector, endVector}
 use Rattle.tangent.specs.Told.{Part, atStart, atEnd, near, far, innerNear, innerFar}
 
 unfoldable pub partOf : View → ℕ → Part → ℤ
@@ -22,11 +22,11 @@ partOf S c innerNear = controlValue S c 5
 partOf S c innerFar = controlValue S c 6
 
 module _ (S : View) (c : ℕ) where
-  pub near-is : sharp (S .shape) c ≡ false → controlValue S c 1 ≡ units (edgePoint S c (twinOf S c))
+  pub near-is : sharp (S .shape) c ≡ false → controlValue S c 1 ≡ units (edgePoint S c (twinAt S c))
   unfolding patchPoint owner kind point alongPoint
   near-is smooth = rw (turn-none c, smooth)
 
-  pub far-is : sharp (S .shape) c ≡ false → controlValue S c 2 ≡ units (edgePoint S (twinOf S c) c)
+  pub far-is : sharp (S .shape) c ≡ false → controlValue S c 2 ≡ units (edgePoint S (twinAt S c) c)
   unfolding patchPoint owner kind point beforePoint
   far-is smooth = rw (prev-next c, smooth)
 

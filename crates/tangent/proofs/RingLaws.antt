@@ -18,7 +18,7 @@ use Rattle.cosine.specs.Cosine.{scale}
 use Rattle.cosine.specs.Weight.{edgeWeight, faceWeight}
 use Rattle.cosine.proofs.WeightSize.{edge-weight-size, face-weight-size}
 use Rattle.control.specs.Control.{units, valueAt, linkAt, innerAt, edgeAt}
-use Rattle.tangent.specs.Told.{Small, turnedAt, termAt, vectorAt}
+use Rattle.tangent.specs.Told.{ValuesSmall, turnedAt, termAt, vectorAt}
 use Rattle.tangent.specs.Told.{Part, atStart, atEnd, near, far, innerNear, innerFar, partTold}
 
 -- ---- circulating
@@ -31,7 +31,7 @@ unfolding iterate
 next-turned twins c i = ap (turnedAt twins c) (sym (add-one i))
 
 -- ---- sizes
-module _ {values : List ℤ} (small : Small values) where
+module _ {values : List ℤ} (small : ValuesSmall values) where
   pub value-small : (k c : ℕ) → natAbs (valueAt values k c) ≤ maxCoordinate
   value-small k c = small .within (4 * (c % 1024) + k % 4)
 

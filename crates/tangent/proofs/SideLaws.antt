@@ -5,12 +5,13 @@ use mathlib.Core.Path.{_≡_, refl, ap₂}
 use mathlib.Core.List.{List, [], _∷_}
 use Prim.Native.Nat.{ℕ, _+_, _*_, _%_, _<_, _^_}
 use native.Mathlib.Omega.{arith}
-use lib.IntN.{ℤ}
+use lib.IntN.{ℤ, pos}
+use lib.ListN.{getD}
 use lib.Signed.{mag}
 use mir.Syntax.{w32, w64}
 use mir.Val.{SFits, hbits}
 use Rattle.finite.specs.Filled.{listBelow}
-use Rattle.tangent.specs.Lists.{Known, Sized, sideFrom}
+use Rattle.tangent.specs.Lists.{Known, SideSized, listedPart, sideFrom}
 use Rattle.tangent.specs.declared.side.Side.{Side}
 
 pub record Fitting (a : Side) : Type 0 where
@@ -37,8 +38,26 @@ fitting a s e n f i j k l = record {
   end-cosine = record { sfits = l };
 }
 
+-- a side whose numbers are those of the lists, one by one
+pub side-told : (parts cosines : List ℤ) (s k : ℕ) {start end near far inner-near inner-far start-cosine end-cosine : ℤ}
+    → start ≡ listedPart parts 0 s k → end ≡ listedPart parts 1 s k → near ≡ listedPart parts 2 s k → far ≡ listedPart parts 3 s k
+    → inner-near ≡ listedPart parts 4 s k → inner-far ≡ listedPart parts 5 s k
+    → start-cosine ≡ getD cosines s (pos 0) → end-cosine ≡ getD cosines ((s + 1) % 4) (pos 0)
+    → _≡_ {A = Side} (record {
+      start = start;
+      end = end;
+      near = near;
+      far = far;
+      «inner_near» = inner-near;
+      «inner_far» = inner-far;
+      «start_cosine» = start-cosine;
+      «end_cosine» = end-cosine;
+    }) (sideFrom parts cosines s k)
+unfolding sideFrom
+side-told parts cosines s k a b c d e f g h = rw (a, b, c, d, e, f, g, h)
+
 -- what the lists say of a side is small where they are
-pub side-sized : {parts cosines : List ℤ} → Known parts cosines → (s k : ℕ) → s < 4 → k < 3 → Sized (sideFrom parts cosines s k)
+pub side-sized : {parts cosines : List ℤ} → Known parts cosines → (s k : ℕ) → s < 4 → k < 3 → SideSized (sideFrom parts cosines s k)
 unfolding sideFrom
 side-sized w s k l h = record {
   start = w .parts-small (12 * 0 + (3 * s + k)) (omega arith);

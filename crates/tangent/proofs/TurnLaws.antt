@@ -9,15 +9,15 @@ use Rattle.finite.proofs.FilledLaws.{agree}
 use Rattle.corner.specs.Corner.{turn, next}
 use Rattle.mesh.proofs.CornerLaws.{turn-next, turn-mod}
 use Rattle.patch.specs.Point.{View}
-use Rattle.tangent.specs.Tangent.{Row, rowOf, signed, vector, tangent}
+use Rattle.tangent.specs.Tangent.{VectorRow, rowOf, signed, vector, tangent}
 use Rattle.tangent.specs.Document.{u, v}
 
 -- ---- rows
 -- the vector of a row, in the face begun one corner later, is that of the row `later r` in the face as it was
-abbrev later : Row → Row
+abbrev later : VectorRow → VectorRow
 later r = record { side = suc (r .side) % 4; kind = r .kind; reversed = r .reversed }
 
-abbrev reverse : Row → Row
+abbrev reverse : VectorRow → VectorRow
 reverse r = record { side = r .side; kind = r .kind; reversed = not (r .reversed) }
 
 -- the place of v(3 - j, i) for that of u(i, j), and of u(2 - j, i) for that of v(i, j) behind the twelve u
@@ -36,10 +36,10 @@ unfolding rowOf listBelow
 later-v m l = agree (λ m. later (rowOf (12 + m))) (λ m. reverse (rowOf (ofV m))) 12 refl m l
 
 -- ---- vectors
-abbrev vectorBy : View → ℕ → Row → ℤ
+abbrev vectorBy : View → ℕ → VectorRow → ℤ
 vectorBy S c r = signed (r .reversed) (vector S (turn (r .side) c) (r .kind))
 
-vector-later : (S : View) (c : ℕ) (r : Row) → vectorBy S (next c) r ≡ vectorBy S c (later r)
+vector-later : (S : View) (c : ℕ) (r : VectorRow) → vectorBy S (next c) r ≡ vectorBy S c (later r)
 vector-later S c r = ap (λ (d : ℕ). signed (r .reversed) (vector S d (r .kind))) (turn-next (r .side) c ∙ sym (turn-mod (suc (r .side)) c))
 
 signed-not : (x : Bool) (z : ℤ) → signed (not x) z ≡ negℤ (signed x z)
@@ -57,7 +57,7 @@ unfolding tangent
 v-turned S c i j x y =
     let e : 12 + i + 4 * j ≡ 12 + (i + 4 * j) = omega arith in
     let f : ofV (i + 4 * j) ≡ 2 - j + 3 * i = omega arith in
-    let r : Row = rowOf (ofV (i + 4 * j)) in
+    let r : VectorRow = rowOf (ofV (i + 4 * j)) in
     ap (tangent S (next c)) e
     ∙ vector-later S c (rowOf (12 + (i + 4 * j)))
     ∙ ap (vectorBy S c) (later-v (i + 4 * j) (omega arith))

@@ -1,6 +1,6 @@
 -- What the tangent call answers and what it leaves in the list that it is lent, whatever it is passed (rule D9).
 --
---   faceOff M g        there is no face g (rule R2, row 12)
+--   faceMissing M g        there is no face g (rule R2, row 12)
 --   faceOpen M g       face g has a corner at a boundary vertex
 --   notGiven M g d     the face has no tangents here, or the lent list d has not 72 places (rule R2, row 18)
 --   tangentRefusal ..  the refusal that the call meets: one of the mesh, as it is checked where no twins are lent, or else row 12 or 18
@@ -23,8 +23,8 @@ use Rattle.mesh.specs.IndexedMesh.{IndexedMesh, corners, at}
 use Rattle.mesh.specs.Answer.{meshRefusal}
 use Rattle.tangent.specs.Tangent.{tangentList}
 
-abbrev pub faceOff : IndexedMesh → ℕ → Bool
-faceOff M g = leb (M .faces) g
+abbrev pub faceMissing : IndexedMesh → ℕ → Bool
+faceMissing M g = leb (M .faces) g
 
 unfoldable pub faceOpen : IndexedMesh → ℕ → Bool
 faceOpen M g = anyBelow (λ s. onBoundary (at M) (corners M) (at M (4 * g + s))) 4
@@ -33,7 +33,7 @@ abbrev pub notGiven : IndexedMesh → ℕ → List ℤ → Bool
 notGiven M g d = faceOpen M g || not (eqb (length d) 72)
 
 abbrev pub tangentRows : IndexedMesh → ℕ → List ℤ → List Row
-tangentRows M g d = row (faceOff M g) 12 ∷ (row (notGiven M g d) 18 ∷ [])
+tangentRows M g d = row (faceMissing M g) 12 ∷ (row (notGiven M g d) 18 ∷ [])
 
 abbrev pub tangentRefusal : IndexedMesh → ℕ → List ℤ → Option ℕ
 tangentRefusal M g d = meshRefusal M [] (tangentRows M g d)

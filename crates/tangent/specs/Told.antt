@@ -1,10 +1,11 @@
 -- What the tables by corner tell of the sides of a face, and what they are told from: the values of the corners, the twins, the two lists of weights.
 -- That they are those of a mesh, a caller shows (`Renders` of proofs/RenderLaws.antt).
 --
---   Small values       every entry of the table of values is within the range of a coordinate
+--   ValuesSmall values       every entry of the table of values is within the range of a coordinate
 --   Weighing edge face   the two lists of all weights
 --   Addends a x b y    two weights and two values, as the weights of the sum and the coordinates are
 --   RingSource .. n    what a corner vector at a vertex of n faces is made from
+--   PartSource .. n m  what a part of a side is made from, with n faces at its start and m at its end
 --   turnedAt twins c i   the corner i steps about its vertex from corner c
 --   termAt .. n k c i  what edge i and face i add to the sum about the vertex of corner c, which has n faces, of coordinate k
 --   vectorAt .. n k c  the corner vector along half-edge c
@@ -29,7 +30,7 @@ use Rattle.control.specs.Control.{units, valueAt, linkAt, innerAt, edgeAt}
 use Rattle.tangent.specs.declared.parts.Part as code
 use Rattle.tangent.specs.declared.parts.Part.the-variants.{AtStart, AtEnd, Near, Far, InnerNear, InnerFar}
 
-pub record Small (values : List ℤ) : Type 0 where
+pub record ValuesSmall (values : List ℤ) : Type 0 where
   pub within : (i : ℕ) → natAbs (getD values i (pos 0)) ≤ maxCoordinate
 
 pub record Weighing (edge face : List ℤ) : Type 0 where
@@ -43,10 +44,14 @@ pub record Addends (a x b y : ℤ) : Type 0 where
   pub face-value : natAbs y ≤ maxCoordinate
 
 pub record RingSource (values edge face : List ℤ) (n : ℕ) : Type 0 where
-  pub small : Small values
+  pub small : ValuesSmall values
   pub weights : Weighing edge face
   pub least : 3 ≤ n
   pub most : n ≤ 16
+
+pub record PartSource (values edge face : List ℤ) (n m : ℕ) : Type 0 where
+  pub at-start : RingSource values edge face n
+  pub at-end : RingSource values edge face m
 
 abbrev pub turnedAt : List ℕ → ℕ → ℕ → ℕ
 turnedAt twins c i = iterate (λ e. linkAt twins (prev e)) i c

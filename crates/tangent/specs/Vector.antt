@@ -5,7 +5,8 @@
 --   tangentTerm S c i  what edge i and face i add: the far end of the edge, with its weight A(n, i), and the vertex across, with B(n, i)
 --   cornerVector S c   the corner vector along half-edge c, at its start: 256/2^20 times the sum of the n terms, rounded once (rule D7)
 --   endVector S c      at the end of the half-edge, still along it: the corner vector of the twin, negated (rule D7)
---   difference S c m l   three times the difference of two control values
+--   tripleDifference y z   three times the difference of two numbers
+--   controlDifference S c m l   three times the difference of two control values
 --   middleVector S c   from the edge point near the start to the one near the end (rule D8)
 --   innerVector S c    from the inner point near the start to the one near the end (rule D8)
 --   cosineAt S c       the cosine c(n) of the vertex of corner c (rule D1)
@@ -27,8 +28,8 @@ use Rattle.patch.specs.Point.{View, x, valenceAt}
 use Rattle.patch.specs.Patch.{controlValue}
 
 -- the twin of half-edge c, and the number of faces at the vertex of corner c
-abbrev pub twinOf : View → ℕ → ℕ
-twinOf S c = twin (S .shape .at) (S .shape .n) c
+abbrev pub twinAt : View → ℕ → ℕ
+twinAt S c = twin (S .shape .at) (S .shape .n) c
 
 abbrev pub facesAt : View → ℕ → ℕ
 facesAt S c = valenceAt (S .shape) (S .shape .at c)
@@ -43,16 +44,19 @@ unfoldable pub cornerVector : View → ℕ → ℤ
 cornerVector S c = nearest (pos 256 *ℤ sumBelowℤ (tangentTerm S c) (facesAt S c)) scale
 
 unfoldable pub endVector : View → ℕ → ℤ
-endVector S c = negℤ (cornerVector S (twinOf S c))
+endVector S c = negℤ (cornerVector S (twinAt S c))
 
-abbrev pub difference : View → ℕ → ℕ → ℕ → ℤ
-difference S c m l = pos 3 *ℤ (controlValue S c m -ℤ controlValue S c l)
+abbrev pub tripleDifference : ℤ → ℤ → ℤ
+tripleDifference y z = pos 3 *ℤ (y -ℤ z)
+
+abbrev pub controlDifference : View → ℕ → ℕ → ℕ → ℤ
+controlDifference S c m l = tripleDifference (controlValue S c m) (controlValue S c l)
 
 unfoldable pub middleVector : View → ℕ → ℤ
-middleVector S c = difference S c 2 1
+middleVector S c = controlDifference S c 2 1
 
 unfoldable pub innerVector : View → ℕ → ℤ
-innerVector S c = difference S c 6 5
+innerVector S c = controlDifference S c 6 5
 
 abbrev pub cosineAt : View → ℕ → ℤ
 cosineAt S c = cosine (facesAt S c)
@@ -77,7 +81,7 @@ abbrev pub endTerm : View → ℕ → ℤ
 endTerm S c = secondTerm (cosineAt S c) (cosineAt S (next c)) (middleVector S c) (endVector S c)
 
 unfoldable pub startInto : View → ℕ → ℤ
-startInto S c = corrected (startTerm S c) (difference S c 5 1)
+startInto S c = corrected (startTerm S c) (controlDifference S c 5 1)
 
 unfoldable pub endInto : View → ℕ → ℤ
-endInto S c = corrected (endTerm S c) (difference S c 6 2)
+endInto S c = corrected (endTerm S c) (controlDifference S c 6 2)

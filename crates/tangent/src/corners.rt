@@ -1,54 +1,52 @@
 // How many faces the vertices of the four corners of a face have, and their cosines.
-use corner::wide;
+use crate::ring::around;
+use limits::model::Mesh;
 ghost use mathlib.Core.Path.{_≡_};
-ghost use Prim.Native.Nat.{_+_, _*_, _≤_, _<_};
+ghost use Prim.Native.Nat.{_<_};
 ghost use lib.ListN.{length, getD};
-ghost use Rattle.finite.specs.Fold.{indicator};
 ghost use Rattle.finite.specs.Filled.{listBelow};
-ghost use Rattle.mesh.specs.Fan.{valence as valenceOf};
-ghost use Rattle.mesh.specs.Tables.{vertexOf};
 ghost use Rattle.cosine.specs.Cosine.{cosine};
-ghost use Rattle.tangent.specs.Lists.{valencesIn};
+ghost use Rattle.tangent.specs.Lists.{Fanned, InnerFace, ringIn, valencesIn};
 
-// 1 for true, 0 for false.
-fn one_if(b: bool) -> usize
-    ensures { λ r. ⌜ r ≡ indicator b ⌝ }
-{
-    if b {
-        return 1;
-    }
-    0
-}
+// "No twin", where a corner is wanted.
+const NO_CORNER: usize = Mesh::NO_TWIN as usize;
 
-// How many faces vertex p has.
-fn valence(faces: &[u16], p: usize) -> usize
-    ensures { λ r. ⌜ r ≡ valenceOf (vertexOf (now (faces .entry))) (length (now (faces .entry))) p ⌝ }
+// How many faces the vertex of corner c has, found by circulating from there; 0 where that ends at the boundary. The twins alone are read: the faces are
+// there for the contract.
+pub(crate) fn ring_size(faces: &[u16], twins: &[u16; 1024], c: usize) -> usize
+    requires { ⌜ Fanned (now faces) (now twins) × (c < length (now faces)) ⌝ }
+    ensures { λ r. ⌜ r ≡ ringIn (now (faces .entry)) c ⌝ }
 {
-    let mut n = 0;
-    for c in 0..faces.len() {
-        n = n + one_if(wide(faces[c]) == p);
+    let mut met = 1;
+    let mut on = around(twins, c);
+    while on != c {
+        if on == NO_CORNER {
+            return 0;
+        }
+        met += 1;
+        on = around(twins, on);
     }
-    n
+    met
 }
 
 // How many faces the vertex of corner s of face g has.
-fn corner_valence(faces: &[u16], g: usize, s: usize) -> usize
-    requires { ⌜ (4 * g + 4 ≤ length (now faces)) × (s < 4) ⌝ }
+fn corner_valence(faces: &[u16], twins: &[u16; 1024], g: usize, s: usize) -> usize
+    requires { ⌜ InnerFace (now faces) (now twins) g × (s < 4) ⌝ }
     ensures { λ r. ⌜ r ≡ valencesIn (now (faces .entry)) g s ⌝ }
 {
-    valence(faces, wide(faces[4 * g + s]))
+    ring_size(faces, twins, 4 * g + s)
 }
 
 // How many faces the vertices of the four corners of face g have.
-pub(crate) fn face_valences(faces: &[u16], g: usize) -> [usize; 4]
-    requires { ⌜ 4 * g + 4 ≤ length (now faces) ⌝ }
+pub(crate) fn face_valences(faces: &[u16], twins: &[u16; 1024], g: usize) -> [usize; 4]
+    requires { ⌜ InnerFace (now faces) (now twins) g ⌝ }
     ensures { λ r. ⌜ r ≡ listBelow (valencesIn (now (faces .entry)) g) 4 ⌝ }
 {
     [
-        corner_valence(faces, g, 0),
-        corner_valence(faces, g, 1),
-        corner_valence(faces, g, 2),
-        corner_valence(faces, g, 3),
+        corner_valence(faces, twins, g, 0),
+        corner_valence(faces, twins, g, 1),
+        corner_valence(faces, twins, g, 2),
+        corner_valence(faces, twins, g, 3),
     ]
 }
 

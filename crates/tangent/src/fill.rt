@@ -17,13 +17,13 @@ pub(crate) fn fill_tangents(
     g: usize,
     tangents: &mut [i64],
 )
-    requires { ⌜ Drawn (now positions) (now faces) g (now tangents) ⌝ }
+    requires { ⌜ Drawn (now positions) (now faces) (now twins) g (now tangents) ⌝ }
     ensures { λ _. ⌜ now (tangents .exit)
         ≡ filled (numberOf (now (positions .entry)) (now (faces .entry)) (now (twins .entry)) g) 72 (now (tangents .entry)) ⌝ }
 {
     let mut values = [0i32; 16 * Mesh::MAX_FACES];
     fill_values(positions, faces, &mut values);
-    let valences = face_valences(faces, g);
+    let valences = face_valences(faces, twins, g);
     let cosines = cosines_of(&valences);
     let weights = cosine::weights();
     let edge = weights.edge;

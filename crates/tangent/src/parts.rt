@@ -9,7 +9,7 @@ ghost use mathlib.Core.Path.{_≡_};
 ghost use Prim.Native.Nat.{_≤_, _<_};
 ghost use lib.ListN.{length};
 ghost use Rattle.finite.specs.Filled.{filled};
-ghost use Rattle.tangent.specs.Told.{RingSource, SideSource, partFor, partTold, partsTold};
+ghost use Rattle.tangent.specs.Told.{PartSource, SideSource, partFor, partTold, partsTold};
 
 // The parts of a side: two corner vectors, two edge points, and the inner points behind them.
 pub enum Part {
@@ -43,7 +43,7 @@ fn part_of(
     c: usize,
     p: Part,
 ) -> i64
-    requires { ⌜ RingSource (now values) (now edge) (now face) n × RingSource (now values) (now edge) (now face) m ⌝ }
+    requires { ⌜ PartSource (now values) (now edge) (now face) n m ⌝ }
     ensures { λ r. ⌜ r ≡ partTold (now (values .entry)) (now (twins .entry)) n m k c (partFor p) ⌝ }
 {
     let d = wide(twins[c % 1024]);

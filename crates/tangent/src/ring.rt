@@ -11,7 +11,7 @@ ghost use Rattle.finite.specs.Fold.{sumBelowℤ};
 ghost use Rattle.corner.specs.Corner.{next, across, prev};
 ghost use Rattle.cosine.specs.Weight.{edgeWeight, faceWeight};
 ghost use Rattle.control.specs.Control.{valueAt, linkAt};
-ghost use Rattle.tangent.specs.Told.{Small, Addends, RingSource, termAt, vectorAt};
+ghost use Rattle.tangent.specs.Told.{ValuesSmall, Addends, RingSource, termAt, vectorAt};
 
 // Two values, each with its weight.
 fn weighted(a: i32, x: i32, b: i32, y: i32) -> i64
@@ -23,7 +23,7 @@ fn weighted(a: i32, x: i32, b: i32, y: i32) -> i64
 
 // The far end of the edge of corner e and the vertex across in its face, of coordinate k, with the weights a and b.
 fn pair(values: &[i32; 4096], k: usize, e: usize, a: i32, b: i32) -> i64
-    requires { ⌜ Small (now values) × (natAbs a ≤ 2 ^ 22) × (natAbs b ≤ 2 ^ 22) ⌝ }
+    requires { ⌜ ValuesSmall (now values) × (natAbs a ≤ 2 ^ 22) × (natAbs b ≤ 2 ^ 22) ⌝ }
     ensures { λ r. ⌜ (r ≡ a *ℤ valueAt (now (values .entry)) k (next e) +ℤ b *ℤ valueAt (now (values .entry)) k (across e)) × (natAbs r ≤ 2 ^ 43) ⌝ }
 {
     weighted(
@@ -61,7 +61,7 @@ fn plus(a: i64, b: i64) -> i64
 }
 
 // The corner after e about its vertex.
-fn around(twins: &[u16; 1024], e: usize) -> usize
+pub(crate) fn around(twins: &[u16; 1024], e: usize) -> usize
     ensures { λ r. ⌜ r ≡ linkAt (now (twins .entry)) (prev e) ⌝ }
 {
     wide(twins[prev_corner(e) % 1024])

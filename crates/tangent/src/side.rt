@@ -1,12 +1,12 @@
 // The six tangent vectors of a side, of one coordinate, from the numbers that they are made of.
 ghost use mathlib.Core.Path.{_≡_};
 ghost use Prim.Native.Nat.{_≤_, _^_};
-ghost use lib.IntN.{pos, negℤ, natAbs, _-ℤ_, _*ℤ_};
-ghost use Rattle.tangent.specs.Vector.{firstTerm, corrected as correctedBy};
-ghost use Rattle.tangent.specs.Lists.{kindOf, vectorOf, Sized, Turning, Entering};
+ghost use lib.IntN.{negℤ, natAbs};
+ghost use Rattle.tangent.specs.Vector.{tripleDifference, firstTerm, corrected as correctedBy};
+ghost use Rattle.tangent.specs.Lists.{vectorKindOf, vectorOf, SideSized, TermSized, IntoSized};
 
 // The six vectors of a side.
-pub enum Kind {
+pub enum VectorKind {
     Start,
     Middle,
     End,
@@ -28,16 +28,16 @@ pub struct Side {
 }
 
 // Three times the difference of two control values.
-fn steps(y: i64, z: i64) -> i64
+fn triple_difference(y: i64, z: i64) -> i64
     requires { ⌜ (natAbs y ≤ 2 ^ 35) × (natAbs z ≤ 2 ^ 35) ⌝ }
-    ensures { λ r. ⌜ (r ≡ pos 3 *ℤ (y -ℤ z)) × (natAbs r ≤ 2 ^ 38) ⌝ }
+    ensures { λ r. ⌜ (r ≡ tripleDifference y z) × (natAbs r ≤ 2 ^ 38) ⌝ }
 {
     3 * (y - z)
 }
 
 // The cosine term near an end of a side, times 3 * 2^20.
 fn cosine_term(k0: i32, k1: i32, u0: i64, u1: i64) -> i64
-    requires { ⌜ Turning k0 k1 u0 u1 ⌝ }
+    requires { ⌜ TermSized k0 k1 u0 u1 ⌝ }
     ensures { λ r. ⌜ (r ≡ firstTerm k0 k1 u0 u1) × (natAbs r ≤ 2 ^ 60) ⌝ }
 {
     2 * k0 as i64 * u1 - k1 as i64 * u0
@@ -54,11 +54,11 @@ fn corrected(term: i64, x: i64) -> i64
 // The vector into the face near an end of a side: the cosines there and at the other end, the corner vector there, the edge points near that end
 // and near the other, and the inner point near it.
 fn into(k0: i32, k1: i32, u0: i64, near: i64, far: i64, inner: i64) -> i64
-    requires { ⌜ Entering k0 k1 u0 near far inner ⌝ }
-    ensures { λ r. ⌜ (r ≡ correctedBy (firstTerm k0 k1 u0 (pos 3 *ℤ (far -ℤ near))) (pos 3 *ℤ (inner -ℤ near))) × (natAbs r ≤ 2 ^ 61) ⌝ }
+    requires { ⌜ IntoSized k0 k1 u0 near far inner ⌝ }
+    ensures { λ r. ⌜ (r ≡ correctedBy (firstTerm k0 k1 u0 (tripleDifference far near)) (tripleDifference inner near)) × (natAbs r ≤ 2 ^ 61) ⌝ }
 {
-    let term = cosine_term(k0, k1, u0, steps(far, near));
-    corrected(term, steps(inner, near))
+    let term = cosine_term(k0, k1, u0, triple_difference(far, near));
+    corrected(term, triple_difference(inner, near))
 }
 
 // The negation of a number.
@@ -70,16 +70,16 @@ pub(crate) fn negated(z: i64) -> i64
 }
 
 // A vector of the side. Seen from its other end, the side has its two ends exchanged, and what runs along it reversed.
-pub(crate) fn vector(a: Side, kind: Kind) -> i64
-    requires { ⌜ Sized a ⌝ }
-    ensures { λ r. ⌜ (r ≡ vectorOf a (kindOf kind)) × (natAbs r ≤ 2 ^ 61) ⌝ }
+pub(crate) fn vector(a: Side, kind: VectorKind) -> i64
+    requires { ⌜ SideSized a ⌝ }
+    ensures { λ r. ⌜ (r ≡ vectorOf a (vectorKindOf kind)) × (natAbs r ≤ 2 ^ 61) ⌝ }
 {
     match kind {
-        Kind::Start => a.start,
-        Kind::Middle => steps(a.far, a.near),
-        Kind::End => a.end,
-        Kind::Inner => steps(a.inner_far, a.inner_near),
-        Kind::StartIn => into(
+        VectorKind::Start => a.start,
+        VectorKind::Middle => triple_difference(a.far, a.near),
+        VectorKind::End => a.end,
+        VectorKind::Inner => triple_difference(a.inner_far, a.inner_near),
+        VectorKind::StartIn => into(
             a.start_cosine,
             a.end_cosine,
             a.start,
@@ -87,7 +87,7 @@ pub(crate) fn vector(a: Side, kind: Kind) -> i64
             a.far,
             a.inner_near,
         ),
-        Kind::EndIn => into(
+        VectorKind::EndIn => into(
             a.end_cosine,
             a.start_cosine,
             negated(a.end),

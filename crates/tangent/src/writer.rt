@@ -1,6 +1,6 @@
 // The 72 numbers of a face, from the parts of its sides and the cosines at its corners.
-use crate::side::Kind;
 use crate::side::Side;
+use crate::side::VectorKind;
 use crate::side::vector;
 ghost use mathlib.Core.Path.{_≡_};
 ghost use Prim.Native.Nat.{_+_, _*_, _≤_, _<_, _^_};
@@ -8,92 +8,67 @@ ghost use lib.IntN.{natAbs};
 ghost use lib.ListN.{length};
 ghost use Rattle.finite.specs.Filled.{filled};
 ghost use Rattle.tangent.specs.Tangent.{signed as signedBy};
-ghost use Rattle.tangent.specs.Lists.{Known, Placed, listedPart, sideFrom, numberFrom};
+ghost use Rattle.tangent.specs.Lists.{Known, PartPlaced, listedPart, sideFrom, numberFromParts};
 
-// The side, the kind and the sense of each of the 24 vectors.
+// The side of each of the 24 vectors, and 4 more where the vector is reversed.
 const SIDES: [u8; 24] = [
     0,
     0,
     0,
     3,
     0,
-    1,
+    5,
     3,
-    2,
-    1,
-    2,
-    2,
-    2,
-    3,
+    6,
+    5,
+    6,
+    6,
+    6,
+    7,
     0,
     0,
     1,
-    3,
-    3,
+    7,
+    7,
     1,
     1,
-    3,
-    2,
-    2,
+    7,
+    6,
+    6,
     1,
 ];
 
-const KINDS: [Kind; 24] = [
-    Kind::Start,
-    Kind::Middle,
-    Kind::End,
-    Kind::EndIn,
-    Kind::Inner,
-    Kind::StartIn,
-    Kind::StartIn,
-    Kind::Inner,
-    Kind::EndIn,
-    Kind::End,
-    Kind::Middle,
-    Kind::Start,
-    Kind::End,
-    Kind::StartIn,
-    Kind::EndIn,
-    Kind::Start,
-    Kind::Middle,
-    Kind::Inner,
-    Kind::Inner,
-    Kind::Middle,
-    Kind::Start,
-    Kind::EndIn,
-    Kind::StartIn,
-    Kind::End,
+// The kind of each.
+const KINDS: [VectorKind; 24] = [
+    VectorKind::Start,
+    VectorKind::Middle,
+    VectorKind::End,
+    VectorKind::EndIn,
+    VectorKind::Inner,
+    VectorKind::StartIn,
+    VectorKind::StartIn,
+    VectorKind::Inner,
+    VectorKind::EndIn,
+    VectorKind::End,
+    VectorKind::Middle,
+    VectorKind::Start,
+    VectorKind::End,
+    VectorKind::StartIn,
+    VectorKind::EndIn,
+    VectorKind::Start,
+    VectorKind::Middle,
+    VectorKind::Inner,
+    VectorKind::Inner,
+    VectorKind::Middle,
+    VectorKind::Start,
+    VectorKind::EndIn,
+    VectorKind::StartIn,
+    VectorKind::End,
 ];
 
-const REVERSED: [bool; 24] = [
-    false,
-    false,
-    false,
-    false,
-    false,
-    true,
-    false,
-    true,
-    true,
-    true,
-    true,
-    true,
-    true,
-    false,
-    false,
-    false,
-    true,
-    true,
-    false,
-    false,
-    true,
-    true,
-    true,
-    false,
-];
 // Part t of side s, coordinate k.
 fn listed(parts: &[i64], t: usize, s: usize, k: usize) -> i64
-    requires { ⌜ Placed (now parts) t s k ⌝ }
+    requires { ⌜ PartPlaced (now parts) t s k ⌝ }
     ensures { λ r. ⌜ r ≡ listedPart (now (parts .entry)) t s k ⌝ }
 {
     parts[12 * t + (3 * s + k)]
@@ -127,19 +102,20 @@ fn signed(reversed: bool, z: i64) -> i64
 // Number i of the 72.
 fn number(parts: &[i64], cosines: &[i32], i: usize) -> i64
     requires { ⌜ Known (now parts) (now cosines) × (i < 72) ⌝ }
-    ensures { λ r. ⌜ r ≡ numberFrom (now (parts .entry)) (now (cosines .entry)) i ⌝ }
+    ensures { λ r. ⌜ r ≡ numberFromParts (now (parts .entry)) (now (cosines .entry)) i ⌝ }
 {
     let m = i / 3;
     let kind = KINDS[m];
-    let side = side_of(parts, cosines, SIDES[m] as usize, i % 3);
-    signed(REVERSED[m], vector(side, kind))
+    let sense = SIDES[m] as usize;
+    let side = side_of(parts, cosines, sense % 4, i % 3);
+    signed(sense >= 4, vector(side, kind))
 }
 
 // Writes the 72 numbers over the first places of the list.
 pub(crate) fn write_numbers(parts: &[i64], cosines: &[i32], tangents: &mut [i64])
     requires { ⌜ Known (now parts) (now cosines) × (72 ≤ length (now tangents)) ⌝ }
     ensures { λ _. ⌜ now (tangents .exit)
-        ≡ filled (numberFrom (now (parts .entry)) (now (cosines .entry))) 72 (now (tangents .entry)) ⌝ }
+        ≡ filled (numberFromParts (now (parts .entry)) (now (cosines .entry))) 72 (now (tangents .entry)) ⌝ }
 {
     for i in 0..72 {
         tangents[i] = number(parts, cosines, i);

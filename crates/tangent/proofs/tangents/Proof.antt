@@ -10,9 +10,9 @@ use Rattle.answer.specs.Table.{result}
 use Rattle.limits.specs.declared.model.Mesh.{Mesh}
 use Rattle.mesh.specs.IndexedMesh.{IndexedMesh, indexed}
 use Rattle.mesh.specs.Answer.{checked, checkAnswer}
-use Rattle.tangent.specs.Lists.{Linked}
+use Rattle.tangent.specs.Lists.{Fanned}
 use Rattle.tangent.proofs.FillLaws.{drawn}
-use Rattle.tangent.proofs.AnswerLaws.{ownTwins, refused, check-refused, formed, twinned, own-refused, face-below, face-closed, list-long, done}
+use Rattle.tangent.proofs.AnswerLaws.{ownTwins, refused, check-refused, formed, fanned, own-refused, face-below, face-closed, list-long, done}
 use Rattle.tangent.proofs.tangents.Statement.{statement}
 use Rattle.tangent.proofs.tangents.Tie as tie
 
@@ -43,8 +43,8 @@ module _ (c : tie.After-enum-told) where
   accepted : (m : Mesh) × (result m ≡ checkAnswer (mesh entry) ownTwins)
   accepted = (_, sym (ap checked (c .enum-told .given .1)) ∙ asked .check .ensures .answer-is)
 
-  twins-left : Linked (mesh entry .indices) (asked .check .last .1 .1 .1 .1 .1 .0)
-  twins-left = twinned (mesh entry) (face entry) (lent entry) (accepted .1) _ (asked .check .ensures .twins-are)
+  twins-left : Fanned (mesh entry .indices) (asked .check .last .1 .1 .1 .1 .1 .0)
+  twins-left = fanned (mesh entry) (face entry) (lent entry) (accepted .1) _ (asked .check .ensures .twins-are)
 
 -- ---- nothing of its own is met
 module _ (c : tie.Else1) where
@@ -71,9 +71,6 @@ returns c =
 enum-told : tie.Need-enum-told
 enum-told c = search needs
 
-slice-aggregate-face-refusal : tie.Need-slice-aggregate-face-refusal
-slice-aggregate-face-refusal c = search needs
-
 face-refusal-requires : tie.Need-face-refusal-requires
 face-refusal-requires c κs =
     let k = c .before in
@@ -96,7 +93,7 @@ fill-tangents-requires c κs =
     let w = formed (mesh s) (face s) (lent s) (accepted k .1) in
     let ok = o .face-refusal .ensures in
     drawn w (face s) (face-below (mesh s) (face s) (lent s) (accepted k .1) _ ok (e .if1 .left))
-    (face-closed (mesh s) (face s) (lent s) (accepted k .1) _ ok (e .if1 .left)) (lent s)
+    (face-closed (mesh s) (face s) (lent s) (accepted k .1) _ ok (e .if1 .left)) (twins-left k) (lent s)
     (le-of-eq (sym (list-long (mesh s) (face s) (lent s) (accepted k .1) _ ok (e .if1 .left))))
 
 same-length : tie.Need-same-length
@@ -119,7 +116,6 @@ tangents-spec =
     enum-known-answer
     returns
     enum-told
-    slice-aggregate-face-refusal
     face-refusal-requires
     returns-2
     fill-tangents-requires

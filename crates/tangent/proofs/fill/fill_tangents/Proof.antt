@@ -10,7 +10,7 @@ use borrow.Author.Needs.{needs}
 use Rattle.finite.specs.Filled.{filled}
 use Rattle.finite.proofs.FilledLaws.{length-listBelow, filled-whole}
 use Rattle.tangent.specs.Told.{partsTold}
-use Rattle.tangent.specs.Lists.{numberFrom, valuesOf, countsOf, cosinesFrom, partsFrom}
+use Rattle.tangent.specs.Lists.{numberFromParts, valuesOf, faceValences, cosinesFrom, partsFrom}
 use Rattle.tangent.proofs.DrawnLaws.{weighing, source, known}
 use Rattle.tangent.proofs.fill.fill_tangents.Statement.{statement}
 use Rattle.tangent.proofs.fill.fill_tangents.Tie as tie
@@ -33,7 +33,7 @@ module _ (w : tie.After-weights) where
   table = valuesOf (start .args .positions .now) (start .args .faces .now)
 
   abbrev counts : List ℕ
-  counts = countsOf (start .args .faces .now) (start .args .g)
+  counts = faceValences (start .args .faces .now) (start .args .g)
 
   abbrev parts : List ℤ
   parts = partsFrom table (start .args .twins .now) counts (start .args .g)
@@ -68,7 +68,7 @@ fill-values-requires : tie.Need-fill-values-requires
 fill-values-requires c κs = tt
 
 face-valences-requires : tie.Need-face-valences-requires
-face-valences-requires c κs = let v : tie.After-fill-values = c .before in v .before .before .before .pre .listed
+face-valences-requires c κs = let v : tie.After-fill-values = c .before in v .before .before .before .pre .face
 
 slice-aggregate-cosines-of : tie.Need-slice-aggregate-cosines-of
 slice-aggregate-cosines-of c = search needs
@@ -103,7 +103,7 @@ write-numbers-requires : tie.Need-write-numbers-requires
 write-numbers-requires c κs =
     let p : tie.After-fill-parts = c .before .before .before .before in
     let s = start (w p) in
-    (known (s .pre) (s .args .twins .now) (parts-are p (p .fill-parts .ensures)) (cosines-are p), s .pre .places)
+    (known (s .pre) (parts-are p (p .fill-parts .ensures)) (cosines-are p), s .pre .places)
 
 same-length : tie.Need-same-length
 same-length c = search needs
@@ -114,7 +114,7 @@ returns c =
     let lent = n .before in
     let p : tie.After-fill-parts = lent .before .before .before .before in
     n .write-numbers .ensures
-    ∙ ap₂ (λ (x y : List ℤ). filled (numberFrom x y) 72 (start (w p) .args .tangents .now)) (parts-are p (p .fill-parts .ensures)) (cosines-are p)
+    ∙ ap₂ (λ (x y : List ℤ). filled (numberFromParts x y) 72 (start (w p) .args .tangents .now)) (parts-are p (p .fill-parts .ensures)) (cosines-are p)
 
 pub fill-tangents-spec : {M : Type 1} → statement M
 fill-tangents-spec =

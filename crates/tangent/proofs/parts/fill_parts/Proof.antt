@@ -1,19 +1,15 @@
 -- `fill_parts` meets its contract: after j turns the first j places hold their parts.
-use mathlib.Core.Path.{_≡_, refl}
-use Prim.Native.Nat.{_-_, _≤_}
+use Prim.Native.Nat.{_-_}
 use native.Mathlib.Omega.{arith}
-use lib.ListN.{length, length-set}
 use mir.Syntax.{w64}
 use Rattle.integer.proofs.Laws.{read-back}
-use Rattle.finite.specs.Filled.{filled}
-use Rattle.finite.proofs.FilledLaws.{filled-start, filled-more, filled-all}
+use Rattle.patch.proofs.FillingLaws.{Filling, filling-none, filling-room, filling-more, filling-all}
 use Rattle.tangent.specs.Told.{partsTold}
 use Rattle.tangent.proofs.parts.fill_parts.Statement.{statement}
 use Rattle.tangent.proofs.parts.fill_parts.Tie as tie
 
 abbrev Inv-loop : tie.InvT-loop
-Inv-loop values twins valences edge face g parts₀ j₀ parts j =
-    (j ≤ 72) × (length parts ≡ length parts₀) × (parts ≡ filled (partsTold values twins valences g) j parts₀)
+Inv-loop values twins valences edge face g parts₀ j₀ parts j = Filling (partsTold values twins valences g) 72 parts₀ parts j
 
 abbrev μ-loop : tie.MeasureT-loop
 μ-loop values twins valences edge face g parts₀ j₀ parts j = 72 - j
@@ -27,7 +23,7 @@ start l = l .before
 
 -- ---- the answers, in the order of the code
 loop-holds : tie.Need-loop-holds Inv-loop μ-loop
-loop-holds c = (omega arith, refl, filled-start _ _)
+loop-holds c = filling-none
 
 listed-part-requires : tie.Need-listed-part-requires Inv-loop μ-loop
 listed-part-requires c κs = let s = start (c .before) in (s .pre .0, omega arith)
@@ -36,7 +32,7 @@ mul-t11 : tie.Need-mul-t11 Inv-loop μ-loop
 mul-t11 c = omega arith
 
 slice-set-from-parts : tie.Need-slice-set-from-parts Inv-loop μ-loop
-slice-set-from-parts c = omega (arith, head c .loop .inv .1, start (head c) .pre .1)
+slice-set-from-parts c = filling-room (start (head c) .pre .1) (head c .loop .inv) (c .before .loop-test .taken)
 
 add-j : tie.Need-add-j Inv-loop μ-loop
 add-j c = omega arith
@@ -46,21 +42,13 @@ loop-less c = omega arith
 
 loop-again : tie.Need-loop-again Inv-loop μ-loop
 loop-again c =
-    let l = head c .loop in
-    let s = start (head c) in (
-      omega arith,
-      rw length-set (l .inv .1),
-      filled-more _ (l .j) _ (s .args .parts .now) (l .parts) (omega (arith, s .pre .1)) (l .inv .2)
-          (read-back w64 (c .listed-part .ok) (c .listed-part .ensures)),
-    )
+    filling-more (start (head c) .pre .1) (head c .loop .inv) (c .before .loop-test .taken) (read-back w64 (c .listed-part .ok) (c .listed-part .ensures))
 
 same-length : tie.Need-same-length Inv-loop μ-loop
-same-length c = c .before .loop .inv .1
+same-length c = c .before .loop .inv .long
 
 returns : tie.Need-returns Inv-loop μ-loop
-returns c =
-    let l = c .before .loop in
-    filled-all _ 72 (l .j) (start (c .before) .args .parts .now) (l .parts) (l .inv .0) (c .loop-test .left) (l .inv .2)
+returns c = filling-all (c .before .loop .inv) (c .loop-test .left)
 
 pub fill-parts-spec : {M : Type 1} → statement M
 fill-parts-spec =

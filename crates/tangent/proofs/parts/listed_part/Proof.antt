@@ -45,7 +45,7 @@ add-part-of p = omega (arith, start p .pre .0 .few)
 
 part-of-requires : tie.Need-part-of-requires
 part-of-requires p κs =
-    let ring = start p .pre .0 .ring in (ring _ (omega arith), ring _ (omega arith))
+    let ring = start p .pre .0 .ring in record { at-start = ring _ (omega arith); at-end = ring _ (omega arith) }
 
 returns : tie.Need-returns
 returns r =

@@ -56,18 +56,18 @@ enum-told : tie.Need-enum-told
 enum-told a = search needs
 
 corner-vector-requires : tie.Need-corner-vector-requires
-corner-vector-requires a κs = start (a .before .before) .pre .0
+corner-vector-requires a κs = start (a .before .before) .pre .at-start
 
 enum-told-2 : tie.Need-enum-told-2
 enum-told-2 a = search needs
 
 corner-vector-requires-2 : tie.Need-corner-vector-requires-2
-corner-vector-requires-2 a κs = start (a .before .before) .pre .1
+corner-vector-requires-2 a κs = start (a .before .before) .pre .at-end
 
 negated-requires : tie.Need-negated-requires
 negated-requires v κs =
     let t = v .before .before .before in
-    let far = start t .pre .1 in
+    let far = start t .pre .at-end in
     rw (read-back w64 (v .corner-vector2 .ok) (end-is t (v .corner-vector2 .ensures)))
     (vector-size (far .small) (twins t) (start t .args .m) (k t) (linkAt (twins t) (c t)) (far .most))
 
@@ -75,7 +75,7 @@ enum-told-3 : tie.Need-enum-told-3
 enum-told-3 a = search needs
 
 cast-edge-value : tie.Need-cast-edge-value
-cast-edge-value a = omega (arith, start (a .before .before) .pre .0 .most)
+cast-edge-value a = omega (arith, start (a .before .before) .pre .at-start .most)
 
 edge-value-requires : tie.Need-edge-value-requires
 edge-value-requires a κs = tt
@@ -84,7 +84,7 @@ enum-told-4 : tie.Need-enum-told-4
 enum-told-4 a = search needs
 
 cast-edge-value-2 : tie.Need-cast-edge-value-2
-cast-edge-value-2 a = omega (arith, start (a .before .before) .pre .1 .most)
+cast-edge-value-2 a = omega (arith, start (a .before .before) .pre .at-end .most)
 
 edge-value-requires-2 : tie.Need-edge-value-requires-2
 edge-value-requires-2 a κs = tt
@@ -93,7 +93,7 @@ enum-told-5 : tie.Need-enum-told-5
 enum-told-5 a = search needs
 
 cast-inner-value : tie.Need-cast-inner-value
-cast-inner-value a = omega (arith, start (a .before .before) .pre .0 .most)
+cast-inner-value a = omega (arith, start (a .before .before) .pre .at-start .most)
 
 inner-value-requires : tie.Need-inner-value-requires
 inner-value-requires a κs = tt
@@ -102,7 +102,7 @@ enum-told-6 : tie.Need-enum-told-6
 enum-told-6 a = search needs
 
 cast-inner-value-2 : tie.Need-cast-inner-value-2
-cast-inner-value-2 a = omega (arith, start (a .before .before) .pre .1 .most)
+cast-inner-value-2 a = omega (arith, start (a .before .before) .pre .at-end .most)
 
 next-corner-requires : tie.Need-next-corner-requires
 next-corner-requires a κs = tt

@@ -4,11 +4,14 @@ use mathlib.Core.Path.{_≡_, ap, _∙_}
 use mathlib.Core.Bool.{Bool, false}
 use Prim.Native.Nat.{ℕ, _+_, _*_, _-_, _≤_}
 use native.Mathlib.Omega.{arith}
+use lib.Dec.{eqb}
 use lib.ListN.{length}
+use borrow.Author.Tests.{eq-eqb, ne-eqb}
 use Rattle.finite.specs.Fold.{anyBelow}
 use Rattle.finite.proofs.AnyAll.{any-start, any-more, any-found, any-not}
 use Rattle.mesh.specs.Fan.{onBoundary}
 use Rattle.mesh.specs.Tables.{vertexOf}
+use Rattle.tangent.proofs.RingSizeLaws.{ring-open}
 use Rattle.tangent.proofs.refusal.face_open.Statement.{statement}
 use Rattle.tangent.proofs.refusal.face_open.Tie as tie
 
@@ -24,12 +27,12 @@ abbrev μ-loop : tie.MeasureT-loop
 
 -- ---- the function's entry, from inside the loop
 abbrev entry : tie.In-loop Inv-loop μ-loop → tie.Start Inv-loop μ-loop
-entry c = c .before .before .before .before
+entry c = c .before .before .before
 
 -- ---- corner s has been asked
-module _ (c : tie.After-on-boundary Inv-loop μ-loop) where
+module _ (c : tie.After-ring-size Inv-loop μ-loop) where
   abbrev passing : tie.In-loop Inv-loop μ-loop
-  passing = c .before .before .before
+  passing = c .before
 
   abbrev head : tie.At-loop Inv-loop μ-loop
   head = passing .before
@@ -40,35 +43,26 @@ module _ (c : tie.After-on-boundary Inv-loop μ-loop) where
   abbrev asked : ℕ → Bool
   asked = corner-open (start .args .faces .now) (start .args .g)
 
-  told : c .on-boundary .result ≡ asked (head .loop .s)
+  told : eqb (c .ring-size .result) 0 ≡ asked (head .loop .s)
   told =
-      c .on-boundary .ensures
-      ∙ ap (onBoundary (vertexOf (start .args .faces .now)) (length (start .args .faces .now))) (c .before .wide .ensures)
+      let at = 4 * start .args .g + head .loop .s in
+      ap (λ (n : ℕ). eqb n 0) (c .ring-size .ensures) ∙ ring-open (start .pre .0) at (omega (arith, start .pre .1, passing .loop-test .taken))
 
 -- ---- the answers, in the order of the code
 loop-holds : tie.Need-loop-holds Inv-loop μ-loop
-loop-holds c = let s = c .before .before in (omega arith, any-start (corner-open (s .args .faces .now) (s .args .g)))
+loop-holds c = let s = c .before in (omega arith, any-start (corner-open (s .args .faces .now) (s .args .g)))
 
-mul-wide : tie.Need-mul-wide Inv-loop μ-loop
-mul-wide c = omega (arith, entry c .pre .1)
+mul-ring-size : tie.Need-mul-ring-size Inv-loop μ-loop
+mul-ring-size c = omega (arith, entry c .pre .1)
 
-add-wide : tie.Need-add-wide Inv-loop μ-loop
-add-wide c = omega (arith, entry c .pre .1)
+add-ring-size : tie.Need-add-ring-size Inv-loop μ-loop
+add-ring-size c = omega (arith, entry c .pre .1)
 
-mul-wide-2 : tie.Need-mul-wide-2 Inv-loop μ-loop
-mul-wide-2 c = omega (arith, entry c .pre .1)
-
-shared-slice-read-wide : tie.Need-shared-slice-read-wide Inv-loop μ-loop
-shared-slice-read-wide c = omega (arith, entry (c .before) .pre .1)
-
-wide-requires : tie.Need-wide-requires Inv-loop μ-loop
-wide-requires c κs = tt
-
-on-boundary-requires : tie.Need-on-boundary-requires Inv-loop μ-loop
-on-boundary-requires c κs = entry (c .before .before) .pre .0
+ring-size-requires : tie.Need-ring-size-requires Inv-loop μ-loop
+ring-size-requires c κs = (entry c .pre .0, omega (arith, entry c .pre .1, c .loop-test .taken))
 
 returns : tie.Need-returns Inv-loop μ-loop
-returns c = let d = c .before in any-found (asked d) 4 (head d .loop .s) _ (passing d .loop-test .taken) (told d) (c .if1 .taken)
+returns c = let d = c .before in any-found (asked d) 4 (head d .loop .s) _ (omega (arith, passing d .loop-test .taken)) (told d) (eq-eqb _ 0 (c .if1 .taken))
 
 add-s : tie.Need-add-s Inv-loop μ-loop
 add-s c = omega arith
@@ -79,12 +73,12 @@ loop-less c = omega (arith, passing (c .before) .loop-test .taken)
 loop-again : tie.Need-loop-again Inv-loop μ-loop
 loop-again c =
     let d = c .before in
-    (omega (arith, passing d .loop-test .taken), any-more (asked d) (head d .loop .s) _ (head d .loop .inv .1) (told d) (c .if1 .left))
+    (omega (arith, passing d .loop-test .taken), any-more (asked d) (head d .loop .s) _ (head d .loop .inv .1) (told d) (ne-eqb _ 0 (c .if1 .left)))
 
 returns-2 : tie.Need-returns-2 Inv-loop μ-loop
 returns-2 c =
     let l = c .before .loop in
-    let s = c .before .before .before .before in
+    let s = c .before .before .before in
     any-not (corner-open (s .args .faces .now) (s .args .g)) 4 (l .s) (l .inv .1) (c .loop-test .left)
 
 pub face-open-spec : {M : Type 1} → statement M
@@ -94,12 +88,9 @@ face-open-spec =
     Inv-loop
     μ-loop
     loop-holds
-    mul-wide
-    add-wide
-    mul-wide-2
-    shared-slice-read-wide
-    wide-requires
-    on-boundary-requires
+    mul-ring-size
+    add-ring-size
+    ring-size-requires
     returns
     add-s
     loop-less

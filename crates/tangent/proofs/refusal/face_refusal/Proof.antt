@@ -16,7 +16,7 @@ use Rattle.tangent.proofs.refusal.face_refusal.Tie as tie
 -- ---- the first row is checked
 module _ (m : tie.After-first-met) where
   abbrev start : tie.Start
-  start = m .before .before .before
+  start = m .before .before
 
   abbrev first : List Row
   first = row (leb (start .args .f) (start .args .g)) 12 ∷ []

@@ -18,9 +18,14 @@ use Rattle.tangent.proofs.RingLaws.{partial-size, next-turned, turned-s
 use Rattle.tangent.proofs.ring.ring_sum.Statement.{statement}
 use Rattle.tangent.proofs.ring.ring_sum.Tie as tie
 
+-- after i turns: e is the corner that they lead to, and the sum has the terms below i
+record Passed (values : List ℤ) (twins : List ℕ) (n k c e sum i : ℕ) : Type 0 where
+  most : i ≤ n
+  here : e ≡ turnedAt twins c i
+  sums : sum ≡ ofZ w64 (sumBelowℤ (termAt values twins n k c) i)
+
 abbrev Inv-loop : tie.InvT-loop
-Inv-loop values twins edge face n k c e₀ sum₀ i₀ e sum i =
-    (i ≤ n) × (e ≡ turnedAt twins c i) × (sum ≡ ofZ w64 (sumBelowℤ (termAt values twins n k c) i))
+Inv-loop values twins edge face n k c e₀ sum₀ i₀ e sum i = Passed values twins n k c e sum i
 
 abbrev μ-loop : tie.MeasureT-loop
 μ-loop values twins edge face n k c e₀ sum₀ i₀ e sum i = n - i
@@ -46,10 +51,10 @@ module _ (l : tie.At-loop Inv-loop μ-loop) where
   partial = sumBelowℤ term i
 
   size : natAbs partial ≤ 2 ^ 47
-  size = partial-size (given .pre .small) twins (given .args .n) (given .args .k) c i (omega (arith, l .loop .inv .0, given .pre .most))
+  size = partial-size (given .pre .small) twins (given .args .n) (given .args .k) c i (omega (arith, l .loop .inv .most, given .pre .most))
 
   sum-is : toZ w64 (l .loop .sum) ≡ partial
-  sum-is = ap (toZ w64) (l .loop .inv .2) ∙ toZ-ofZ (sfits-abs partial (omega (arith, size)))
+  sum-is = ap (toZ w64) (l .loop .inv .sums) ∙ toZ-ofZ (sfits-abs partial (omega (arith, size)))
 
 -- ---- the term is known
 module _ (d : tie.After-term Inv-loop μ-loop) where
@@ -57,11 +62,15 @@ module _ (d : tie.After-term Inv-loop μ-loop) where
   head = d .before .before
 
   added : toZ w64 (ofZ w64 (d .term .result)) ≡ term head (i head)
-  added = read-back w64 (d .term .ok) (rw (head .loop .inv .1) at (d .term .ensures .0))
+  added = read-back w64 (d .term .ok) (rw (head .loop .inv .here) at (d .term .ensures .0))
 
 -- ---- the answers, in the order of the code
 loop-holds : tie.Need-loop-holds Inv-loop μ-loop
-loop-holds s = (omega arith, sym (turned-start (s .args .twins .now) (s .args .c)), ap (ofZ w64) (sym (fold-zero (pos 0) _+ℤ_ _)))
+loop-holds s = record {
+  most = omega arith;
+  here = sym (turned-start (s .args .twins .now) (s .args .c));
+  sums = ap (ofZ w64) (sym (fold-zero (pos 0) _+ℤ_ _));
+}
 
 term-requires : tie.Need-term-requires Inv-loop μ-loop
 term-requires d κs = (given (d .before) .pre, d .loop-test .taken)
@@ -81,16 +90,17 @@ loop-less d = omega arith
 loop-again : tie.Need-loop-again Inv-loop μ-loop
 loop-again a =
     let d = a .before .before in
-    let h = head d in (
-      omega arith,
-      a .around .ensures ∙ ap (λ (e : ℕ). linkAt (twins h) (prev e)) (h .loop .inv .1) ∙ next-turned (twins h) (c h) (i h),
-      ap (ofZ w64) (a .before .plus .ensures ∙ ap₂ _+ℤ_ (sum-is h) (added d) ∙ sym (fold-step (pos 0) _+ℤ_ (term h) (i h))),
-    )
+    let h = head d in
+    record {
+      most = omega arith;
+      here = a .around .ensures ∙ ap (λ (e : ℕ). linkAt (twins h) (prev e)) (h .loop .inv .here) ∙ next-turned (twins h) (c h) (i h);
+      sums = ap (ofZ w64) (a .before .plus .ensures ∙ ap₂ _+ℤ_ (sum-is h) (added d) ∙ sym (fold-step (pos 0) _+ℤ_ (term h) (i h)));
+    }
 
 returns : tie.Need-returns Inv-loop μ-loop
 returns d =
     let h = d .before in
-    let all = le-antisymm (h .loop .inv .0) (d .loop-test .left) in
+    let all = le-antisymm (h .loop .inv .most) (d .loop-test .left) in
     (sum-is h ∙ ap (sumBelowℤ (term h)) all, rw (sum-is h) (size h))
 
 pub ring-sum-spec : {M : Type 1} → statement M

@@ -9,7 +9,7 @@ use mir.Val.{toZ, ofZ}
 use mir.Facts.{toZ-ofZ}
 use Rattle.integer.proofs.Laws.{read-back}
 use Rattle.corner.specs.Corner.{next, across}
-use Rattle.cosine.specs.Weight.{edgeNumerator, faceNumerator, edgeWeight, faceWeight, place}
+use Rattle.cosine.specs.Weight.{edgeNumerator, faceNumerator, edgeWeight, faceWeight, weightPlace}
 use Rattle.cosine.proofs.WeightLaws.{Weighed, place-below, all-length, at-place}
 use Rattle.cosine.proofs.WeightSize.{edge-weight-size, face-weight-size}
 use Rattle.control.specs.Control.{valueAt}

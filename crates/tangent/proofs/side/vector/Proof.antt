@@ -10,7 +10,7 @@ use Rattle.integer.proofs.Difference.{int, ~, prove-eq}
 use Rattle.integer.proofs.Laws.{abs-neg, read-back}
 use Rattle.tangent.specs.Vector.{firstTerm, secondTerm, corrected}
 use Rattle.tangent.specs.Lists.{vectorOf}
-use Rattle.tangent.proofs.DocumentLaws.{steps-back, first-back}
+use Rattle.tangent.proofs.DocumentLaws.{triple-difference-back, first-back}
 use Rattle.tangent.proofs.SideLaws.{Fitting, fitting}
 use Rattle.tangent.proofs.side.vector.Statement.{statement}
 use Rattle.tangent.proofs.side.vector.Tie as tie
@@ -26,7 +26,7 @@ from-the-end : (k0 k1 near far end : ℤ)
     → firstTerm k1 k0 (negℤ end) (pos 3 *ℤ (near -ℤ far)) ≡ secondTerm k0 k1 (pos 3 *ℤ (far -ℤ near)) end
 from-the-end k0 k1 near far end =
     first-back k1 k0 (negℤ end) (pos 3 *ℤ (near -ℤ far))
-    ∙ ap₂ (secondTerm k0 k1) (steps-back near far) (prove-eq (~ (~ (int end))) (int end) (omega arith))
+    ∙ ap₂ (secondTerm k0 k1) (triple-difference-back near far) (prove-eq (~ (~ (int end))) (int end) (omega arith))
 
 -- ---- the end vector, reversed
 reversed-is : (c : tie.After-negated) → toZ w64 (ofZ w64 (c .negated .result)) ≡ negℤ (c .before .before .before .before .args .a .end)
@@ -47,8 +47,8 @@ enum-told c = search needs
 enum-told-2 : tie.Need-enum-told-2
 enum-told-2 c = search needs
 
-steps-requires : tie.Need-steps-requires
-steps-requires c κs =
+triple-difference-requires : tie.Need-triple-difference-requires
+triple-difference-requires c κs =
     let s = c .before .before .before .before in (rw (toZ-ofZ (whole s .far)) (s .pre .far), rw (toZ-ofZ (whole s .near)) (s .pre .near))
 
 enum-told-3 : tie.Need-enum-told-3
@@ -57,8 +57,8 @@ enum-told-3 c = search needs
 enum-told-4 : tie.Need-enum-told-4
 enum-told-4 c = search needs
 
-steps-requires-2 : tie.Need-steps-requires-2
-steps-requires-2 c κs =
+triple-difference-requires-2 : tie.Need-triple-difference-requires-2
+triple-difference-requires-2 c κs =
     let s = c .before .before .before .before in
     (rw (toZ-ofZ (whole s .inner-far)) (s .pre .inner-far), rw (toZ-ofZ (whole s .inner-near)) (s .pre .inner-near))
 
@@ -99,8 +99,8 @@ returns-2 c =
     let told = c .before .before .before in
     let s = told .before .before in
     rw (told .enum-told2 .given .1) (
-      read-back w64 (c .steps .ok) (rw (toZ-ofZ (whole s .far), toZ-ofZ (whole s .near)) at (c .steps .ensures .0)),
-      rw (read-back w64 (c .steps .ok) refl) (omega (arith, c .steps .ensures .1)),
+      read-back w64 (c .triple-difference .ok) (rw (toZ-ofZ (whole s .far), toZ-ofZ (whole s .near)) at (c .triple-difference .ensures .0)),
+      rw (read-back w64 (c .triple-difference .ok) refl) (omega (arith, c .triple-difference .ensures .1)),
     )
 
 returns-3 : tie.Need-returns-3
@@ -116,8 +116,8 @@ returns-4 c =
     let told = c .before .before .before in
     let s = told .before .before in
     rw (told .enum-told4 .given .1) (
-      read-back w64 (c .steps2 .ok) (rw (toZ-ofZ (whole s .inner-far), toZ-ofZ (whole s .inner-near)) at (c .steps2 .ensures .0)),
-      rw (read-back w64 (c .steps2 .ok) refl) (omega (arith, c .steps2 .ensures .1)),
+      read-back w64 (c .triple-difference2 .ok) (rw (toZ-ofZ (whole s .inner-far), toZ-ofZ (whole s .inner-near)) at (c .triple-difference2 .ensures .0)),
+      rw (read-back w64 (c .triple-difference2 .ok) refl) (omega (arith, c .triple-difference2 .ensures .1)),
     )
 
 returns-5 : tie.Need-returns-5
@@ -155,10 +155,10 @@ vector-spec =
     (tie.spec
     enum-told
     enum-told-2
-    steps-requires
+    triple-difference-requires
     enum-told-3
     enum-told-4
-    steps-requires-2
+    triple-difference-requires-2
     enum-told-5
     into-requires
     enum-told-6

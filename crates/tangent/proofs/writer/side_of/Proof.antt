@@ -4,13 +4,14 @@ use native.Mathlib.Omega.{arith}
 use mir.Syntax.{w64}
 use mir.Facts.{toZ-ofZ}
 use Rattle.integer.proofs.Laws.{read-back}
-use Rattle.tangent.specs.Lists.{Placed, sideFrom}
+use Rattle.tangent.specs.Lists.{PartPlaced}
+use Rattle.tangent.proofs.SideLaws.{side-told}
 use Rattle.tangent.proofs.writer.side_of.Statement.{statement}
 use Rattle.tangent.proofs.writer.side_of.Tie as tie
 
 -- ---- what each look-up asks, and the function's entry from behind two, four and six of them
 module _ (s : tie.Start) where
-  asked : {t : ℕ} → t < 6 → Placed (s .args .parts .now) t (s .args .s) (s .args .k)
+  asked : {t : ℕ} → t < 6 → PartPlaced (s .args .parts .now) t (s .args .s) (s .args .k)
   asked l = record { listed = s .pre .0 .parts-listed; part = l; side = s .pre .1; axis = s .pre .2 }
 
 abbrev start₂ : tie.After-listed2 → tie.Start
@@ -57,7 +58,6 @@ shared-slice-copy-out-t18 : tie.Need-shared-slice-copy-out-t18
 shared-slice-copy-out-t18 c = let s = start₆ (c .before) in omega (arith, s .pre .0 .cosines-listed)
 
 returns : tie.Need-returns
-unfolding sideFrom
 returns c =
     let last = c .before .before in
     let fifth = last .before in
@@ -65,16 +65,16 @@ returns c =
     let third = fourth .before in
     let second = third .before in
     let first = second .before in
-    rw (
-      read-back w64 (first .listed .ok) (first .listed .ensures),
-      read-back w64 (second .listed2 .ok) (second .listed2 .ensures),
-      read-back w64 (third .listed3 .ok) (third .listed3 .ensures),
-      read-back w64 (fourth .listed4 .ok) (fourth .listed4 .ensures),
-      read-back w64 (fifth .listed5 .ok) (fifth .listed5 .ensures),
-      read-back w64 (last .listed6 .ok) (last .listed6 .ensures),
-      toZ-ofZ (record { sfits = c .before .t13 .given }),
-      toZ-ofZ (record { sfits = c .t18 .given }),
-    )
+    let s = first .before in
+    side-told (s .args .parts .now) (s .args .cosines .now) (s .args .s) (s .args .k)
+    (read-back w64 (first .listed .ok) (first .listed .ensures))
+    (read-back w64 (second .listed2 .ok) (second .listed2 .ensures))
+    (read-back w64 (third .listed3 .ok) (third .listed3 .ensures))
+    (read-back w64 (fourth .listed4 .ok) (fourth .listed4 .ensures))
+    (read-back w64 (fifth .listed5 .ok) (fifth .listed5 .ensures))
+    (read-back w64 (last .listed6 .ok) (last .listed6 .ensures))
+    (toZ-ofZ (record { sfits = c .before .t13 .given }))
+    (toZ-ofZ (record { sfits = c .t18 .given }))
 
 pub side-of-spec : {M : Type 1} → statement M
 side-of-spec =

@@ -1,19 +1,15 @@
 -- `write_numbers` meets its contract: after i turns the first i places hold their numbers.
-use mathlib.Core.Path.{_≡_, refl}
-use Prim.Native.Nat.{_-_, _≤_}
+use Prim.Native.Nat.{_-_}
 use native.Mathlib.Omega.{arith}
-use lib.ListN.{length, length-set}
 use mir.Syntax.{w64}
 use Rattle.integer.proofs.Laws.{read-back}
-use Rattle.finite.specs.Filled.{filled}
-use Rattle.finite.proofs.FilledLaws.{filled-start, filled-more, filled-all}
-use Rattle.tangent.specs.Lists.{numberFrom}
+use Rattle.patch.proofs.FillingLaws.{Filling, filling-none, filling-room, filling-more, filling-all}
+use Rattle.tangent.specs.Lists.{numberFromParts}
 use Rattle.tangent.proofs.writer.write_numbers.Statement.{statement}
 use Rattle.tangent.proofs.writer.write_numbers.Tie as tie
 
 abbrev Inv-loop : tie.InvT-loop
-Inv-loop parts cosines tangents₀ i₀ tangents i =
-    (i ≤ 72) × (length tangents ≡ length tangents₀) × (tangents ≡ filled (numberFrom parts cosines) i tangents₀)
+Inv-loop parts cosines tangents₀ i₀ tangents i = Filling (numberFromParts parts cosines) 72 tangents₀ tangents i
 
 abbrev μ-loop : tie.MeasureT-loop
 μ-loop parts cosines tangents₀ i₀ tangents i = 72 - i
@@ -23,7 +19,7 @@ abbrev head : tie.After-number Inv-loop μ-loop → tie.At-loop Inv-loop μ-loop
 head c = c .before .before
 
 loop-holds : tie.Need-loop-holds Inv-loop μ-loop
-loop-holds c = (omega arith, refl, filled-start _ _)
+loop-holds c = filling-none
 
 number-requires : tie.Need-number-requires Inv-loop μ-loop
 number-requires c κs = (c .before .before .pre .0, omega arith)
@@ -32,7 +28,7 @@ mul-t7 : tie.Need-mul-t7 Inv-loop μ-loop
 mul-t7 c = omega arith
 
 slice-set-from-tangents : tie.Need-slice-set-from-tangents Inv-loop μ-loop
-slice-set-from-tangents c = omega (arith, head c .loop .inv .1, head c .before .pre .1)
+slice-set-from-tangents c = filling-room (head c .before .pre .1) (head c .loop .inv) (c .before .loop-test .taken)
 
 add-i : tie.Need-add-i Inv-loop μ-loop
 add-i c = omega arith
@@ -42,21 +38,13 @@ loop-less c = omega arith
 
 loop-again : tie.Need-loop-again Inv-loop μ-loop
 loop-again c =
-    let l = head c .loop in
-    let s = head c .before in (
-      omega arith,
-      rw length-set (l .inv .1),
-      filled-more _ (l .i) _ (s .args .tangents .now) (l .tangents) (omega (arith, s .pre .1)) (l .inv .2)
-          (read-back w64 (c .number .ok) (c .number .ensures)),
-    )
+    filling-more (head c .before .pre .1) (head c .loop .inv) (c .before .loop-test .taken) (read-back w64 (c .number .ok) (c .number .ensures))
 
 same-length : tie.Need-same-length Inv-loop μ-loop
-same-length c = c .before .loop .inv .1
+same-length c = c .before .loop .inv .long
 
 returns : tie.Need-returns Inv-loop μ-loop
-returns c =
-    let l = c .before .loop in
-    filled-all _ 72 (l .i) (c .before .before .args .tangents .now) (l .tangents) (l .inv .0) (c .loop-test .left) (l .inv .2)
+returns c = filling-all (c .before .loop .inv) (c .loop-test .left)
 
 pub write-numbers-spec : {M : Type 1} → statement M
 write-numbers-spec =
