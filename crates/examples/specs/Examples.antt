@@ -64,7 +64,7 @@ abbrev samplingNumbers : IndexedMesh → ℕ → ℕ → ℕ → ℕ → List �
 samplingNumbers M n f a b = sampleNumbers (sampleAnswer (patchesAfter M []) f n a b)
 
 -- the mirror call's answer, with so many places lent for positions, tags and faces: nothing where it is done, or the number of the refusal alone
-abbrev refusalNumber : Answer Unit → List ℤ
+abbrev pub refusalNumber : Answer Unit → List ℤ
 refusalNumber (result done) = []
 refusalNumber (refusal k) = pos k ∷ []
 

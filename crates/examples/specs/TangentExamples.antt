@@ -25,7 +25,7 @@ use Rattle.tangent.specs.Vector.{cornerVector, endVector, middleVector, innerVe
 use Rattle.tangent.specs.Tangent.{vector, rowOf, tangent, tangentNumber, tangentList}
 use Rattle.tangent.specs.Answer.{faceOpen, tangentAnswer}
 use Rattle.examples.specs.Meshes.{cube, strip, tagged, boxes, grid}
-use Rattle.examples.specs.Examples.{Example, example, computedAll, statedAll}
+use Rattle.examples.specs.Examples.{Example, example, computedAll, statedAll, refusalNumber}
 
 abbrev neg : ℕ → ℤ
 neg n = negℤ (pos n)
@@ -34,12 +34,8 @@ abbrev vec : ℤ → ℤ → ℤ → List ℤ
 vec x y z = x ∷ y ∷ z ∷ []
 
 -- the number that the call refuses with, on a list of so many places; nothing where it writes the tangents
-abbrev answered : Answer Unit → List ℤ
-answered (result a) = []
-answered (refusal k) = pos k ∷ []
-
-abbrev asked : IndexedMesh → ℕ → ℕ → List ℤ
-asked M g n = answered (tangentAnswer M g (replicate n (pos 0)))
+abbrev tangentNumber : IndexedMesh → ℕ → ℕ → List ℤ
+tangentNumber M g n = refusalNumber (tangentAnswer M g (replicate n (pos 0)))
 
 -- the cube, face 0: four corners of three faces each. Four rows of u, then three of v
 abbrev cubeTangents : List ℤ
@@ -72,18 +68,18 @@ boxTangents =
 unfoldable pub answers : List Example
 answers =
     -- nothing is met; no such face; another length; both: row 12 is before row 18
-    example (asked cube 5 72) []
-    ∷ example (asked cube 6 72) (pos 12 ∷ [])
-    ∷ example (asked cube 5 71) (pos 18 ∷ [])
-    ∷ example (asked cube 5 73) (pos 18 ∷ [])
-    ∷ example (asked cube 6 71) (pos 12 ∷ [])
+    example (tangentNumber cube 5 72) []
+    ∷ example (tangentNumber cube 6 72) (pos 12 ∷ [])
+    ∷ example (tangentNumber cube 5 71) (pos 18 ∷ [])
+    ∷ example (tangentNumber cube 5 73) (pos 18 ∷ [])
+    ∷ example (tangentNumber cube 6 71) (pos 12 ∷ [])
     -- a cause of the mesh is before both
-    ∷ example (asked (tagged cube (0 ∷ 0 ∷ 0 ∷ 0 ∷ 0 ∷ 0 ∷ 0 ∷ 1 ∷ [])) 6 71) (pos 11 ∷ [])
+    ∷ example (tangentNumber (tagged cube (0 ∷ 0 ∷ 0 ∷ 0 ∷ 0 ∷ 0 ∷ 0 ∷ 1 ∷ [])) 6 71) (pos 11 ∷ [])
     -- every corner on the boundary; three of them; two of them; none
-    ∷ example (asked strip 0 72) (pos 18 ∷ [])
-    ∷ example (asked grid 0 72) (pos 18 ∷ [])
-    ∷ example (asked grid 1 72) (pos 18 ∷ [])
-    ∷ example (asked grid 4 72) []
+    ∷ example (tangentNumber strip 0 72) (pos 18 ∷ [])
+    ∷ example (tangentNumber grid 0 72) (pos 18 ∷ [])
+    ∷ example (tangentNumber grid 1 72) (pos 18 ∷ [])
+    ∷ example (tangentNumber grid 4 72) []
     ∷ []
 
 pub cube-tangents-hold : tangentList cube 0 ≡ cubeTangents
