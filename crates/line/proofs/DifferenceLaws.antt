@@ -106,24 +106,22 @@ module _ (h : ℕ → ℤ) where
 
     -- at a = 0
     pub cubic-start : (let half = pos 0 +ℤ pos (3 * n) *ℤ forward₂ h 0 in
-        let third = pos 0 +ℤ pos 6 *ℤ forward₃ h 0 in
         differencesAt (cubic n h) 0 ≡ record {
           value = pos 0 +ℤ pos (n * n * n) *ℤ h 0;
           first = half +ℤ forward₃ h 0 +ℤ pos (3 * n * n) *ℤ forward h 0;
-          second = third +ℤ pos 2 *ℤ half;
-          third = third;
+          second = pos 0 +ℤ pos 2 *ℤ (half +ℤ pos 3 *ℤ forward₃ h 0);
+          third = pos 0 +ℤ pos 6 *ℤ forward₃ h 0;
         })
     unfolding cubic
     cubic-start =
         let half : Expr = nat 0 ⊕ nat (3 * n) ⊛ int (forward₂ h 0) in
-        let third : Expr = nat 0 ⊕ nat 6 ⊛ int (forward₃ h 0) in
         let value = prove-eq (combined-expr (n * n * n) (3 * n * n * 0) (3 * n * 0 * 0) (0 * 0 * 0)) (nat 0 ⊕ nat (n * n * n) ⊛ int (h 0)) (omega arith) in
         let first =
         prove-eq (combined-expr 0 (3 * n * n) (3 * n * (2 * 0 + 1)) (3 * 0 * 0 + 3 * 0 + 1))
         (half ⊕ int (forward₃ h 0) ⊕ nat (3 * n * n) ⊛ int (forward h 0)) (omega arith) in
-        let second = prove-eq (combined-expr 0 0 (6 * n) (6 * (0 + 1))) (third ⊕ nat 2 ⊛ half) (omega arith) in
-        let last = prove-eq (combined-expr 0 0 0 6) third (omega arith) in
-        same-differences value (cubic-first 0 ∙ first) (cubic-second 0 ∙ second) (cubic-third 0 ∙ last)
+        let second = prove-eq (combined-expr 0 0 (6 * n) (6 * (0 + 1))) (nat 0 ⊕ nat 2 ⊛ (half ⊕ nat 3 ⊛ int (forward₃ h 0))) (omega arith) in
+        let third = prove-eq (combined-expr 0 0 0 6) (nat 0 ⊕ nat 6 ⊛ int (forward₃ h 0)) (omega arith) in
+        same-differences value (cubic-first 0 ∙ first) (cubic-second 0 ∙ second) (cubic-third 0 ∙ third)
 
     pub cubic-next : (a : ℕ) → nextOf (differencesAt (cubic n h) a) ≡ differencesAt (cubic n h) (a + 1)
     cubic-next a = next-is (cubic n h) a (cubic-third a ∙ sym (cubic-third (a + 1)))

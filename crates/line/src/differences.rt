@@ -31,7 +31,8 @@ fn differences(values: [i64; 4]) -> Differences
     }
 }
 
-// The sum along a curve at a = 0, and its three differences.
+// The sum along a curve at a = 0, and its three differences. The second is doubled as a whole: where the third is the last to be added to it, the
+// compiler takes that sum into the loop over a line, and works out the curve a second time for its start.
 pub(crate) fn first_sums(n: usize, curve: [i64; 4]) -> Differences
     requires { ⌜ Summable n curve ⌝ }
     ensures { λ r. ⌜ r ≡ differencesAt (cubic n (λ i. getD curve i (pos 0))) 0 ⌝ }
@@ -40,12 +41,11 @@ pub(crate) fn first_sums(n: usize, curve: [i64; 4]) -> Differences
     let d = differences(curve);
     let half = add_product(0, 3 * m, d.second);
     let first = add_product(half + d.third, 3 * m * m, d.first);
-    let third = add_product(0, 6, d.third);
     Differences {
         value: add_product(0, m * m * m, d.value),
         first,
-        second: add_product(third, 2, half),
-        third,
+        second: add_product(0, 2, half + 3 * d.third),
+        third: add_product(0, 6, d.third),
     }
 }
 

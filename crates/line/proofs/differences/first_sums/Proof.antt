@@ -1,13 +1,13 @@
 -- `first_sums` meets its contract: at a = 0 the sum and its differences are small multiples of the differences of the curve.
 use mathlib.Core.Path.{_≡_, refl, sym, ap, _∙_}
-use Prim.Native.Nat.{ℕ, _*_, _^_, _≤_}
+use Prim.Native.Nat.{ℕ, _+_, _*_, _^_, _≤_}
 use native.Mathlib.Nat.{mul-le-mul}
 use native.Mathlib.Omega.{arith}
 use lib.IntN.{ℤ, pos, natAbs, _+ℤ_, _*ℤ_}
 use lib.ListN.{getD}
 use Rattle.line.specs.declared.model.Differences.{Differences}
 use Rattle.line.specs.Differences.{forward, forward₂, forward₃, differencesAt}
-use Rattle.line.proofs.SizedLaws.{read, ReadAs, sized, plus-fits, plus-sized, sum-fits, sum-sized}
+use Rattle.line.proofs.SizedLaws.{read, ReadAs, sized, times-fits, times-sized, plus-fits, plus-sized, sum-fits, sum-sized}
 use Rattle.line.proofs.DifferenceLaws.{same-differences, first-size, second-size, third-size, cubic-start}
 use Rattle.line.proofs.differences.first_sums.Statement.{statement}
 use Rattle.line.proofs.differences.first_sums.Tie as tie
@@ -76,7 +76,7 @@ module _ (c : tie.After-add-product2) where
       sum-sized (plus-sized (half past-half) (curve-third entries-2) (omega arith)) (curve-first entries-2) _ 3072 (omega (arith, square (start entries-2)))
       (c .add-product2 .ok) (c .add-product2 .ensures) .is
 
--- ---- the third difference is there
+-- ---- the sum is there
 module _ (c : tie.After-add-product3) where
   abbrev past-first : tie.After-add-product2
   past-first = c .before .before
@@ -84,19 +84,34 @@ module _ (c : tie.After-add-product3) where
   abbrev entries-3 : tie.After-differences
   entries-3 = entries-2 past-first
 
-  third : ReadAs (read (c .add-product3 .result)) (pos 0 +ℤ pos 6 *ℤ forward₃ (at entries-3) 0) (6 * (8 * 2 ^ 45))
-  third = sum-sized zero (curve-third entries-3) 6 6 (omega arith) (c .add-product3 .ok) (c .add-product3 .ensures)
+  sum : (let n = start entries-3 .args .n in read (c .add-product3 .result) ≡ pos 0 +ℤ pos (n * n * n) *ℤ at entries-3 0)
+  sum = sum-sized zero (curve-value entries-3) _ 32768 (omega (arith, cube (start entries-3))) (c .add-product3 .ok) (c .add-product3 .ensures) .is
 
--- ---- the sum is there
+  -- half of the second difference, with the third
+  abbrev thrice-read : ℤ
+  thrice-read = read (pos 3 *ℤ read (entries-3 .differences .result .third))
+
+  thrice : ReadAs thrice-read (pos 3 *ℤ forward₃ (at entries-3) 0) (3 * (8 * 2 ^ 45))
+  thrice = times-sized 3 (curve-third entries-3) (omega arith)
+
+  whole-half : ReadAs (read (read (past-half past-first .add-product .result) +ℤ thrice-read))
+      (pos 0 +ℤ pos (3 * start entries-3 .args .n) *ℤ forward₂ (at entries-3) 0 +ℤ pos 3 *ℤ forward₃ (at entries-3) 0)
+      (96 * (4 * 2 ^ 45) + 3 * (8 * 2 ^ 45))
+  whole-half = plus-sized (half (past-half past-first)) thrice (omega arith)
+
+-- ---- the third difference of the curve is read again
+abbrev read-third-2 : tie.After-struct-told5 → tie.After-add-product3
+read-third-2 c = c .before .before
+
+-- ---- the second difference is there
 module _ (c : tie.After-add-product4) where
-  abbrev past-third : tie.After-add-product3
-  past-third = c .before .before
+  abbrev past-sum : tie.After-add-product3
+  past-sum = read-third-2 (c .before)
 
-  abbrev entries-4 : tie.After-differences
-  entries-4 = entries-3 past-third
-
-  sum : (let n = start entries-4 .args .n in read (c .add-product4 .result) ≡ pos 0 +ℤ pos (n * n * n) *ℤ at entries-4 0)
-  sum = sum-sized zero (curve-value entries-4) _ 32768 (omega (arith, cube (start entries-4))) (c .add-product4 .ok) (c .add-product4 .ensures) .is
+  second : (let n = start (entries-3 past-sum) .args .n in
+      let h = at (entries-3 past-sum) in
+      read (c .add-product4 .result) ≡ pos 0 +ℤ pos 2 *ℤ (pos 0 +ℤ pos (3 * n) *ℤ forward₂ h 0 +ℤ pos 3 *ℤ forward₃ h 0))
+  second = sum-sized zero (whole-half past-sum) 2 2 (omega arith) (c .add-product4 .ok) (c .add-product4 .ensures) .is
 
 -- ---- the answers, in the order of the code
 cast-m : tie.Need-cast-m
@@ -126,32 +141,38 @@ add-product-requires-2 c κs =
     let d = entries h in
     sum-fits (plus-sized (half h) (curve-third d) (omega arith)) (curve-first d) _ 3072 (omega (arith, square (start d))) (omega arith)
 
-add-product-requires-3 : tie.Need-add-product-requires-3
-add-product-requires-3 c κs = sum-fits zero (curve-third (entries-2 (c .before))) 6 6 (omega arith) (omega arith)
-
 mul-add-product-4 : tie.Need-mul-add-product-4
-mul-add-product-4 c = omega (arith, square (start (entries-3 c)))
+mul-add-product-4 c = omega (arith, square (start (entries-2 c)))
 
 mul-add-product-5 : tie.Need-mul-add-product-5
-mul-add-product-5 c = omega (arith, cube (start (entries-3 c)))
+mul-add-product-5 c = omega (arith, cube (start (entries-2 c)))
+
+add-product-requires-3 : tie.Need-add-product-requires-3
+add-product-requires-3 c κs = let d = entries-2 (c .before) in sum-fits zero (curve-value d) _ 32768 (omega (arith, cube (start d))) (omega arith)
+
+mul-add-product-6 : tie.Need-mul-add-product-6
+mul-add-product-6 c = times-fits 3 (curve-third (entries-3 (read-third-2 c))) (omega arith)
+
+add-add-product-2 : tie.Need-add-add-product-2
+add-add-product-2 c = let s = read-third-2 c in plus-fits (half (past-half (past-first s))) (thrice s) (omega arith)
 
 add-product-requires-4 : tie.Need-add-product-requires-4
-add-product-requires-4 c κs = let d = entries-3 (c .before) in sum-fits zero (curve-value d) _ 32768 (omega (arith, cube (start d))) (omega arith)
+add-product-requires-4 c κs = sum-fits zero (whole-half (read-third-2 c)) 2 2 (omega arith) (omega arith)
 
 add-product-requires-5 : tie.Need-add-product-requires-5
-add-product-requires-5 c κs = let t = past-third c in sum-fits (third t) (half (past-half (past-first t))) 2 2 (omega arith) (omega arith)
+add-product-requires-5 c κs = sum-fits zero (curve-third (entries-3 (past-sum (c .before)))) 6 6 (omega arith) (omega arith)
 
 returns : tie.Need-returns
 returns c =
-    let p : tie.After-add-product4 = c .before in
-    let t = past-third p in
-    let f = past-first t in
+    let s : tie.After-add-product4 = c .before .before in
+    let p = past-sum s in
+    let d = entries-3 p in
     same-differences
     (sum p)
-    (first f)
-    (sum-sized (third t) (half (past-half f)) 2 2 (omega arith) (c .add-product5 .ok) (c .add-product5 .ensures) .is)
-    (third t .is)
-    ∙ sym (cubic-start (at (entries-4 p)) (start (entries-4 p) .args .n))
+    (first (past-first p))
+    (second s)
+    (sum-sized zero (curve-third d) 6 6 (omega arith) (c .add-product5 .ok) (c .add-product5 .ensures) .is)
+    ∙ sym (cubic-start (at d) (start d .args .n))
 
 pub first-sums-spec : {M : Type 1} → statement M
 first-sums-spec =
@@ -165,9 +186,11 @@ first-sums-spec =
     mul-add-product-2
     mul-add-product-3
     add-product-requires-2
-    add-product-requires-3
     mul-add-product-4
     mul-add-product-5
+    add-product-requires-3
+    mul-add-product-6
+    add-add-product-2
     add-product-requires-4
     add-product-requires-5
     returns)
