@@ -1,6 +1,8 @@
 """What tools/mutants is made of.
 
 tokens       the words of the two languages, with their places
+items        the functions and constants of a file of the code
+statements   the statements of a function, each left out
 code         what one edit makes of a function or a constant
 definitions  what one edit makes of a definition
 mutants      mutants with their keys, those of a crate, and a sample of them

@@ -14,9 +14,10 @@ constants    all of these in the value; in a table of more than 8 entries 4 of t
 
 import random
 import re
-from typing import NamedTuple
 
-from mutation.tokens import CODE, closing, parts, tokens, top_level
+from mutation.items import Edit, items
+from mutation.statements import statements_left_out
+from mutation.tokens import CODE, closing, parts, tokens
 
 OPERATORS = {
     "+": "-",
@@ -49,80 +50,11 @@ RANGES = ("..", "..=")
 TURNS = ("next", "prev", "across")
 CORNERS = tuple(f"{turn}_corner" for turn in TURNS)
 
-CONTRACTS = ("requires", "ensures", "invariant", "decreases")
-HEADED = ("if", "while", "for", "match", "loop")
 KEYWORDS = frozenset("as break const continue else fn for if impl in let loop match move mut pub ref return unsafe use while".split())
 
 NUMBER = re.compile(r"(0x[0-9a-fA-F_]+|[\d_]+)(\.[\d_]+)?([iuf]\d+|usize|isize)?$")
 
 FEW_ENTRIES, CHOSEN = 8, 4
-
-
-class Item(NamedTuple):
-    """A function or a constant: its kind, its name, where its words start, and where those of its body or value start and stop."""
-
-    kind: str
-    name: str
-    first: int
-    start: int
-    stop: int
-
-
-class Edit(NamedTuple):
-    """A change of a text: from where, to where, what stands there then, and the item that it is in."""
-
-    start: int
-    end: int
-    text: str
-    name: str
-
-
-# ---- The items of a file.
-
-
-def function_body(words, at):
-    """Where the brace of the body of the function at this place is; None for one without a body."""
-    while at < len(words):
-        if words[at].text in CONTRACTS and words[at + 1].text == "{":
-            at = closing(words, at + 1) + 1
-        elif words[at].text == "{":
-            return at
-        elif words[at].text == ";":
-            return None
-        else:
-            at = closing(words, at) + 1 if words[at].text in "([" else at + 1
-    return None
-
-
-def constant_value(words, at):
-    """Where the value of the constant at this place starts, and where the mark behind it is."""
-    here = [place for place in top_level(words, at, len(words)) if words[place].text in ("=", ";")]
-    return here[0] + 1, here[1]
-
-
-def items(words, start=0, stop=None, owner=""):
-    """The functions and constants of a file, those of an `impl` with the name of its type."""
-    at, stop = start, len(words) if stop is None else stop
-    while at < stop:
-        text = words[at].text
-        if text == "fn":
-            name, body = owner + words[at + 1].text, function_body(words, at)
-            if body is None:
-                at += 1
-                continue
-            end = closing(words, body)
-            yield Item("fn", name, at, body, end + 1)
-            at = end + 1
-        elif text == "const" and words[at + 1].text != "fn":
-            begin, end = constant_value(words, at)
-            yield Item("const", owner + words[at + 1].text, at, begin, end)
-            at = end + 1
-        elif text == "impl":
-            brace = function_body(words, at)
-            yield from items(words, brace + 1, closing(words, brace), f"{words[brace - 1].text}::")
-            at = closing(words, brace) + 1
-        else:
-            at = closing(words, at) + 1 if text in ("{", "(", "[") else at + 1
 
 
 # ---- One word for another.
@@ -215,81 +147,6 @@ def arguments_exchanged(text, words, item):
             given = list(parts(words, at + 2, closing(words, at + 1)))
             for one, other in zip(given, given[1:]):
                 yield from exchanged(text, words, one, other, item.name)
-
-
-# ---- Statements.
-
-
-def blocks(words, start, stop):
-    """The places of the braces that open blocks of statements: behind a condition, `else` or an arrow; no literal and no arms of a match."""
-    waiting = []
-    for at in range(start, stop):
-        text = words[at].text
-        if text in HEADED:
-            waiting.append(text)
-        elif text == "{" and waiting:
-            if waiting.pop() != "match":
-                yield at
-        elif text == "{" and (at == start or words[at - 1].text in ("else", "=>")):
-            yield at
-
-
-def headed_end(words, at):
-    """Where an `if`, a loop or a `match` ends, with its `else`."""
-    while words[at].text != "{":
-        at = closing(words, at) + 1 if words[at].text in "([" else at + 1
-    end = closing(words, at) + 1
-    return headed_end(words, end) if words[end].text == "else" else end
-
-
-def statement_end(words, at, stop):
-    """Where the statement at this place ends, and whether it is one, not the value of its block."""
-    if words[at].text in HEADED:
-        end = headed_end(words, at)
-        return end, end < stop or words[at].text in ("for", "while") or words[at].text == "if" and "else" not in texts(words, at, end)
-    for end in top_level(words, at, stop):
-        if words[end].text == ";":
-            return end + 1, True
-    return stop, False
-
-
-def texts(words, start, stop):
-    """The words from start to stop that are in no further bracket."""
-    return [words[at].text for at in top_level(words, start, stop)]
-
-
-def statements(words, brace):
-    """The statements of the block that a brace opens, as pairs of places."""
-    at, stop = brace + 1, closing(words, brace)
-    while at < stop:
-        end, is_one = statement_end(words, at, stop)
-        if is_one:
-            yield at, end
-        at = end
-
-
-def binds_anew(words, item, at):
-    """Whether the `let` at this place binds a name that is bound before it."""
-    name = words[at + 2 if words[at + 1].text == "mut" else at + 1].text
-    before = range(item.first, at)
-    return any(words[b].text == name and (words[b + 1].text == ":" or words[b - 1].text in ("let", "mut", "for")) for b in before)
-
-
-def alone(words, brace, found):
-    """Whether the statement found is all that an `if` without `else` or a loop has: it goes with it."""
-    end = closing(words, brace)
-    return found == [(brace + 1, end)] and words[brace - 1].text not in ("else", "=>") and words[end + 1].text != "else"
-
-
-def statements_left_out(words, item):
-    """Each statement left out."""
-    for brace in blocks(words, item.start, item.stop):
-        found = list(statements(words, brace))
-        if brace != item.start and alone(words, brace, found):
-            continue
-        for start, stop in found:
-            if words[start].text != "let" or binds_anew(words, item, start):
-                yield Edit(words[start].start, words[stop - 1].end, "", item.name)
 
 
 # ---- Constants.
