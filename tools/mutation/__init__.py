@@ -1,6 +1,7 @@
 """What tools/mutants is made of.
 
 tokens       the words of the two languages, with their places
+signatures   the types of arguments, by which some are not exchanged
 items        the functions and constants of a file of the code
 statements   the statements of a function, each left out
 code         what one edit makes of a function or a constant

@@ -3,7 +3,7 @@
 operators    + - * / % && || & | << >> and their assignments each as another one; a comparison as its neighbour
 numbers      one up and one down; 0 down only where it is written as a signed number
 booleans     true and false; a `!` left out
-arguments    two of a call that stand side by side, exchanged
+arguments    two of a call that stand side by side, exchanged, unless they are known to be of two types
 statements   left out: an early return, an `if` without `else`, a loop, an assignment, a call; a `let` only where its name is bound before. The only
              statement of an `if` or a loop goes with it
 corners      next, prev and across, as functions of the crate `corner`, as fields, as variables
@@ -14,8 +14,10 @@ constants    all of these in the value; in a table of more than 8 entries 4 of t
 
 import random
 import re
+from types import MappingProxyType
 
 from mutation.items import Edit, items
+from mutation.signatures import can_change_places
 from mutation.statements import statements_left_out
 from mutation.tokens import CODE, closing, parts, tokens
 
@@ -140,13 +142,14 @@ def exchanged(text, words, one, other, name):
     return [] if first == second else [Edit(start, stop, second + text[slice(*middle)] + first, name)]
 
 
-def arguments_exchanged(text, words, item):
+def arguments_exchanged(text, words, item, types):
     """Two neighbours among the arguments of each call exchanged."""
     for at in range(item.start, item.stop - 1):
         if words[at].kind == "name" and words[at].text not in KEYWORDS and words[at + 1].text == "(":
             given = list(parts(words, at + 2, closing(words, at + 1)))
-            for one, other in zip(given, given[1:]):
-                yield from exchanged(text, words, one, other, item.name)
+            for number, (one, other) in enumerate(zip(given, given[1:])):
+                if words[at - 1].text == "." or can_change_places(types, words[at].text, number):
+                    yield from exchanged(text, words, one, other, item.name)
 
 
 # ---- Constants.
@@ -160,23 +163,23 @@ def entries(words, item):
 
 
 def table_changed(text, words, item, found, seed):
-    """Some entries of a table changed: a number or a truth as another, any other entry for the next one."""
+    """The entries of a table changed, of a long one some chosen: a number or a truth as another, any other entry for the next one."""
     chosen = range(len(found))
     if len(found) > FEW_ENTRIES:
-        chosen = sorted(random.Random(f"{seed} {item.name} {len(found)}").sample(chosen, CHOSEN))
-    for number in chosen:
+        chosen = random.Random(f"{seed} {item.name} {len(found)}").sample(chosen, CHOSEN)
+    for number in range(len(found)):
         one = item._replace(start=found[number][0], stop=found[number][1])
         changed = list(words_changed(words, one))
         if not changed and number + 1 < len(found):
             changed = exchanged(text, words, found[number], found[number + 1], item.name)
-        yield from changed
+        yield from (edit._replace(chosen=number in chosen) for edit in changed)
 
 
 # ---- All of it.
 
 
-def edits(text, seed=0):
-    """All changes of the functions and constants of a file, in the order of the text."""
+def edits(text, seed=0, types=MappingProxyType({})):
+    """All changes of the functions and constants of a file, in the order of the text; types has those of the arguments of functions, by name."""
     words = tokens(CODE, text)
     made = []
     for item in items(words):
@@ -186,7 +189,7 @@ def edits(text, seed=0):
             continue
         made.extend(words_changed(words, item))
         made.extend(corners_changed(words, item))
-        made.extend(arguments_exchanged(text, words, item))
+        made.extend(arguments_exchanged(text, words, item, types))
         if item.kind == "fn":
             made.extend(statements_left_out(words, item))
     return sorted(made, key=lambda edit: edit[:3])

@@ -3,17 +3,20 @@
 operators    + - * / % ^, those of integers, && and ||, < and ≤, also as `_+_`; ≡ and the connectives of types stay
 tests        ltb and leb, anyBelow and allBelow, min and max, true and false; `not` left out
 numbers      one up and one down; `suc` left out
-arguments    two that stand side by side, exchanged: of `cond` the branches among them
+arguments    two that stand side by side, exchanged, unless they are known to be of two types: of `cond` the branches among them
 corners      next, prev and across, as functions and as fields
 
-Of more than 40 numbers in one right-hand side, 8 are taken, chosen by the seed. The arguments of eqb, min and max, whose order says nothing, stay.
+Of a right-hand side with more than 40 numbers 8 of them are taken, and 8 pairs of arguments, chosen by the seed. The arguments of eqb, min, max and
+example, whose order says nothing, stay.
 A name that the file does not have yet is brought in by one more `use` line. Patterns, signatures, `use` lines and data types stay as they are.
 """
 
 import random
 import re
+from types import MappingProxyType
 from typing import NamedTuple
 
+from mutation.signatures import can_change_places
 from mutation.tokens import DEFINITIONS, OPENING, closing, tokens, top_level
 
 NAT, INT, BOOL = "Prim.Native.Nat", "lib.IntN", "mathlib.Core.Bool"
@@ -49,7 +52,7 @@ TURNS = ("next", "prev", "across")
 CORNER = "Rattle.corner.specs.Corner"
 
 LEFT_OUT = ("not", "suc")
-SYMMETRIC = ("eqb", "min", "max")
+SYMMETRIC = ("eqb", "min", "max", "example")
 
 FEW_NUMBERS, CHOSEN = 40, 8
 
@@ -72,12 +75,13 @@ class Item(NamedTuple):
 
 
 class Edit(NamedTuple):
-    """A change of a text: from where, to where, what stands there then, the item that it is in, and a `use` line that it needs."""
+    """A change of a text: as of the code, and a `use` line that it needs."""
 
     start: int
     end: int
     text: str
     name: str
+    chosen: bool = True
     line: str = ""
 
 
@@ -159,20 +163,28 @@ def is_label(words, at):
     return at + 1 < len(words) and words[at + 1].text == "="
 
 
+def numbers(words):
+    """The places of the numbers among words."""
+    return [at for at, word in enumerate(words) if word.text.isdigit()]
+
+
+def some(found, item, seed):
+    """As many of those found as are taken of a right-hand side with many numbers, chosen by the seed."""
+    return random.Random(f"{seed} {item.name} {len(found)}").sample(found, min(CHOSEN, len(found)))
+
+
 def passed_over(words, item, seed):
     """The places of the numbers that are left alone where there are many."""
-    numbers = [at for at, word in enumerate(words) if word.text.isdigit()]
-    if len(numbers) <= FEW_NUMBERS:
-        return set()
-    return set(numbers) - set(random.Random(f"{seed} {item.name} {len(numbers)}").sample(numbers, CHOSEN))
+    found = numbers(words)
+    return set(found) - set(some(found, item, seed)) if len(found) > FEW_NUMBERS else set()
 
 
 def words_changed(text, words, item, seed):
     """Each word of an item as another one."""
     alone = passed_over(words, item, seed)
     for at, word in enumerate(words):
-        for other, needed in () if at in alone or is_label(words, at) else other_words(words, at):
-            yield Edit(word.start, word.end, other, item.name, use_line(text, *needed) if needed else "")
+        for other, needed in () if is_label(words, at) else other_words(words, at):
+            yield Edit(word.start, word.end, other, item.name, at not in alone, use_line(text, *needed) if needed else "")
 
 
 # ---- Arguments.
@@ -217,12 +229,18 @@ def is_bound(words, at):
     return bool(at) and words[at - 1].text == "λ"
 
 
-def arguments_exchanged(text, words, item):
+def one_word(words, stretch):
+    """The word that a stretch is; nothing where it is several."""
+    return words[stretch[0]].text if stretch[1] == stretch[0] + 1 else ""
+
+
+def arguments_exchanged(text, words, item, types):
     """Two neighbours among the arguments of each application exchanged."""
     for spine in applications(words, 0, len(words)):
-        if spine and words[spine[0][0]].text in SYMMETRIC:
-            continue
-        for (a, b), (c, d) in zip(spine[1:], spine[2:]):
+        head = one_word(words, spine[0]) if spine else ""
+        for number, ((a, b), (c, d)) in enumerate(zip(spine[1:], spine[2:])):
+            if head in SYMMETRIC or not can_change_places(types, head, number):
+                continue
             start, middle, end = words[a].start, (words[b - 1].end, words[c].start), words[d - 1].end
             first, second = text[start : middle[0]], text[middle[1] : end]
             if first != second:
@@ -232,11 +250,13 @@ def arguments_exchanged(text, words, item):
 # ---- All of it.
 
 
-def edits(text, seed=0):
-    """All changes of the definitions of a file, in the order of the text."""
+def edits(text, seed=0, types=MappingProxyType({})):
+    """All changes of the definitions of a file, in the order of the text; types has those of the arguments of definitions, by name."""
     made = []
     for item in items(text):
         words = [word._replace(start=word.start + item.start) for word in tokens(DEFINITIONS, text[item.start : item.end])]
         made.extend(words_changed(text, words, item, seed))
-        made.extend(arguments_exchanged(text, words, item))
+        pairs = list(arguments_exchanged(text, words, item, types))
+        chosen = some(pairs, item, seed) if len(numbers(words)) > FEW_NUMBERS else pairs
+        made.extend(edit._replace(chosen=edit in chosen) for edit in pairs)
     return sorted(made, key=lambda edit: edit[:3])

@@ -18,12 +18,13 @@ class Item(NamedTuple):
 
 
 class Edit(NamedTuple):
-    """A change of a text: from where, to where, what stands there then, and the item that it is in."""
+    """A change of a text: from where, to where, what stands there then, the item that it is in, and whether it is among those to make."""
 
     start: int
     end: int
     text: str
     name: str
+    chosen: bool = True
 
 
 def function_body(words, at):

@@ -1,16 +1,18 @@
 """Mutants: wrong programs that one edit makes, each with a key that edits elsewhere do not change.
 
-A key is the crate, the file, the function or definition, the number of this change among the equal ones there, and the line before and after it
-(a statement of several lines as one). A long one is cut in the middle, and has a sum of the whole.
+A key is the crate, the file, the function or definition, the number of this change among the equal ones there (made or not), and the line before
+and after it (a statement of several lines as one). A long one is cut in the middle, and has a sum of the whole.
 """
 
 import hashlib
 import random
 import re
 from dataclasses import dataclass
+from functools import lru_cache
 from pathlib import Path
+from types import MappingProxyType
 
-from mutation import code, definitions
+from mutation import code, definitions, signatures
 
 CODE, DEFINITIONS, EDITS = KINDS = ("code", "definitions", "edits")
 
@@ -72,10 +74,10 @@ def applied(text, edit):
     return re.sub(r"^(?=use )", f"{line}\n", after, count=1, flags=re.MULTILINE) if line else after
 
 
-def of_file(crate, path, text, seed, kind):
-    """The mutants of a file, each text once."""
+def of_file(crate, path, text, seed, kind, types=MappingProxyType({})):
+    """The mutants of a file, each text once; types has those of the arguments of functions or definitions."""
     seen, numbers, made = {text}, {}, []
-    for edit in (code if kind == CODE else definitions).edits(text, seed):
+    for edit in (code if kind == CODE else definitions).edits(text, seed, types):
         after = applied(text, edit)
         if after in seen:
             continue
@@ -83,18 +85,27 @@ def of_file(crate, path, text, seed, kind):
         old, new = changed_lines(text, edit)
         place = (edit.name, old, new)
         numbers[place] = numbers.get(place, 0) + 1
+        if not edit.chosen:
+            continue
         inner = Path(path).relative_to(f"crates/{crate}")
         key = f"{crate} {inner} {edit.name} #{numbers[place]}: {old} => {new or '(left out)'}"
         made.append(Mutant(key, crate, str(path), after, kind))
     return made
 
 
+@lru_cache(maxsize=1)
+def all_types(root):
+    """The types of the arguments of the functions and of the definitions of a repository, read once."""
+    return signatures.of_repository(root)
+
+
 def of_crate(root, crate, seed, specs):
     """The mutants of a crate: of its code, and with specs of its definitions."""
     made = []
+    types = dict(zip((CODE, DEFINITIONS), all_types(root)))
     for kind, folder, pattern in ((CODE, "src", "*.rt"), (DEFINITIONS, "specs", "*.antt"))[: 1 + specs]:
         for path in sorted((root / "crates" / crate / folder).rglob(pattern)):
-            made.extend(of_file(crate, path.relative_to(root), path.read_text(encoding="utf-8"), seed, kind))
+            made.extend(of_file(crate, path.relative_to(root), path.read_text(encoding="utf-8"), seed, kind, types[kind]))
     return made
 
 

@@ -6,7 +6,7 @@ import unittest
 from cases import ROOT, TOOLS, Case
 
 import command
-from mutation import code, definitions, edits, mutants, reports
+from mutation import code, definitions, edits, mutants, reports, signatures
 from mutation.verdicts import FALSE, SURVIVED
 
 EQUIVALENT = TOOLS / "edits" / "equivalent.txt"
@@ -126,9 +126,10 @@ class Code(unittest.TestCase):
 
     def test_few_entries_of_a_long_table(self):
         text = f"const T: [u8; 30] = [{', '.join(str(i) for i in range(100, 130))}];\n"
-        self.assertEqual(len(code.edits(text)), 2 * code.CHOSEN)
-        self.assertEqual(code.edits(text), code.edits(text))
-        self.assertNotEqual(code.edits(text, 1), code.edits(text, 2))
+        chosen = [[edit for edit in code.edits(text, seed) if edit.chosen] for seed in (1, 1, 2)]
+        self.assertEqual([len(edits) for edits in chosen], 3 * [2 * code.CHOSEN])
+        self.assertEqual(chosen[0], chosen[1])
+        self.assertNotEqual(chosen[0], chosen[2])
 
     def test_tables_of_names(self):
         text = "const T: [Part; 3] = [\n    Part::A,\n    Part::B,\n    Part::A,\n];\n"
@@ -167,7 +168,13 @@ class Definitions(unittest.TestCase):
         self.assertEqual(sides(defined("g (suc n)")), ["f n = g ( n)"])
 
     def test_some_of_many_numbers(self):
-        self.assertEqual(len(sides(defined(" ∷ ".join(str(i) for i in range(100, 200))))), 2 * definitions.CHOSEN)
+        made = definitions.edits(defined(" ∷ ".join(str(i) for i in range(100, 200))))
+        self.assertEqual((len(made), sum(edit.chosen for edit in made)), (200, 2 * definitions.CHOSEN))
+
+    def test_some_of_many_arguments(self):
+        text = defined(" ∷ ".join(f"g {i} {i + 1}" for i in range(100, 150)))
+        made = [edit for edit in definitions.edits(text) if " " in edit.text]
+        self.assertEqual((len(made), sum(edit.chosen for edit in made)), (50, definitions.CHOSEN))
 
     def test_tests_and_truths(self):
         self.assertEqual(sides(defined("not true")), ["f n =  true", "f n = not false"])
@@ -205,6 +212,28 @@ class Definitions(unittest.TestCase):
 
     def test_data_types_stay(self):
         self.assertEqual(definitions.edits("pub data D (A : Type 0) : Type 0 where\n  one : f 1 2 → D A\n"), [])
+
+
+class Signatures(unittest.TestCase):
+    def test_code(self):
+        text = "fn f(a: &mut [u16; 4], mut n: usize) -> u8 {\n    1\n}\n\npub fn g() {}\n"
+        self.assertEqual(dict(signatures.of_code(text)), {"f": ("& mut [ u16 ; 4 ]", "usize"), "g": ()})
+
+    def test_definitions(self):
+        text = "abbrev pub f : {A : Type 0} → List A → (ℕ → A)\n    → (k l : ℕ) → A\nf a b c d = e\nunfoldable pub g : ℕ\n"
+        self.assertEqual(dict(signatures.of_definitions(text)), {"f": ("List A", "( ℕ → A )", "ℕ", "ℕ"), "g": ()})
+
+    def test_several_of_one_name(self):
+        self.assertEqual(signatures.collected([("f", ("a",)), ("g", ("a",)), ("f", ("b",)), ("f", ("a",))]), {"f": None, "g": ("a",)})
+
+    def test_arguments_of_two_types_stay(self):
+        types = {"g": ("List ℕ", "ℕ", "ℕ"), "h": ("ℕ", "A")}
+        for name, number, can in (("g", 0, False), ("g", 1, True), ("g", 2, True), ("h", 0, True), ("unknown", 0, True)):
+            self.assertEqual(signatures.can_change_places(types, name, number), can)
+        text = defined("g a b c")
+        self.assertEqual([edit.text for edit in definitions.edits(text, types=types)], ["c b"])
+        text = function("g(a, b, c)")
+        self.assertEqual([edit.text for edit in code.edits(text, types={"g": ("u8", "u8", "usize")})], ["b, a"])
 
 
 # ---- The repository's own files.
@@ -258,6 +287,15 @@ class Keys(unittest.TestCase):
         found = self.keys("fn f() -> u8 {\n    g(0);\n    g(0);\n    h(0)\n}\n")
         self.assertEqual([key for key in found if "g(1)" in key], [f"a src/lib.rt f #{n}: g(0); => g(1);" for n in (1, 2)])
         self.assertIn("a src/lib.rt f #2: g(0); => (left out)", self.keys("fn f() -> u8 {\n    g(0);\n    h(1);\n    g(0);\n    1\n}\n"))
+
+    def test_entries_keep_their_numbers_whatever_is_chosen(self):
+        """An entry of a long table has one key, by every seed that chooses it."""
+        text = "const T: [u8; 20] = [\n" + 20 * "    7,\n" + "];\n"
+        keys = {}
+        for seed in range(40):
+            for mutant in mutants.of_file("a", "crates/a/src/lib.rt", text, seed, mutants.CODE):
+                self.assertEqual(keys.setdefault(mutant.key, mutant.text), mutant.text)
+        self.assertEqual(len(keys), 40)
 
     def test_same_text_is_made_once(self):
         """Leaving out one of two equal statements side by side makes one program."""
