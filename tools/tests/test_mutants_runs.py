@@ -223,7 +223,7 @@ class Whole(Fake):
         self.assertIn("names no mutant: a src/lib.rt gone #1: 4 => 5\n", error)
 
     def test_edits(self):
-        for new, status in (("5", 0), ("6", 1)):
+        for new, status in (("5", 0), ("6", 1), ("6 // below", 1)):
             (self.root / "tools/edits/a/one.edit").write_text(f"# Why.\nfile: src/lib.rt\nold:     4\nnew:     {new}\n")
             self.assertEqual(self.tried("a", "--sample", "0")[0], status)
 
@@ -235,6 +235,10 @@ class Whole(Fake):
         self.name(self.SURVIVOR)
         status, lines, _ = self.tried("a", "--report", "report")
         self.assertEqual((status, lines[-1], (self.folder / "report").read_bytes()), (0, "all 2 1 0 0 1 0 0", before))
+
+    def test_what_could_not_be_told_is_tried_again(self):
+        self.file("report", f"could not tell\t1.0\ta\t{self.SURVIVOR}\tthe time limit\n")
+        self.assertEqual(self.tried("a", "--report", "report")[1][-1], "all 2 1 0 0 0 1 0")
 
     def test_crate_that_is_not_proved(self):
         (self.root / "crates/a/src/lib.rt").write_text("fn f() -> u8 {\n    5\n}\n")
