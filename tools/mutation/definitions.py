@@ -63,7 +63,7 @@ SYMBOLS = frozenset(("[]", "⊥", "⊤", "∅"))
 SIGNATURE = re.compile(r"(?:(?:abbrev|unfoldable|pub|private)\s+)*(\S+)\s+:\s")
 RECORD = re.compile(r"(?:pub\s+)?record\s+(\S+)")
 FIELD = re.compile(r"  (?:pub\s+)?(\S+)\s+:\s")
-SKIPPED = ("use", "mod", "pub mod", "data", "pub data", "unfolding", "--")
+SKIPPED = ("use ", "mod ", "pub mod ", "data ", "pub data ", "unfolding ", "--")
 
 
 class Item(NamedTuple):

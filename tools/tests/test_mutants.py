@@ -210,6 +210,9 @@ class Definitions(unittest.TestCase):
         self.assertEqual(made[0], ("R.few", "pub few : n < 4"))
         self.assertEqual([line for name, line in made if name == "R.all"], ["→ c ≤ n"])
 
+    def test_names_that_begin_like_a_keyword(self):
+        self.assertEqual(sides("abbrev pub used : ℕ\nused = 4\n"), ["used = 3", "used = 5"])
+
     def test_data_types_stay(self):
         self.assertEqual(definitions.edits("pub data D (A : Type 0) : Type 0 where\n  one : f 1 2 → D A\n"), [])
 
