@@ -2,7 +2,8 @@
 
 operators    + - * / % && || & | << >> and their assignments each as another one; a comparison as its neighbour
 numbers      one up and one down; 0 down only where it is written as a signed number
-booleans     true and false; a `!` left out
+booleans     true and false
+signs        a `!` and a `-` of one operand left out
 arguments    two of a call that stand side by side, exchanged, unless they are known to be of two types
 statements   left out: an early return, an `if` without `else`, a loop, an assignment, a call; a `let` only where its name is bound before. The only
              statement of an `if` or a loop goes with it
@@ -95,7 +96,7 @@ def other_words(words, at):
         return (OPERATORS[text],)
     if text in ("true", "false"):
         return ("false" if text == "true" else "true",)
-    return ("",) if text == "!" else ()
+    return ("",) if text in ("!", "-") else ()
 
 
 def words_changed(words, item):

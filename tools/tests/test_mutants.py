@@ -54,6 +54,10 @@ class Code(unittest.TestCase):
         for body in ("f(-n)", "&n", "*n", "return -n;", "&faces[n]"):
             self.assertFalse(any("+" in after or "|" in after for after in bodies(body)), body)
 
+    def test_signs(self):
+        self.assertEqual(bodies("-n"), ["n"])
+        self.assertEqual(bodies("n - -m"), ["n + -m", "n - m"])
+
     def test_assigning_operators(self):
         self.assertEqual(bodies("n += m;\nm"), ["m", "n -= m; m"])
 
