@@ -6,8 +6,8 @@ The rule, from the exit status and the messages, each an `error` line or a note 
 2. Status 1 with an error of the compiler (it has a code, as in `error[mismatched-types]`), or with no `logic=` line: no program. So is a
    definition that does not parse or type: an error in a file of specs/.
 3. `logic=not-proved`. A message says that a fact is not proved, or that the text of a proof no longer fits:
-   - it fits no longer where a name, a field or a need that it cites is gone, or where the proofs are no longer all and in the order that is asked
-     for (a message of the last definition of the file, `..-spec`, which puts them together);
+   - it fits no longer where a name, a field or a need that it cites is gone or takes no invariant any more, or where the proofs are no longer all
+     and in the order that is asked for (a message of the last definition of the file, `..-spec`, which puts them together);
    - in a file with such a message a term of another type than the goal's is a misfit too, since it was written for another program; what a tactic
      (`omega`, `search`, `simp`, ..) says of a goal is a fact all the same;
    - every other message is a fact that is not proved.
@@ -32,7 +32,7 @@ CONSEQUENCE = "was not admitted (it has holes or undetermined implicits, or was 
 # What a proof says whose text does not fit the program.
 GONE = re.compile(
     r"that can be named from here|has no field|is not in scope|has no module|there is no module|is not a field"
-    r"|expected type `tie\.Need-|^`[^`]+-spec`: |too many arguments|too few arguments|expected a function|not a function type"
+    r"|expected type `tie\.Need-|^`[^`]+-spec`: |is applied to an argument but has type|too many arguments|too few arguments"
 )
 
 # What a term says that is of another type than the goal's.
@@ -56,14 +56,14 @@ class Message(NamedTuple):
 
 
 def messages(output):
-    """The messages of an output but for those that follow from others."""
-    found = []
-    for line in output.splitlines():
+    """The messages of an output but for those that follow from others; a second line that goes on with one belongs to it."""
+    found, lines = [], output.splitlines()
+    for line, second in zip(lines, [*lines[1:], ""]):
         match = ERROR.match(line) or UNCLOSED.match(line)
         if match and CONSEQUENCE not in line:
             parts = {"kind": "search", **match.groupdict()}
             said = f"{parts['kind']}{parts['words']}" if parts["kind"] == UNPROVED else parts["words"].lstrip(": ")
-            found.append(Message(parts["file"], parts["kind"], said))
+            found.append(Message(parts["file"], parts["kind"], f"{said} {second.strip()}" if second.startswith("  ") else said))
     return found
 
 

@@ -24,6 +24,8 @@ SIDES = f"{PROOF}:26:31: error: `returns`: computed as far as they go, the two s
 NEED = f"{PROOF}:13:14: error: `mul-result`: `tie.Need-mul-result`: module `proofs.face_corners.Tie` has no `Need-mul-result` that can be named from here\n"
 ORDER = f"{PROOF}:46:5: error: `face-corners-spec`: expected type `tie.Need-add-e-2`, but this has type `tie.Need-mul-result`\n"
 GONE_FIELD = f"{PROOF}:26:46: error: `returns`: record `proofs.face_corners.Lts.Joined1·own` has no field `taken`\n"
+TWO_LINES = f"{PROOF}:26:46: error: `next-is`: record `proofs.vertex_twice.Lts.After-across-corner`\n  has no field `next-corner`: it has `c`\n"
+INVARIANT = f"{PROOF}:9:9: error: `mul-n`: this is applied to an argument but has type `Type 0`, which is not a function or extension (path) type\n"
 AFTER = f"{PROOF}:50:5: error: `face-corners-spec`: `returns` {LATER}\n"
 LAW = "/r/crates/corner/proofs/FaceLaws.antt:14:5: error: `corners-some`: as printed, the two types differ only where one has `5` (expected)\n"
 SEARCH = (
@@ -48,7 +50,7 @@ class Verdicts(unittest.TestCase):
             self.assert_kind(FALSE, output + TAIL)
 
     def test_text_that_no_longer_fits(self):
-        for output in (NEED, GONE_FIELD, ORDER, NEED + TYPES, ORDER + SIDES, NEED + GONE_FIELD + AFTER):
+        for output in (NEED, GONE_FIELD, TWO_LINES, INVARIANT, ORDER, NEED + TYPES, TWO_LINES + TYPES, ORDER + SIDES, NEED + GONE_FIELD + AFTER):
             self.assert_kind(MISFIT, output + TAIL)
 
     def test_false_fact_beside_a_text_that_no_longer_fits(self):
