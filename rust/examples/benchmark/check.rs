@@ -125,9 +125,9 @@ fn late_refusal<A: Access>(mesh: &Mesh, twins: &[u16], head: &[u16]) -> Option<R
     let on_boundary = |p: usize| !walk_on::<A>(twins, corner_at(p)).1;
     let valence_off = |p: usize| {
         let valence = A::get(&valences, p);
-        let inner = !VALENCE.contains(&valence);
-        if inner == !BOUNDARY_FACES.contains(&valence) {
-            return inner;
+        let inner_off = !VALENCE.contains(&valence);
+        if inner_off != BOUNDARY_FACES.contains(&valence) {
+            return inner_off;
         }
         let range = if on_boundary(p) { BOUNDARY_FACES } else { VALENCE };
         !range.contains(&valence)

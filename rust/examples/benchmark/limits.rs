@@ -19,28 +19,22 @@ pub fn turned(i: usize, c: usize) -> usize {
     (c & !3) | ((c + i) & 3)
 }
 
-/// A rounded quotient, what the rounding leaves, and whether that is nothing.
+/// A rounded quotient, and whether the rounding leaves nothing.
 #[derive(Clone, Copy)]
 pub struct Rounded {
     pub value: i64,
-    pub rest: i64,
     pub exact: bool,
 }
 
-/// `num / den` rounded once, a half to the even neighbour, and `num` less that times `den`; 0 and `num` for a divisor 0.
+/// `num / den` rounded once, a half to the even neighbour; 0 for a divisor 0.
 #[inline(always)]
 pub fn round(num: i64, den: u32) -> Rounded {
     if den == 0 {
-        return Rounded { value: 0, rest: num, exact: num == 0 };
+        return Rounded { value: 0, exact: num == 0 };
     }
     let (size, den) = (num.unsigned_abs(), u64::from(den));
     let (quotient, rest) = (size / den, size % den);
     let (up, exact) = (den < 2 * rest + (quotient & 1), rest == 0);
     let value = (quotient + u64::from(up)) as i64;
-    let rest = if up { rest as i64 - den as i64 } else { rest as i64 };
-    if num < 0 {
-        Rounded { value: value.wrapping_neg(), rest: -rest, exact }
-    } else {
-        Rounded { value, rest, exact }
-    }
+    Rounded { value: if num < 0 { value.wrapping_neg() } else { value }, exact }
 }

@@ -87,7 +87,8 @@ impl Tally {
         for &other in causes.iter().skip(1) {
             self.together[causes[0] as usize][other as usize] += 1;
         }
-        let short = lent.lengths().map(|(length, places)| length < places * faces);
+        // F may be any number: the places of all faces may be more than a number of this size can say
+        let short = lent.lengths().map(|(length, places)| length / places < faces);
         if causes.first() == Some(&2) && short.iter().filter(|&&short| short).count() == 1 {
             (0..3).filter(|&list| short[list]).for_each(|list| self.alone_short[list] += 1);
         }
