@@ -34,8 +34,8 @@ abbrev vec : ℤ → ℤ → ℤ → List ℤ
 vec x y z = x ∷ y ∷ z ∷ []
 
 -- the number that the call refuses with, on a list of so many places; nothing where it writes the tangents
-abbrev tangentRefusal : IndexedMesh → ℕ → ℕ → List ℤ
-tangentRefusal M g n = refusalNumber (tangentAnswer M g (replicate n (pos 0)))
+abbrev refusedTangents : IndexedMesh → ℕ → ℕ → List ℤ
+refusedTangents M g n = refusalNumber (tangentAnswer M g (replicate n (pos 0)))
 
 -- the cube, face 0: four corners of three faces each. Four rows of u, then three of v
 abbrev cubeTangents : List ℤ
@@ -68,18 +68,18 @@ boxTangents =
 unfoldable pub answers : List Example
 answers =
     -- nothing is met; no such face; another length; both: row 12 is before row 18
-    example (tangentRefusal cube 5 72) []
-    ∷ example (tangentRefusal cube 6 72) (pos 12 ∷ [])
-    ∷ example (tangentRefusal cube 5 71) (pos 18 ∷ [])
-    ∷ example (tangentRefusal cube 5 73) (pos 18 ∷ [])
-    ∷ example (tangentRefusal cube 6 71) (pos 12 ∷ [])
+    example (refusedTangents cube 5 72) []
+    ∷ example (refusedTangents cube 6 72) (pos 12 ∷ [])
+    ∷ example (refusedTangents cube 5 71) (pos 18 ∷ [])
+    ∷ example (refusedTangents cube 5 73) (pos 18 ∷ [])
+    ∷ example (refusedTangents cube 6 71) (pos 12 ∷ [])
     -- a cause of the mesh is before both
-    ∷ example (tangentRefusal (tagged cube (0 ∷ 0 ∷ 0 ∷ 0 ∷ 0 ∷ 0 ∷ 0 ∷ 1 ∷ [])) 6 71) (pos 11 ∷ [])
+    ∷ example (refusedTangents (tagged cube (0 ∷ 0 ∷ 0 ∷ 0 ∷ 0 ∷ 0 ∷ 0 ∷ 1 ∷ [])) 6 71) (pos 11 ∷ [])
     -- every corner on the boundary; three of them; two of them; none
-    ∷ example (tangentRefusal strip 0 72) (pos 18 ∷ [])
-    ∷ example (tangentRefusal grid 0 72) (pos 18 ∷ [])
-    ∷ example (tangentRefusal grid 1 72) (pos 18 ∷ [])
-    ∷ example (tangentRefusal grid 4 72) []
+    ∷ example (refusedTangents strip 0 72) (pos 18 ∷ [])
+    ∷ example (refusedTangents grid 0 72) (pos 18 ∷ [])
+    ∷ example (refusedTangents grid 1 72) (pos 18 ∷ [])
+    ∷ example (refusedTangents grid 4 72) []
     ∷ []
 
 pub cube-tangents-hold : tangentList cube 0 ≡ cubeTangents
