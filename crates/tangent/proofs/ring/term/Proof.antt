@@ -1,6 +1,6 @@
 -- `term` meets its contract: the two weights of n and i stand at one place of their lists.
 use mathlib.Core.Path.{_≡_, refl, ap₂, _∙_}
-use Prim.Native.Nat.{_+_, _-_, _*_, _<_}
+use Prim.Native.Nat.{ℕ, _+_, _-_, _*_, _<_}
 use native.Mathlib.Omega.{arith}
 use lib.IntN.{ℤ, pos, _+ℤ_, _*ℤ_}
 use lib.ListN.{length, getD}
@@ -21,13 +21,16 @@ module _ (s : tie.Start) where
   weighed : Weighed (s .args .n) (s .args .i)
   weighed = record { least = s .pre .0 .least; most = s .pre .0 .most; place = s .pre .1 }
 
-  below : weightPlace (s .args .n) (s .args .i) < 224
+  abbrev place : ℕ
+  place = weightPlace (s .args .n) (s .args .i)
+
+  below : place < 224
   below = place-below (s .args .n) (s .args .i) weighed
 
-  edge-is : getD (s .args .edge .now) (weightPlace (s .args .n) (s .args .i)) (pos 0) ≡ edgeWeight (s .args .n) (s .args .i)
+  edge-is : getD (s .args .edge .now) place (pos 0) ≡ edgeWeight (s .args .n) (s .args .i)
   edge-is = rw (s .pre .0 .weights .edges) (at-place edgeNumerator (s .args .n) (s .args .i) weighed)
 
-  face-is : getD (s .args .face .now) (weightPlace (s .args .n) (s .args .i)) (pos 0) ≡ faceWeight (s .args .n) (s .args .i)
+  face-is : getD (s .args .face .now) place (pos 0) ≡ faceWeight (s .args .n) (s .args .i)
   face-is = rw (s .pre .0 .weights .faces) (at-place faceNumerator (s .args .n) (s .args .i) weighed)
 
   edge-long : length (s .args .edge .now) ≡ 224
@@ -41,10 +44,10 @@ module _ (c : tie.After-pair-arg2) where
   abbrev start : tie.Start
   start = c .before .before
 
-  a-is : toZ w32 (ofZ w32 (getD (start .args .edge .now) (weightPlace (start .args .n) (start .args .i)) (pos 0))) ≡ edgeWeight (start .args .n) (start .args .i)
+  a-is : toZ w32 (ofZ w32 (getD (start .args .edge .now) (place start) (pos 0))) ≡ edgeWeight (start .args .n) (start .args .i)
   a-is = toZ-ofZ (record { sfits = c .before .pair-arg .given }) ∙ edge-is start
 
-  b-is : toZ w32 (ofZ w32 (getD (start .args .face .now) (weightPlace (start .args .n) (start .args .i)) (pos 0))) ≡ faceWeight (start .args .n) (start .args .i)
+  b-is : toZ w32 (ofZ w32 (getD (start .args .face .now) (place start) (pos 0))) ≡ faceWeight (start .args .n) (start .args .i)
   b-is = toZ-ofZ (record { sfits = c .pair-arg2 .given }) ∙ face-is start
 
 -- ---- the answers, in the order of the code
