@@ -13,6 +13,7 @@ import subprocess
 import tempfile
 import threading
 import time
+from collections import deque
 from contextlib import contextmanager, suppress
 from pathlib import Path
 from typing import NamedTuple
@@ -183,15 +184,36 @@ class Copy:
             yield from self.tried_together(part, climbs)
 
 
+class Waiting:
+    """The batches that wait. Who takes one stays with its crate, which the copy has checked, then begins another one, and in the end helps with one."""
+
+    def __init__(self, batches):
+        self.lock, self.left, self.begun = threading.Lock(), {}, set()
+        for batch in batches:
+            self.left.setdefault(batch[0].crate, deque()).append(batch)
+
+    def taken(self, crate):
+        """The next batch for who was with this crate; None where none is left."""
+        with self.lock:
+            names = [name for name, waiting in self.left.items() if waiting]
+            fresh = [name for name in names if name not in self.begun]
+            if not names:
+                return None
+            chosen = crate if crate in names else fresh[0] if fresh else max(names, key=lambda name: len(self.left[name]))
+            self.begun.add(chosen)
+            return self.left[chosen].popleft()
+
+
 def work(copy, waiting, done, climbs):
     """Tries the batches that wait in a copy, until none is left or it is over."""
     try:
-        while not copy.is_over.is_set():
-            batch = waiting.get_nowait()
+        batch = waiting.taken(None)
+        while batch is not None:
             copy.assert_proved(batch[0].crate)
             for pair in copy.tried_together(batch, climbs):
                 done.put(pair)
-    except (queue.Empty, Over):
+            batch = waiting.taken(batch[0].crate)
+    except Over:
         pass
     except BaseException as error:
         done.put((None, error))
@@ -201,9 +223,7 @@ def work(copy, waiting, done, climbs):
 
 def in_copies(copies, batches, climbs):
     """Each mutant with its outcome, as it comes; a thread for each copy."""
-    waiting, done = queue.Queue(), queue.Queue()
-    for batch in batches:
-        waiting.put(batch)
+    waiting, done = Waiting(batches), queue.Queue()
     workers = [threading.Thread(target=work, args=(copy, waiting, done, climbs), daemon=True) for copy in copies]
     for worker in workers:
         worker.start()

@@ -205,6 +205,15 @@ class Batches(Fake):
         self.assertEqual(found, {"f": FALSE, "g": UNKNOWN, "h": FALSE})
 
 
+class Waits(unittest.TestCase):
+    def test_order(self):
+        """One stays with its crate while another begins the next, and helps in the end."""
+        batch = {name: [mutants.Mutant(name, name[0], "p", "t", mutants.CODE)] for name in ("a1", "a2", "a3", "b1", "c1", "c2", "c3")}
+        waiting = runs.Waiting(batch.values())
+        for crate, name in ((None, "a1"), (None, "b1"), ("a", "a2"), ("b", "c1"), ("c", "c2"), ("a", "a3"), ("a", "c3"), ("c", None), ("a", None)):
+            self.assertEqual(waiting.taken(crate), batch.get(name))
+
+
 # ---- The files that are cited.
 
 
