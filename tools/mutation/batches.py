@@ -60,10 +60,11 @@ def merged(text, mutants):
 
 
 class Place(NamedTuple):
-    """Where the messages of a function are: its name in the prover's lines, the file of its proof, its file and lines, and whether it calls another one."""
+    """Where the messages of a function are: its name in the prover's lines, the file of its proof (if it calls itself, another one), its file of the
+    code, and its lines there; and whether it calls another one of the batch."""
 
     name: str
-    proof: str
+    proofs: tuple
     path: str
     lines: tuple
     is_calling: bool
@@ -85,8 +86,8 @@ def places(batch, texts):
         first, last = lines[mutant.path][mutant.function]
         body = "\n".join(texts[mutant.path].split("\n")[first - 1 : last])
         called = names & set(re.findall(r"\w+", body)) - {parts[-1]}
-        proof = f"crates/{mutant.crate}/proofs/{'/'.join(parts)}/Proof.antt"
-        found[mutant.key] = Place("::".join((mutant.crate, *parts)), proof, mutant.path, (first, last), bool(called))
+        proofs = tuple("/".join(("crates", mutant.crate, "proofs", *parts[:-1], name, "Proof.antt")) for name in (parts[-1], f"+{parts[-1]}"))
+        found[mutant.key] = Place("::".join((mutant.crate, *parts)), proofs, mutant.path, (first, last), bool(called))
     return found
 
 
@@ -99,7 +100,7 @@ def owner(message, known):
     """The key of the mutant whose function a message is of; None where it is of none of them."""
     for key, place in known.items():
         here = is_file(message.file, place.path) and place.lines[0] <= message.line <= place.lines[1]
-        if here or message.file == place.name or is_file(message.file, place.proof):
+        if here or message.file == place.name or any(is_file(message.file, path) for path in place.proofs):
             return key
     return None
 

@@ -104,7 +104,8 @@ class Decided(unittest.TestCase):
 
     def test_places(self):
         self.assertEqual([place.name for place in self.known.values()], ["a::f", "a::g", "a::walk::h"])
-        self.assertEqual([place.proof for place in self.known.values()], [f"crates/a/proofs/{name}/Proof.antt" for name in ("f", "g", "walk/h")])
+        proofs = [path for place in self.known.values() for path in place.proofs]
+        self.assertEqual(proofs, [f"crates/a/proofs/{name}/Proof.antt" for name in ("f", "+f", "g", "+g", "walk/h", "walk/+h")])
         # the mutant of g leaves out three lines
         self.assertEqual([place.lines for place in self.known.values()], [(1, 3), (5, 8), (1, 3)])
         self.assertEqual([place.is_calling for place in self.known.values()], [True, False, False])
@@ -112,6 +113,7 @@ class Decided(unittest.TestCase):
     def test_each_by_its_own(self):
         self.assertEqual(self.kinds(omega("f") + gone("g") + omega("walk/h") + TAIL), {"f": FALSE, "g": MISFIT, "h": FALSE})
         self.assertEqual(self.kinds(gone("g") + TAIL), {"g": MISFIT})
+        self.assertEqual(self.kinds(omega("+g") + TAIL), {"g": FALSE})
         self.assertEqual(self.kinds(search("g", "lib", 5) + search("walk::h", "walk", 1) + TAIL), {"g": FALSE, "h": FALSE})
 
     def test_a_text_that_no_longer_fits_where_another_is_called(self):
@@ -126,7 +128,7 @@ class Decided(unittest.TestCase):
 
     def test_messages_of_others_say_nothing(self):
         """A law, a function that was not changed, lines between: then nothing is said of any."""
-        for folder in ("walk", "other", "walk/f"):
+        for folder in ("walk", "other", "walk/f", "+f+g"):
             self.assertEqual(self.kinds(omega("f") + omega(folder) + TAIL), {})
         self.assertEqual(self.kinds(omega("f") + f"{PROOF}/GLaws.antt:1:1: error: `g`: `omega`: it fails\n" + TAIL), {})
         self.assertEqual(self.kinds(search("f", "lib", 4) + TAIL), {})
