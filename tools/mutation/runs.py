@@ -97,7 +97,8 @@ class Copy:
                 if (root / name).is_dir():
                     shutil.copytree(root / name, self.folder / name, symlinks=True)
         except BaseException:
-            self.remove()
+            with undisturbed():
+                self.remove()
             raise
 
     def remove(self):
@@ -176,10 +177,11 @@ class Copy:
         began, texts = time.monotonic(), self.merged(batch)
         with self.changed(texts):
             status, output = self.run("dev", batch[0].crate, limit=self.limit)
+        seconds = time.monotonic() - began
         found, came_to_proofs = decided(status, output, places(batch, texts))
         for mutant in batch:
             if mutant.key in found:
-                yield mutant, Outcome(found[mutant.key], mutant.crate, (time.monotonic() - began) / len(found))
+                yield mutant, Outcome(found[mutant.key], mutant.crate, seconds / len(found))
         for part in left(batch, found, status == 0, came_to_proofs):
             yield from self.tried_together(part, climbs)
 
