@@ -2,7 +2,7 @@
 
 A copy has crates.txt, crates/ and of target/ what the incremental check starts from. The mutants of a batch are written into their files, tried by
 one run, and undone; those of which it says nothing are tried again, as smaller batches or alone. A constant or a definition that survives in its
-crate is tried by `rt check` in the crates above, in the order of crates.txt, until one refuses it; a program is run then, too.
+crate is tried by `rt check` in the libraries above, in the order of crates.txt, until one refuses it. A survivor of a program is tried by running it.
 """
 
 import os
@@ -137,13 +137,13 @@ class Copy:
         self.passed.add(crate)
 
     def tried_above(self, crate):
-        """The verdict of the crates above, and which gave it; what they leave in target/ is undone."""
+        """The verdict of the libraries above (of a program, of its own run), and which gave it; what they leave in target/ is undone."""
         target, kept = self.folder / "target", self.folder / "kept"
         for name in ("rlib", "stamp"):
             shutil.copytree(target / name, kept / name, symlinks=True)
         try:
             own = [crate] if is_program(self.folder, crate) else []
-            for name in own + above(self.listed, crate):
+            for name in own + [name for name in above(self.listed, crate) if not is_program(self.folder, name)]:
                 found = verdict(*self.run("check", name, limit=self.limit))
                 if found.kind != SURVIVED:
                     return found, name

@@ -187,6 +187,10 @@ class Runs(Fake):
         (self.root / "crates/a/src/main.rt").write_text("fine\n")
         self.assertEqual(self.outcomes("below"), {"below": (FALSE, "a")})
 
+    def test_programs_above_are_not(self):
+        (self.root / "crates/b/src/main.rt").write_text("fine\n")
+        self.assertEqual(self.outcomes("below"), {"below": (SURVIVED, "a")})
+
     def test_end_of_a_run_that_is_left(self):
         """What is under way ends with the run, and the copies go."""
         before, began = set(Path(tempfile.gettempdir()).glob("mutants.*")), time.monotonic()
