@@ -40,13 +40,12 @@ def together(mutants, most):
 
 
 def batches(mutants, most=MOST, alone=frozenset()):
-    """The mutants in batches, crate by crate: those of functions together but for keys that are to be alone, and then each other one alone."""
-    for crate in dict.fromkeys(mutant.crate for mutant in mutants):
-        own = [mutant for mutant in mutants if mutant.crate == crate]
-        grouped = [mutant for mutant in own if mutant.function and mutant.key not in alone]
-        yield from together(grouped, most)
-        kept = {mutant.key for mutant in grouped}
-        yield from ([mutant] for mutant in own if mutant.key not in kept)
+    """The mutants in batches: those of functions together, crate by crate, but for keys that are to be alone, and then each other one alone."""
+    grouped = [mutant for mutant in mutants if mutant.function and mutant.key not in alone]
+    for crate in dict.fromkeys(mutant.crate for mutant in grouped):
+        yield from together([mutant for mutant in grouped if mutant.crate == crate], most)
+    kept = {mutant.key for mutant in grouped}
+    yield from ([mutant] for mutant in mutants if mutant.key not in kept)
 
 
 def merged(text, mutants):

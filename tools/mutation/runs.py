@@ -187,34 +187,41 @@ class Copy:
 
 
 class Waiting:
-    """The batches that wait. Who takes one stays with its crate, which the copy has checked, then begins another one, and in the end helps with one."""
+    """The batches that wait, by crate, those of functions and others apart. Who takes one stays with its like, since the copy has checked that crate;
+    then it begins others, and in the end it helps with some."""
 
     def __init__(self, batches):
         self.lock, self.left, self.begun = threading.Lock(), {}, set()
         for batch in batches:
-            self.left.setdefault(batch[0].crate, deque()).append(batch)
+            self.left.setdefault(likeness(batch), deque()).append(batch)
 
-    def taken(self, crate):
-        """The next batch for who was with this crate; None where none is left."""
+    def taken(self, last=None):
+        """The next batch for who had this one last; None where none is left."""
         with self.lock:
             names = [name for name, waiting in self.left.items() if waiting]
             fresh = [name for name in names if name not in self.begun]
             if not names:
                 return None
-            chosen = crate if crate in names else fresh[0] if fresh else max(names, key=lambda name: len(self.left[name]))
+            same = last is not None and likeness(last) in names
+            chosen = likeness(last) if same else fresh[0] if fresh else max(names, key=lambda name: len(self.left[name]))
             self.begun.add(chosen)
             return self.left[chosen].popleft()
+
+
+def likeness(batch):
+    """What batches have in common that go well one after the other: the crate, and whether they are of functions."""
+    return batch[0].crate, bool(batch[0].function)
 
 
 def work(copy, waiting, done, climbs):
     """Tries the batches that wait in a copy, until none is left or it is over."""
     try:
-        batch = waiting.taken(None)
+        batch = waiting.taken()
         while batch is not None:
             copy.assert_proved(batch[0].crate)
             for pair in copy.tried_together(batch, climbs):
                 done.put(pair)
-            batch = waiting.taken(batch[0].crate)
+            batch = waiting.taken(batch)
     except Over:
         pass
     except BaseException as error:

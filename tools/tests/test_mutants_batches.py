@@ -209,11 +209,13 @@ class Batches(Fake):
 
 class Waits(unittest.TestCase):
     def test_order(self):
-        """One stays with its crate while another begins the next, and helps in the end."""
-        batch = {name: [mutants.Mutant(name, name[0], "p", "t", mutants.CODE)] for name in ("a1", "a2", "a3", "b1", "c1", "c2", "c3")}
+        """One stays with its crate while another begins the next, and helps in the end; what is of no function comes last."""
+        names = ("af1", "af2", "af3", "bf1", "cf1", "cf2", "cf3", "a1", "a2")
+        batch = {name: [mutants.Mutant(name, name[0], "p", "t", mutants.CODE, name[1:2].strip("12"))] for name in names}
         waiting = runs.Waiting(batch.values())
-        for crate, name in ((None, "a1"), (None, "b1"), ("a", "a2"), ("b", "c1"), ("c", "c2"), ("a", "a3"), ("a", "c3"), ("c", None), ("a", None)):
-            self.assertEqual(waiting.taken(crate), batch.get(name))
+        took = (("", "af1"), ("", "bf1"), ("af1", "af2"), ("bf1", "cf1"), ("cf1", "cf2"), ("af2", "af3"), ("af3", "a1"), ("a1", "a2"), ("a2", "cf3"))
+        for last, name in (*took, ("cf2", ""), ("cf3", "")):
+            self.assertEqual(waiting.taken(batch.get(last)), batch.get(name), name)
 
 
 # ---- The files that are cited.
