@@ -2,7 +2,7 @@
 
 from typing import NamedTuple
 
-from mutation.tokens import closing, top_level
+from mutation.tokens import CODE, closing, tokens, top_level
 
 CONTRACTS = ("requires", "ensures", "invariant", "decreases")
 
@@ -70,3 +70,10 @@ def items(words, start=0, stop=None, owner=""):
             at = closing(words, brace) + 1
         else:
             at = closing(words, at) + 1 if text in ("{", "(", "[") else at + 1
+
+
+def function_lines(text):
+    """The functions of a text of the code by name, each with its first and its last line."""
+    words = tokens(CODE, text)
+    found = ((item.name, (words[item.first].start, words[item.stop - 1].start)) for item in items(words) if item.kind == "fn")
+    return {name: tuple(1 + text.count("\n", 0, place) for place in places) for name, places in found}

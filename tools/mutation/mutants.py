@@ -13,6 +13,7 @@ from pathlib import Path
 from types import MappingProxyType
 
 from mutation import code, definitions, signatures
+from mutation.items import function_lines
 
 CODE, DEFINITIONS, EDITS = KINDS = ("code", "definitions", "edits")
 
@@ -21,13 +22,18 @@ LONGEST = 240
 
 @dataclass(frozen=True)
 class Mutant:
-    """A change of a file: its key, the crate, the file's path in the repository, its whole text afterwards, and what it is of."""
+    """A change of a file: its key, the crate, the file's path in the repository, its whole text afterwards, and what it is of.
+
+    One of the body of a function has the function's name, and its change: from where, to where, and what stands there then.
+    """
 
     key: str
     crate: str
     path: str
     text: str
     kind: str
+    function: str = ""
+    change: tuple = ()
 
 
 # ---- The crates.
@@ -47,6 +53,18 @@ def above(listed, crate):
         if found & set(below):
             found.add(name)
     return [name for name in listed if name in found and name != crate]
+
+
+def is_program(root, crate):
+    """Whether a crate is a program."""
+    return (root / "crates" / crate / "src" / "main.rt").exists()
+
+
+def sum_of(root, crate):
+    """A short sum of a crate's own files: of its code, its definitions and its proofs."""
+    files = (path for folder in ("src", "specs", "proofs") for path in (root / "crates" / crate / folder).rglob("*") if path.is_file())
+    lines = [f"{path.relative_to(root).as_posix()} {hashlib.sha256(path.read_bytes()).hexdigest()}\n" for path in sorted(files)]
+    return hashlib.sha256("".join(lines).encode()).hexdigest()[:10]
 
 
 # ---- The keys.
@@ -77,6 +95,7 @@ def applied(text, edit):
 def of_file(crate, path, text, seed, kind, types=MappingProxyType({})):
     """The mutants of a file, each text once; types has those of the arguments of functions or definitions."""
     seen, numbers, made = {text}, {}, []
+    functions = function_lines(text) if kind == CODE else {}
     for edit in (code if kind == CODE else definitions).edits(text, seed, types):
         after = applied(text, edit)
         if after in seen:
@@ -89,7 +108,8 @@ def of_file(crate, path, text, seed, kind, types=MappingProxyType({})):
             continue
         inner = Path(path).relative_to(f"crates/{crate}")
         key = f"{crate} {inner} {edit.name} #{numbers[place]}: {old} => {new or '(left out)'}"
-        made.append(Mutant(key, crate, str(path), after, kind))
+        own = (edit.name, tuple(edit[:3])) if edit.name in functions else ()
+        made.append(Mutant(key, crate, str(path), after, kind, *own))
     return made
 
 
@@ -99,12 +119,14 @@ def all_types(root):
     return signatures.of_repository(root)
 
 
-def of_crate(root, crate, seed, specs):
-    """The mutants of a crate: of its code, and with specs of its definitions."""
+def of_crate(root, crate, seed, specs, cited=None):
+    """The mutants of a crate: of its code, and with specs of its definitions; where it is said which files of definitions are cited, of these alone."""
     made = []
     types = dict(zip((CODE, DEFINITIONS), all_types(root)))
     for kind, folder, pattern in ((CODE, "src", "*.rt"), (DEFINITIONS, "specs", "*.antt"))[: 1 + specs]:
         for path in sorted((root / "crates" / crate / folder).rglob(pattern)):
+            if kind == DEFINITIONS and cited is not None and f"{crate}/{path.stem}" not in cited:
+                continue
             made.extend(of_file(crate, path.relative_to(root), path.read_text(encoding="utf-8"), seed, kind, types[kind]))
     return made
 

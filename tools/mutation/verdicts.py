@@ -24,7 +24,7 @@ from typing import NamedTuple
 FALSE, MISFIT, NONE, SURVIVED, UNKNOWN = "false fact", "text no longer fits", "no program", "survived", "could not tell"
 
 UNPROVED = "it is not proved"
-ERROR = re.compile(rf"^(?:note: )?(?P<file>\S+?\.(?:antt|rt)):\d+:\d+: (?P<kind>error(?:\[[\w-]+\])?|{UNPROVED})(?P<words>.*)$")
+ERROR = re.compile(rf"^(?:note: )?(?P<file>\S+?\.(?:antt|rt)):(?P<line>\d+):\d+: (?P<kind>error(?:\[[\w-]+\])?|{UNPROVED})(?P<words>.*)$")
 UNCLOSED = re.compile(r"^fn (?P<file>\S+): no proof: .*`search` does not close (?P<words>.*)$")
 
 CONSEQUENCE = "was not admitted (it has holes or undetermined implicits, or was rejected), so this cannot be checked"
@@ -48,11 +48,12 @@ class Verdict(NamedTuple):
 
 
 class Message(NamedTuple):
-    """A message: the file that it is of (the function, of a search), its kind, and its words."""
+    """A message: the file that it is of (the function, of a search), its kind, its words, and its line in the file (0, of a search)."""
 
     file: str
     kind: str
     words: str
+    line: int
 
 
 def messages(output):
@@ -61,9 +62,10 @@ def messages(output):
     for line, second in zip(lines, [*lines[1:], ""]):
         match = ERROR.match(line) or UNCLOSED.match(line)
         if match and CONSEQUENCE not in line:
-            parts = {"kind": "search", **match.groupdict()}
+            parts = {"kind": "search", "line": 0, **match.groupdict()}
             said = f"{parts['kind']}{parts['words']}" if parts["kind"] == UNPROVED else parts["words"].lstrip(": ")
-            found.append(Message(parts["file"], parts["kind"], f"{said} {second.strip()}" if second.startswith("  ") else said))
+            words = f"{said} {second.strip()}" if second.startswith("  ") else said
+            found.append(Message(parts["file"], parts["kind"], words, int(parts["line"])))
     return found
 
 
@@ -83,18 +85,24 @@ def of_proofs(found):
     return Verdict(MISFIT, gone[0].words) if gone else Verdict(UNKNOWN, "refused without a message")
 
 
+def of_compiler(found, output):
+    """The messages that say that there is no program; a definition that does not parse or type is among them."""
+    compiler = [message for message in found if "[" in message.kind or "/specs/" in message.file]
+    return compiler or ([] if "logic=" in output else found)
+
+
 def verdict(status, output):
     """What a run with this exit status and output says; the status is None where the time was up."""
     found = messages(output)
-    compiler = [message for message in found if "[" in message.kind or "/specs/" in message.file]
+    compiler = of_compiler(found, output)
     if status is None:
         return Verdict(UNKNOWN, "the time limit")
     if status == 0:
         return Verdict(SURVIVED)
     if status == 1 and "is not what its file 'stdout' has" in output:
         return Verdict(FALSE, "the program writes something else than its file 'stdout'")
-    if status == 1 and (compiler or "logic=" not in output and found):
-        return Verdict(NONE, (compiler or found)[0].words)
+    if status == 1 and compiler:
+        return Verdict(NONE, compiler[0].words)
     if status == 1 and "logic=not-proved" in output:
         return of_proofs(found)
     return Verdict(UNKNOWN, f"status {status}: {output.strip().splitlines()[-1] if output.strip() else 'nothing was said'}")

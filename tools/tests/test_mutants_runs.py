@@ -2,9 +2,12 @@
 
 import os
 import shutil
+import signal
 import subprocess
+import tempfile
 import time
 import unittest
+from pathlib import Path
 
 from cases import TOOLS, Case, loaded
 
@@ -87,14 +90,22 @@ class Verdicts(unittest.TestCase):
 class Reports(unittest.TestCase):
     def test_rows(self):
         mutant = mutants.Mutant("a k", "a", "p", "t", mutants.CODE)
-        row = reports.row(mutant, runs.Outcome(Verdict(FALSE, "x\ty"), "b", 1.25))
-        self.assertEqual(reports.rows(f"{row}\nhalf a li"), {"a k": (Verdict(FALSE, "x y"), "b")})
+        row = reports.row(mutant, runs.Outcome(Verdict(FALSE, "x\ty"), "b", 1.25), "5a")
+        self.assertEqual(reports.rows(f"a\tline\n{row}\nhalf a li"), [reports.Row(Verdict(FALSE, "x y"), "b", "a k", "5a")])
 
     def test_table(self):
-        one, other = mutants.Mutant("k", "a", "p", "t", mutants.CODE), mutants.Mutant("l", "b", "p", "t", mutants.EDITS)
-        lines = [" ".join(line.split()) for line in reports.table([(one, FALSE), (one, SURVIVED), (other, NONE)])]
-        self.assertEqual(lines[1:3], ["a 2 1 0 0 0 1 0", "b 1 0 0 1 0 0 0"])
-        self.assertEqual(lines[3:], ["code 2 1 0 0 0 1 0", "definitions 0 0 0 0 0 0 0", "edits 1 0 0 1 0 0 0", "all 3 1 0 1 0 1 0"])
+        found = [reports.Found(*one) for one in (("a", mutants.CODE, FALSE), ("b", mutants.EDITS, NONE), ("a", mutants.CODE, SURVIVED))]
+        lines = [" ".join(line.split()) for line in reports.table(found)]
+        columns = "mutants false fact text no longer fits no program equivalent survived could not tell"
+        self.assertEqual(lines, [f"code {columns}", "a 2 1 0 0 0 1 0", "all 2 1 0 0 0 1 0", f"edits {columns}", "b 1 0 0 1 0 0 0", "all 1 0 0 1 0 0 0"])
+
+    def test_summary(self):
+        """By the last line of each, with what may survive by what is named now."""
+        keys = ("a src/lib.rt f #1: 4 => 3", "b specs/B.antt g #1: 4 => 3", "b edit wrong")
+        pairs = ((keys[0], FALSE), (keys[1], SURVIVED), (keys[2], NONE), (keys[0], SURVIVED))
+        text = "".join(f"{kind}\t1.0\ta\t{key}\twords\t5a\n" for key, kind in pairs)
+        found = reports.summed(text, {keys[0]: "It may."})
+        self.assertEqual(found, [("a", mutants.CODE, reports.EQUIVALENT), ("b", mutants.DEFINITIONS, SURVIVED), ("b", mutants.EDITS, NONE)])
 
     def test_lines(self):
         mutant = mutants.Mutant("a k", "a", "p", "t", mutants.CODE)
@@ -141,7 +152,7 @@ class Runs(Fake):
     def outcomes(self, *texts, jobs=1, limit=20, climbs=lambda mutant: True):
         """The kind and the crate of each."""
         made = [self.mutant(text) for text in texts]
-        return {mutant.text: (found.verdict.kind, found.crate) for mutant, found in runs.outcomes(self.root, made, jobs, climbs, limit)}
+        return {mutant.text: (found.verdict.kind, found.crate) for mutant, found in runs.outcomes(self.root, [[one] for one in made], jobs, climbs, limit)}
 
     def test_verdicts(self):
         for jobs in (1, 3):
@@ -176,12 +187,19 @@ class Runs(Fake):
         (self.root / "crates/a/src/main.rt").write_text("fine\n")
         self.assertEqual(self.outcomes("below"), {"below": (FALSE, "a")})
 
+    def test_programs_above_are_not(self):
+        (self.root / "crates/b/src/main.rt").write_text("fine\n")
+        self.assertEqual(self.outcomes("below"), {"below": (SURVIVED, "a")})
+
     def test_end_of_a_run_that_is_left(self):
         """What is under way ends with the run, and the copies go."""
-        began, found = time.monotonic(), runs.outcomes(self.root, [self.mutant("wrong"), self.mutant("slow")], 1, lambda mutant: True, 50)
+        before, began = set(Path(tempfile.gettempdir()).glob("mutants.*")), time.monotonic()
+        found = runs.outcomes(self.root, [[self.mutant("wrong")], [self.mutant("slow")]], 1, lambda mutant: True, 50)
         next(found)
+        self.assertEqual(len(set(Path(tempfile.gettempdir()).glob("mutants.*")) - before), 1)
         found.close()
         self.assertLess(time.monotonic() - began, 15)
+        self.assertEqual(set(Path(tempfile.gettempdir()).glob("mutants.*")) - before, set())
 
 
 class Whole(Fake):
@@ -192,7 +210,9 @@ class Whole(Fake):
     def setUp(self):
         super().setUp()
         (self.root / "crates/a/src/lib.rt").write_text("fn f() -> u8 {\n    4\n}\n")
-        (self.root / "tools/edits/a").mkdir(parents=True)
+        for folder in ("tools/edits/a", "docs"):
+            (self.root / folder).mkdir(parents=True)
+        (self.root / "docs/TRUST.md").write_text("## What a reader must believe\n\n| a | A 2 | all |\n")
         for name in ("mutants", "command.py"):
             shutil.copy(TOOLS / name, self.root / "tools")
         shutil.copytree(TOOLS / "mutation", self.root / "tools/mutation", ignore=shutil.ignore_patterns("__pycache__"))
@@ -239,8 +259,59 @@ class Whole(Fake):
         self.assertEqual((status, lines[-1], (self.folder / "report").read_bytes()), (0, "all 2 1 0 0 1 0 0", before))
 
     def test_what_could_not_be_told_is_tried_again(self):
-        self.file("report", f"could not tell\t1.0\ta\t{self.SURVIVOR}\tthe time limit\n")
+        self.file("report", f"could not tell\t1.0\ta\t{self.SURVIVOR}\tthe time limit\t{mutants.sum_of(self.root, 'a')}\n")
         self.assertEqual(self.tried("a", "--report", "report")[1][-1], "all 2 1 0 0 0 1 0")
+
+    def test_crate_that_changed_is_tried_again(self):
+        """Whatever file of it changed; one of another crate does not matter."""
+        self.file("report", "half a li")
+        for name, lines in (("crates/b/src/lib.rt", 3), ("crates/b/src/lib.rt", 3), ("crates/a/proofs/f/Proof.antt", 5), ("crates/a/specs/Lib.antt", 7)):
+            (self.root / name).parent.mkdir(parents=True, exist_ok=True)
+            (self.root / name).write_text("fine, too\n")
+            self.tried("a", "--report", "report")
+            self.assertEqual((self.folder / "report").read_bytes().count(b"\n"), lines)
+
+    def test_summary(self):
+        whole = self.tried("a", "--report", "report")
+        self.file("bin/rt", "#!/bin/sh\nexit 2\n")
+        self.assertEqual(self.tried("--summary", "report"), (1, whole[1][1:], ""))
+
+    def test_signals(self):
+        """A run that is asked to end leaves the lines that it has, whole, and no copy."""
+        self.file("bin/rt", PROVER.replace("grep -qs slow", "grep -qs '^    5'"))
+        for number in (signal.SIGINT, signal.SIGTERM):
+            folder, report = self.folder / f"tmp{number}", self.folder / f"report{number}"
+            folder.mkdir()
+            words = [self.root / "tools/mutants", "a", "--report", report]
+            with subprocess.Popen(words, env={**os.environ, "TMPDIR": str(folder)}, stderr=subprocess.PIPE, stdout=subprocess.DEVNULL) as child:
+                self.wait_for(folder, "    5")
+                child.send_signal(number)
+                self.assertEqual((child.wait(20), b"Traceback" in child.stderr.read()), (-number, False))
+            self.assertEqual(list(folder.iterdir()), [])
+            self.assertRegex(report.read_text(), rf"\Asurvived\t[\d.]+\ta\t{self.SURVIVOR}\t\t[0-9a-f]{{10}}\n\Z")
+
+    def wait_for(self, folder, line):
+        """Waits until a copy in a folder has a file of the code with this line, and is tried."""
+        for _ in range(400):
+            if any(line in path.read_text() for path in folder.glob("*/crates/a/src/lib.rt")):
+                return time.sleep(0.2)
+            time.sleep(0.05)
+        self.fail("no copy has it")
+
+    def test_programs_and_examples_are_left_out(self):
+        (self.root / "crates.txt").write_text("a:\nb: a\nexamples: a\n")
+        (self.root / "crates/examples/src").mkdir(parents=True)
+        for name in ("b/src/main", "examples/src/lib"):
+            (self.root / f"crates/{name}.rt").write_text("fn g() -> u8 {\n    4\n}\n")
+        listed = [{line.split()[0] for line in self.tried(*words, "--list")[1]} for words in ([], ["b"], ["examples", "a"])]
+        self.assertEqual(listed, [{"a"}, {"b"}, {"examples", "a"}])
+
+    def test_private_definitions_are_left_out(self):
+        (self.root / "crates/a/specs").mkdir()
+        for name in ("A", "B"):
+            (self.root / f"crates/a/specs/{name}.antt").write_text("abbrev pub f : ℕ\nf = 0\n")
+        listed = [{line.split()[1] for line in self.tried("a", *words, "--list")[1]} for words in ([], ["--specs"], ["--specs", "--private"])]
+        self.assertEqual(listed, [{"src/lib.rt"}, {"src/lib.rt", "specs/A.antt"}, {"src/lib.rt", "specs/A.antt", "specs/B.antt"}])
 
     def test_crate_that_is_not_proved(self):
         (self.root / "crates/a/src/lib.rt").write_text("fn f() -> u8 {\n    5\n}\n")
@@ -274,9 +345,9 @@ class Command(Case):
 
     def test_status(self):
         made = loaded("mutants")
-        code_one, edit = (mutants.Mutant("k", "a", "p", "t", kind) for kind in (mutants.CODE, mutants.EDITS))
-        self.assertEqual([made.has_failed(code_one, under) for under in reports.COLUMNS], [under == SURVIVED for under in reports.COLUMNS])
-        self.assertEqual([made.has_failed(edit, under) for under in (FALSE, MISFIT, NONE, SURVIVED)], [False, False, True, True])
+        failed = {kind: [made.has_failed(reports.Found("a", kind, under)) for under in reports.COLUMNS] for kind in (mutants.CODE, mutants.EDITS)}
+        self.assertEqual(failed[mutants.CODE], [under == SURVIVED for under in reports.COLUMNS])
+        self.assertEqual(failed[mutants.EDITS], [under in (NONE, SURVIVED) for under in reports.COLUMNS])
 
 
 if __name__ == "__main__":
