@@ -255,10 +255,10 @@ def stop(copies, workers):
     """Ends what is under way in copies."""
     for copy in copies:
         copy.is_over.set()
-    while any(worker.is_alive() for worker in workers):
+    while alive := [worker for worker in workers if worker.is_alive()]:
         for child in list(running):
             end(child)
-        workers[0].join(0.1)
+        alive[0].join(0.1)
 
 
 def outcomes(root, batches, jobs, climbs, limit=LIMIT):
