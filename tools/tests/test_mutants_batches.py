@@ -67,7 +67,7 @@ class Together(unittest.TestCase):
 
 # ---- What a run says.
 
-PROOF = "/tmp/m/crates/a/proofs"
+PROOF = "m/crates/a/proofs"
 TAIL = "fn a::f: not proved\nlogic=not-proved\n"
 LATER = "was not admitted (it has holes or undetermined implicits, or was rejected), so this cannot be checked"
 
@@ -81,12 +81,12 @@ def gone(folder):
 
 
 def compiler(line, file="lib"):
-    return f"/tmp/m/crates/a/src/{file}.rt:{line}:17: error[mismatched-types]: expected `bool`, found `usize`\n"
+    return f"m/crates/a/src/{file}.rt:{line}:17: error[mismatched-types]: expected `bool`, found `usize`\n"
 
 
 def search(name, file, line):
     return (
-        f"note: /tmp/m/crates/a/src/{file}.rt:{line}:1: it is not proved that what the function ensures holds when it returns (`returns`)\n"
+        f"note: m/crates/a/src/{file}.rt:{line}:1: it is not proved that what the function ensures holds when it returns (`returns`)\n"
         f"fn a::{name}: no proof: expected `{name}-spec` in {PROOF}/{name}/Proof.antt; `search` does not close `returns`\n"
     )
 
