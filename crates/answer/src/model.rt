@@ -1,7 +1,7 @@
 // The answer of a call that has no result.
 
 // Done, or the number of the refusal.
-#[derive(Drop)]
+#[derive(Clone, Copy)]
 pub enum Outcome {
     Done,
     Refused(u8),

@@ -2,7 +2,7 @@
 use limits::model::Mesh;
 
 // The sizes of a file: V, F and N (rule F1). The lengths of the file's parts are its constants, named here once.
-#[derive(Drop)]
+#[derive(Clone, Copy)]
 pub struct Header {
     pub vertices: usize,
     pub faces: usize,
@@ -18,7 +18,7 @@ impl Header {
 }
 
 // The answer of decoding: the sizes, or the number of the refusal.
-#[derive(Drop)]
+#[derive(Clone, Copy)]
 pub enum Decoded {
     Read(Header),
     Refused(u8),

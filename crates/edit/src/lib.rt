@@ -1,4 +1,5 @@
 //! Calls that make one mesh of another: its mirror image.
+#![tactic(auto)]
 mod image;
 
 ghost use Rattle.mesh.specs.IndexedMesh.{indexed};

@@ -1,7 +1,7 @@
 // The mesh's record and the answer of the check.
 
 // A checked mesh: its counts V, F, E and B (rule T8). The limits are its constants, named here once (rule M5).
-#[derive(Drop)]
+#[derive(Clone, Copy)]
 pub struct Mesh {
     pub vertices: usize,
     pub faces: usize,
@@ -36,7 +36,7 @@ impl Mesh {
 }
 
 // The answer of the check: the counts of an accepted mesh, or the number of the refusal.
-#[derive(Drop)]
+#[derive(Clone, Copy)]
 pub enum Checked {
     Accepted(Mesh),
     Refused(u8),

@@ -5,7 +5,7 @@ use sample::model::MAX_STEPS;
 pub const MAX_LINE: usize = 3 * (MAX_STEPS + 1);
 
 // A number that goes on from place to place, and its three differences there.
-#[derive(Drop)]
+#[derive(Clone, Copy)]
 pub(crate) struct Differences {
     pub value: i64,
     pub first: i64,

@@ -1,9 +1,10 @@
 //! The whole text of a file, handed out in stretches of lines: pure, so that what is printed is proved up to the write call.
+#![tactic(auto)]
 pub mod model;
 mod samples;
 
 ghost use Rattle.std.specs.Prelude.{◌≡◌, ◌-◌, ◌≤◌, ◌<◌, length};
-ghost use Rattle.answer.specs.Table.{result};
+ghost use Rattle.answer.specs.Table.{result as given};
 ghost use Rattle.meshfile.specs.Answer.{opened};
 ghost use Rattle.text.specs.Text.{line_places};
 ghost use Rattle.listing.specs.Listing.{handed_count, lines_from, Stretched};
@@ -18,7 +19,7 @@ use text::LINE_PLACES;
 
 // How many lines of an accepted file are handed out: all; where F or N is above its limit, the line of counts alone.
 fn mesh_count(t: Tessellation) -> usize
-    ensures* { λ r. ⌜ r ≡ handed_count (result t) ⌝ }
+    ensures { result ≡ handed_count (given t) }
 {
     let m = t.mesh;
     let n = t.steps;
@@ -35,7 +36,7 @@ fn mesh_count(t: Tessellation) -> usize
 // Returns: 1 + F (N + 1)^2, or 1 of a refused file; also 1, for the counts, where F or N is above its limit, as in no answer of opening a file.
 // Writes, refuses: nothing.
 pub fn line_count(answer: Opened) -> usize
-    ensures* { λ r. ⌜ r ≡ handed_count (opened answer) ⌝ }
+    ensures { result ≡ handed_count (opened answer) }
 {
     match answer {
         Opened::Ready(t) => mesh_count(t),
@@ -46,8 +47,8 @@ pub fn line_count(answer: Opened) -> usize
 // Lines of the text from `line` on, at least one: that of a refusal, or lines of a mesh.
 fn next_lines(answer: Opened, patches: &[i32], line: usize, out: &mut [u8]) -> Lines
     requires { (line < handed_count (opened answer)) × (line_places ≤ length out.old) }
-    ensures* { λ r. ⌜ LinesPut (lines_from (opened answer) patches.now line) (handed_count (opened answer) - line)
-        out.old r out.new ⌝ }
+    ensures { LinesPut (lines_from (opened answer) patches.now line) (handed_count (opened answer) - line)
+        out.old result out.new }
 {
     match answer {
         Opened::Ready(t) => mesh_lines(t, patches, line, out),
@@ -63,7 +64,7 @@ fn next_lines(answer: Opened, patches: &[i32], line: usize, out: &mut [u8]) -> L
 // Writes: whole lines from `line` on to the front of out, each as long as a line is left and 128 places are left behind the lines before it.
 // Leaves alone: the other places of out. Refuses: nothing; out with fewer than 128 places gets no line.
 pub fn stretch(answer: Opened, patches: &[i32], line: usize, out: &mut [u8]) -> Stretch
-    ensures* { λ r. ⌜ Stretched (opened answer) patches.now line out.old r out.new ⌝ }
+    ensures { Stretched (opened answer) patches.now line out.old result out.new }
 {
     let lines = line_count(answer);
     let mut to = line;

@@ -1,7 +1,7 @@
 // What the listing of a file is handed out by.
 
 // A stretch of lines in a buffer.
-#[derive(Drop)]
+#[derive(Clone, Copy)]
 pub struct Stretch {
     // The number of the line that comes next, counted from 0.
     pub line: usize,
@@ -10,7 +10,7 @@ pub struct Stretch {
 }
 
 // A sample of a mesh, by its place.
-#[derive(Drop)]
+#[derive(Clone, Copy)]
 pub(crate) struct Place {
     pub(crate) face: usize,
     pub(crate) b: usize,
@@ -18,7 +18,7 @@ pub(crate) struct Place {
 }
 
 // Lines at the front of a buffer.
-#[derive(Drop)]
+#[derive(Clone, Copy)]
 pub(crate) struct Lines {
     // How many.
     pub(crate) count: usize,

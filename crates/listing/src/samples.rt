@@ -1,6 +1,6 @@
 // The lines of a mesh, in their order: the counts, then row by row the samples, a row being those of one face and one b.
 ghost use Rattle.std.specs.Prelude.{◌≡◌, ◌+◌, ◌-◌, ◌≤◌, ◌<◌, length};
-ghost use Rattle.answer.specs.Table.{result};
+ghost use Rattle.answer.specs.Table.{result as given};
 ghost use Rattle.sample.specs.Refusal.{max_steps};
 ghost use Rattle.line.specs.Line.{line_length, point_in};
 ghost use Rattle.text.specs.Text.{line_places, Printed};
@@ -16,7 +16,7 @@ use text::LINE_PLACES;
 // The place of sample i.
 fn place_of(n: usize, i: usize) -> Place
     requires { n ≤ max_steps }
-    ensures* { λ r. ⌜ Placed n r × (index n r ≡ i) ⌝ }
+    ensures { Placed n result × (index n result ≡ i) }
 {
     let m = n + 1;
     let row = i / m;
@@ -30,7 +30,7 @@ fn place_of(n: usize, i: usize) -> Place
 // The line of the point at place a of a row, that of p.
 fn point_line(points: &[i32], p: Place, a: usize, out: &mut [u8]) -> usize
     requires { (a ≤ max_steps) × (line_length a ≤ length points.now) }
-    ensures* { λ r. ⌜ Printed (line_of (result (point_in points.now a)) p.face a p.b) out.old out.new r ⌝ }
+    ensures { Printed (line_of (given (point_in points.now a)) p.face a p.b) out.old out.new result }
 {
     let x = points[3 * a];
     let y = points[3 * a + 1];
@@ -41,8 +41,8 @@ fn point_line(points: &[i32], p: Place, a: usize, out: &mut [u8]) -> usize
 // The lines of the points of a row from p on, as many as have room.
 fn point_lines(points: &[i32], n: usize, p: Place, out: &mut [u8]) -> Lines
     requires { Placed n p × (line_length n ≤ length points.now) × (line_places ≤ length out.old) }
-    ensures* { λ r. ⌜ LinesPut (λ j. line_of (result (point_in points.now (p.a + j))) p.face (p.a + j) p.b) (n + 1 - p.a)
-        out.old r out.new ⌝ }
+    ensures { LinesPut (λ j. line_of (given (point_in points.now (p.a + j))) p.face (p.a + j) p.b) (n + 1 - p.a)
+        out.old result out.new }
 {
     let mut a = p.a;
     let mut at: usize = 0;
@@ -59,8 +59,8 @@ fn point_lines(points: &[i32], n: usize, p: Place, out: &mut [u8]) -> Lines
 // The lines of the samples of a row from p on, as many as have room; of a refused row the line of one sample.
 fn row_lines(patches: &[i32], n: usize, p: Place, out: &mut [u8]) -> Lines
     requires { Placed n p × (line_places ≤ length out.old) }
-    ensures* { λ r. ⌜ LinesPut (λ j. sample_text patches.now n p.face p.b (p.a + j)) (n + 1 - p.a)
-        out.old r out.new ⌝ }
+    ensures { LinesPut (λ j. sample_text patches.now n p.face p.b (p.a + j)) (n + 1 - p.a)
+        out.old result out.new }
 {
     let mut points = [0i32; MAX_LINE];
     match line::sample_line(patches, p.face, n, p.b, &mut points) {
@@ -74,9 +74,9 @@ fn row_lines(patches: &[i32], n: usize, p: Place, out: &mut [u8]) -> Lines
 
 // Lines of an accepted file from `line` on, at least one: that of the counts, or those of a row of samples.
 pub(crate) fn mesh_lines(t: Tessellation, patches: &[i32], line: usize, out: &mut [u8]) -> Lines
-    requires { (line < handed_count (result t)) × (line_places ≤ length out.old) }
-    ensures* { λ r. ⌜ LinesPut (lines_from (result t) patches.now line) (handed_count (result t) - line)
-        out.old r out.new ⌝ }
+    requires { (line < handed_count (given t)) × (line_places ≤ length out.old) }
+    ensures { LinesPut (lines_from (given t) patches.now line) (handed_count (given t) - line)
+        out.old result out.new }
 {
     if line == 0 {
         let m = t.mesh;

@@ -1,4 +1,5 @@
 // The mesh: its half-edges, twins and fans, and the check of a whole mesh.
+#![tactic(auto)]
 mod chain;
 mod count;
 mod fan;

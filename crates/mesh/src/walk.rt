@@ -13,7 +13,7 @@ use limits::model::Mesh;
 const NO_CORNER: usize = Mesh::NO_TWIN as usize;
 
 // What a walk on from a corner has met.
-#[derive(Drop)]
+#[derive(Clone, Copy)]
 pub(crate) struct Met {
     // How many corners, the first among them.
     pub(crate) corners: usize,

@@ -1,4 +1,5 @@
 //! The file: its mesh, checked, and its patches (rule F4).
+#![tactic(auto)]
 pub mod model;
 mod tessellate;
 

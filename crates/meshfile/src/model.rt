@@ -2,7 +2,7 @@
 use limits::model::Mesh;
 
 // An accepted mesh and its N.
-#[derive(Drop)]
+#[derive(Clone, Copy)]
 pub struct Tessellation {
     pub mesh: Mesh,
     // N.
@@ -10,7 +10,7 @@ pub struct Tessellation {
 }
 
 // The answer of opening a file: the counts of its accepted mesh and its N, or the number of the refusal.
-#[derive(Drop)]
+#[derive(Clone, Copy)]
 pub enum Opened {
     Ready(Tessellation),
     Refused(u8),

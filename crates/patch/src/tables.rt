@@ -9,7 +9,7 @@ use control::values::position;
 use limits::model::Mesh;
 
 // A control value as it is stored, in units, and whether nothing was left when it was rounded.
-#[derive(Drop)]
+#[derive(Clone, Copy)]
 pub struct Stored {
     pub units: i32,
     pub exact: bool,

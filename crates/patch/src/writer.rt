@@ -11,7 +11,7 @@ use control::model::ControlPoint;
 use corner::wide;
 
 // The four points of its face that each corner owns.
-#[derive(Drop)]
+#[derive(Clone, Copy)]
 pub enum Kind {
     Corner,
     Along,
@@ -20,7 +20,7 @@ pub enum Kind {
 }
 
 // A control point as it is written, in units, and whether nothing was left in any coordinate.
-#[derive(Drop)]
+#[derive(Clone, Copy)]
 pub struct PatchPoint {
     pub x: i32,
     pub y: i32,

@@ -1,5 +1,6 @@
 //! The text of a file, on standard output. The answer that is handed back is proved, and so is every stretch that is passed to the write call; that the
 //! writes come out in this order is the loop below, as no contract can speak of standard output.
+#![tactic(auto)]
 ghost use Rattle.std.specs.Prelude.{◌≤◌, length};
 ghost use Rattle.meshfile.specs.Answer.{FileOpened};
 ghost use Rattle.text.specs.Text.{line_places};

@@ -9,14 +9,14 @@ pub const MIN_STEPS: usize = 1;
 pub const MAX_STEPS: usize = 32;
 
 // A coordinate of a sample, and whether its division left nothing.
-#[derive(Drop)]
+#[derive(Clone, Copy)]
 pub(crate) struct Coordinate {
     pub value: i32,
     pub exact: bool,
 }
 
 // A sample, in units of 1/256 micrometre.
-#[derive(Drop)]
+#[derive(Clone, Copy)]
 pub struct Point {
     pub x: i32,
     pub y: i32,
@@ -24,28 +24,28 @@ pub struct Point {
 }
 
 // The answer of the sample call: the sample, or the number of the refusal.
-#[derive(Drop)]
+#[derive(Clone, Copy)]
 pub enum Sampled {
     At(Point),
     Refused(u8),
 }
 
 // A sample, and whether it is exact: all sixteen marks of its patch are set, and its own division left nothing (rule S7).
-#[derive(Drop)]
+#[derive(Clone, Copy)]
 pub struct MarkedPoint {
     pub point: Point,
     pub exact: bool,
 }
 
 // The answer of the marked sample call: the sample with its mark, or the number of the refusal.
-#[derive(Drop)]
+#[derive(Clone, Copy)]
 pub enum Marked {
     At(MarkedPoint),
     Refused(u8),
 }
 
 // A sample in micrometres.
-#[derive(Drop)]
+#[derive(Clone, Copy)]
 pub struct Micrometres {
     pub x: f64,
     pub y: f64,
@@ -53,7 +53,7 @@ pub struct Micrometres {
 }
 
 // The answer of the reading: the sample in micrometres, or the number of the refusal.
-#[derive(Drop)]
+#[derive(Clone, Copy)]
 pub enum Reading {
     At(Micrometres),
     Refused(u8),
@@ -61,7 +61,7 @@ pub enum Reading {
 
 // The curves along u that all samples of a face with one b share: the values of x, of y and of z, and the divisor of their sums, where `refusal`
 // is 0; else the number of the refusal, and zeros.
-#[derive(Drop)]
+#[derive(Clone, Copy)]
 pub struct Curves {
     pub refusal: u8,
     pub divisor: u32,

@@ -3,7 +3,7 @@ use limits::model::Checked;
 use sample::model::{Marked, Sampled};
 
 // A place of a face, as the sample call is given it.
-#[derive(Drop)]
+#[derive(Clone, Copy)]
 pub struct SamplePlace {
     pub face: usize,
     pub a: usize,
@@ -11,7 +11,7 @@ pub struct SamplePlace {
 }
 
 // What the calls gave for one mesh: the answer of the patch call, and of the sample call and the marked one on the lists that it left.
-#[derive(Drop)]
+#[derive(Clone, Copy)]
 pub struct Evaluation {
     pub mesh: Checked,
     pub sample: Sampled,
@@ -19,7 +19,7 @@ pub struct Evaluation {
 }
 
 // What the calls gave for two meshes, with one more sample on the first one's patch list.
-#[derive(Drop)]
+#[derive(Clone, Copy)]
 pub struct Witness {
     pub first: Evaluation,
     pub other: Sampled,

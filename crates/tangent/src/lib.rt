@@ -1,4 +1,5 @@
 //! The tangent vectors of a face, for shading.
+#![tactic(auto)]
 mod corners;
 mod fill;
 mod parts;

@@ -9,7 +9,7 @@ use control::value::{edge_value, inner_value};
 use corner::{next_corner, wide};
 
 // The parts of a side: two corner vectors, two edge points, and the inner points behind them.
-#[derive(Drop)]
+#[derive(Clone, Copy)]
 pub enum Part {
     AtStart,
     AtEnd,

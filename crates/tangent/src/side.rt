@@ -4,7 +4,7 @@ ghost use Rattle.tangent.specs.Vector.{triple_difference, first_term, corrected 
 ghost use Rattle.tangent.specs.Lists.{vector_kind_of, vector_of, SideSized, TermSized, IntoSized};
 
 // The six vectors of a side.
-#[derive(Drop)]
+#[derive(Clone, Copy)]
 pub enum VectorKind {
     Start,
     Middle,
@@ -15,7 +15,7 @@ pub enum VectorKind {
 }
 
 // One coordinate of a side: the corner vectors along it, its edge points and the inner points behind them, and the cosines at its ends.
-#[derive(Drop)]
+#[derive(Clone, Copy)]
 pub struct Side {
     pub start: i64,
     pub end: i64,

@@ -1,4 +1,5 @@
 // Reads a file from standard input and prints its text on standard output; a read or a write that fails is told on standard error.
+#![tactic(auto)]
 use libc::{STDERR_FILENO, STDIN_FILENO};
 
 // A line on standard error.

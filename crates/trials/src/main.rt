@@ -3,6 +3,7 @@
 // mirror_trial.rt, sample_trial.rt, marked_trial.rt, line_trial.rt, weight_trial.rt and tangent_trial.rt say what follows the name. `no
 // file` says that none has that name, `not whole` that the file is longer or shorter than its sizes and lists, and `too long` that a list
 // has more places than reading.rt has for it.
+#![tactic(auto)]
 mod line_trial;
 mod marked_trial;
 mod mesh_trial;

@@ -4,7 +4,7 @@ use crate::printing::{mark, print_clear, print_wide, widened};
 use sample::model::{Marked, Point, Sampled};
 
 // The two sums.
-#[derive(Drop)]
+#[derive(Clone, Copy)]
 pub(crate) struct Sums {
     pub(crate) first: u64,
     pub(crate) second: u64,
@@ -72,7 +72,7 @@ fn mark_of(sampled: Sampled, marked: Marked) -> i32 {
 }
 
 // The two sums of samples, and those of their marks.
-#[derive(Drop)]
+#[derive(Clone, Copy)]
 pub(crate) struct SampleSums {
     pub(crate) samples: Sums,
     pub(crate) marks: Sums,

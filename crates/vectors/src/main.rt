@@ -1,5 +1,6 @@
 // Prints, for each vector that an argument names (a file, rule F1), the name on a line and then the lines of the file (rule F10).
 // `no file` says that none has that name.
+#![tactic(auto)]
 use libc::STDOUT_FILENO;
 
 // Text as it is.
