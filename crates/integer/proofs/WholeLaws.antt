@@ -44,6 +44,7 @@ whole_scaled z d m h j =
   where
     times_none : (a m : ℕ) → 0 < m → eqb (a * m) 0 ≡ eqb a 0
     times_none zero m j = eq-eqb (zero * m) 0 (omega arith)
+    times_none (suc a) zero j = elim j [ ]
     times_none (suc a) (suc m) j = ne_eqb (suc a * suc m) 0 (λ e. omega arith) ∙ sym (ne_eqb (suc a) 0 (λ e. omega arith))
 
 -- computed: 5/3 goes up to 2 and leaves -1, 5/2 goes down to 2 and leaves 1, -4/3 leaves -1, 6/3 nothing; a divisor 0 leaves all

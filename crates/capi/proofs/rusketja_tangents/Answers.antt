@@ -1,0 +1,24 @@
+-- `rusketja_tangents` meets its contract: the answer of the tangent call is returned as a number, and the list is as that call left it.
+use mathlib.Core.Path.{ap, ◌∙◌}
+use borrow.Author.Rules.{rules}
+use Rattle.capi.specs.Answer.{code}
+use Rattle.capi.proofs.rusketja_tangents.Goals.{After-outcome_code, After-tangents-answer}
+use Rattle.capi.proofs.rusketja_tangents.Goals as goal
+
+-- ---- the way back: from the number to the tangent call
+abbrev called : After-outcome_code → After-tangents-answer
+called c = c.before.before
+
+pub tangents-answer-requires : goal.tangents-answer-requires
+tangents-answer-requires c = tt
+
+pub outcome_code-requires : goal.outcome_code-requires
+outcome_code-requires c = tt
+
+pub shape_of-tangents : goal.shape_of-tangents
+shape_of-tangents c = search rules
+
+pub returns : goal.returns
+returns c =
+    let answer = (called c).tangents-answer.ensures in
+    record { code_is = c.outcome_code.ensures ∙ ap code answer.answer-is; list-is = answer.list-is }

@@ -1,0 +1,17 @@
+-- `along_point` meets its contract: each coordinate has its own call, with the weight and the twin of the tables.
+use mathlib.Core.Path.{◌∙◌}
+use native.Mathlib.Omega.{arith}
+use borrow.Author.Rules.{rules}
+use Rattle.control.specs.Control.{along_at}
+use Rattle.control.proofs.ControlLaws.{point-of}
+use Rattle.control.proofs.along_point.Goals as goal
+
+pub returns : goal.returns
+returns c =
+    let z = c.before in
+    let y = z.before in
+    let x = y.before in
+    let s = x.before.before.before in
+    c.point.ensures
+    ∙ point-of (λ k. along_at s.args.values.now s.args.links.now s.args.weights.now k s.args.c)
+    x.along_value.ensures y.along_value-2.ensures z.along_value-3.ensures

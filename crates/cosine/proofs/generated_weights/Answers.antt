@@ -1,0 +1,22 @@
+-- `generated_weights` meets its contract: it returns the two lists as `fill` left them.
+use mathlib.Core.Path.{ap₂}
+use mathlib.Core.List.{List}
+use lib.IntN.{ℤ}
+use borrow.Author.Rules.{rules}
+use Rattle.cosine.specs.declared.model.Weights.{Weights}
+use Rattle.cosine.proofs.generated_weights.Goals as goal
+
+abbrev both : List ℤ → List ℤ → Weights
+both edge face = record { edge = edge; face = face }
+
+pub slice_bounds-fill-end : goal.slice_bounds-fill-end
+slice_bounds-fill-end c = search rules
+
+pub slice_bounds-fill-end-2 : goal.slice_bounds-fill-end-2
+slice_bounds-fill-end-2 c = search rules
+
+pub fill-requires : goal.fill-requires
+fill-requires c = search rules
+
+pub returns : goal.returns
+returns c = let w = c.before.before.fill.ensures in ap₂ both w.0 w.1

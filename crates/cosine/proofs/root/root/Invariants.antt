@@ -1,0 +1,13 @@
+-- `root` meets its contract: after k turns the root lies from r to below r + b, and b is the value of the last digit found.
+use mathlib.Core.Path.{◌≡◌, refl, sym, subst}
+use Prim.Native.Nat.{ℕ, ◌+◌, ◌-◌, ◌*◌, ◌/◌, ◌^◌, ◌≤◌}
+use native.Mathlib.Omega.{arith}
+use Rattle.cosine.specs.Root.{RootFrom}
+use Rattle.cosine.proofs.RootLaws.{digit_value, last-digit}
+use Rattle.cosine.proofs.root.root.Given as goal
+
+abbrev pub invariant-loop-k : goal.invariant-loop-k
+invariant-loop-k l = Found l.x l.r l.b l.k
+
+abbrev pub decreases-loop-k : goal.decreases-loop-k
+decreases-loop-k l = 22 - l.k

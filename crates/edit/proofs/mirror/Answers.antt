@@ -1,0 +1,106 @@
+-- `mirror` meets its contract: what the check refuses is refused, then lists of other lengths are; where it accepts, no coordinate is beyond the
+-- limit, the faces are whole, and the three lists are filled to their ends.
+use mathlib.Core.Path.{◌≡◌, refl, sym, ap, ◌∙◌}
+use mathlib.Core.Bool.{false}
+use native.Mathlib.Omega.{arith}
+use native.Mathlib.Nat.{le_of_eq}
+use borrow.Author.Rules.{rules}
+use Rattle.mesh.specs.IndexedMesh.{IndexedMesh, indexed}
+use Rattle.mesh.specs.Refusal.{Accepted}
+use Rattle.mesh.specs.WellFormed.{WellFormed}
+use Rattle.mesh.specs.Answer.{checked, mesh_refusal}
+use Rattle.mesh.proofs.AcceptedLaws.{accepted-well-formed}
+use Rattle.edit.specs.Mirror.{Outputs, outputs, outputs_off}
+use Rattle.edit.proofs.AnswerLaws.{SameLengths, check-accepted, lengths-same, refused, check-refused, lengths-refused, done}
+use Rattle.edit.proofs.mirror.Goals.{After-check_alone-answer, After-copy_bytes, After-copy_bytes-arg-1, After-outputs_off, After-reflect_faces, After-reflect_faces-arg-1, After-reflect_positions, Else-outputs_off, In-Refused, Start}
+use Rattle.edit.proofs.mirror.Goals as goal
+
+-- ---- at the entry: the mesh that was passed, and the three lists that were lent
+module _ (s : Start) where
+  abbrev mesh : IndexedMesh
+  mesh = indexed s.args.v s.args.f s.args.positions.now s.args.tags.now s.args.faces.now
+
+  abbrev lent : Outputs
+  lent = outputs s.args.out_positions-1.now s.args.out_tags-1.now s.args.out_faces-1.now
+
+-- ---- the check has answered
+abbrev start : After-check_alone-answer → Start
+start c = let k = c.before.before.before in k.before.before
+
+-- ---- it refused
+abbrev asked : In-Refused → After-check_alone-answer
+asked c = c.before.before.before
+
+-- ---- it accepted, and the lengths are compared
+module _ (c : After-outputs_off) where
+  abbrev checked-at : After-check_alone-answer
+  checked-at = c.before.before.before
+
+  abbrev entry : Start
+  entry = start checked-at
+
+  accepted : Accepted (mesh entry)
+  unfolding mesh_refusal
+  accepted = check-accepted (mesh entry) (sym (ap checked c.before.enum_told-1.given.1) ∙ checked-at.check_alone-answer.ensures)
+
+pub returns-in-Refused : goal.returns-in-Refused
+unfolding mesh_refusal
+returns-in-Refused c =
+    let k = asked c in
+    let s = start k in
+    refused (mesh s) (lent s) _ refl
+    (check-refused (mesh s) (lent s) (sym (ap checked c.before.answer-1.given.1) ∙ k.check_alone-answer.ensures))
+
+pub returns-then-outputs_off : goal.returns-then-outputs_off
+returns-then-outputs_off c =
+    let k = c.before in
+    let s = entry k in
+    refused (mesh s) (lent s) _ refl
+    (lengths-refused (mesh s) (lent s) (accepted k) (sym k.outputs_off.ensures ∙ c.if-outputs_off.true))
+
+-- ---- the lengths are those of the mesh's lists
+module _ (c : Else-outputs_off) where
+  abbrev compared : After-outputs_off
+  compared = c.before
+
+  abbrev passed-in : Start
+  passed-in = entry compared
+
+  on : outputs_off (mesh passed-in) (lent passed-in) ≡ false
+  on = sym compared.outputs_off.ensures ∙ c.if-outputs_off.false
+
+  same : SameLengths (mesh passed-in) (lent passed-in)
+  same = lengths-same (mesh passed-in) (lent passed-in) on
+
+  formed : WellFormed (mesh passed-in)
+  formed = accepted-well-formed (accepted compared)
+
+-- ---- the way back, from list to list
+abbrev before-tags : After-copy_bytes-arg-1 → Else-outputs_off
+before-tags c = let written = c.before.before in written.before.before
+
+abbrev before-faces : After-reflect_faces-arg-1 → Else-outputs_off
+before-faces c = let written = c.before.before.before in before-tags written.before
+
+pub reflect_positions-requires : goal.reflect_positions-requires
+reflect_positions-requires c =
+    let k : Else-outputs_off = c.before in
+    (le_of_eq (sym (same k).positions), λ i l. (formed k).coordinates i (rw (formed k).sized.positions-are at l))
+
+pub copy_bytes-requires : goal.copy_bytes-requires
+copy_bytes-requires c = le_of_eq (sym (same (before-tags c)).tags)
+
+pub reflect_faces-requires : goal.reflect_faces-requires
+reflect_faces-requires c =
+    let k = before-faces c in
+    (le_of_eq (sym (same k).indices), omega (arith, (formed k).sized.indices-are))
+
+pub returns : goal.returns
+returns c =
+    let faces : After-reflect_faces = c.before.before in
+    let tags : After-copy_bytes = faces.before.before.before.before in
+    let positions : After-reflect_positions = tags.before.before.before in
+    let k : Else-outputs_off = positions.before.before in
+    let s = passed-in k in
+    done (mesh s) (lent s) (accepted (compared k)) (on k) _ refl
+    (record { positions = positions.reflect_positions.ensures; tags = tags.copy_bytes.ensures; indices = faces.reflect_faces.ensures })

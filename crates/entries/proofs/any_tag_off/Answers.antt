@@ -1,0 +1,31 @@
+-- `any_tag_off` meets its contract: no tag passed is off the range.
+use mathlib.Core.Path.{◌≡◌, refl, sym}
+use mathlib.Core.Bool.{true, false}
+use Prim.Native.Nat.{◌-◌, ◌≤◌}
+use native.Mathlib.Numerals.{add-one-le, add-one-dec}
+use native.Mathlib.Omega.{arith}
+use lib.Dec.{ltb}
+use lib.ListN.{get_or}
+use borrow.Author.Rules.{rules}
+use borrow.Author.Tests.{lt-ltb, le-ltb}
+use Rattle.finite.specs.Fold.{any_below}
+use Rattle.finite.proofs.AnyAll.{any-start, any-more, any_found, any-not}
+use Rattle.limits.specs.Limits.{corner_tag}
+use Rattle.entries.proofs.any_tag_off.Goals as goal
+
+pub loop-p-init : goal.loop-p-init
+loop-p-init c = search (any-start, rules)
+
+pub returns-then-tags-p-gt-CORNER_TAG : goal.returns-then-tags-p-gt-CORNER_TAG
+returns-then-tags-p-gt-CORNER_TAG c = any_found _ _ _ true c.before.before.loop-p-test.true (sym (lt-ltb _ _ c.if-tags-p-gt-CORNER_TAG.true)) refl
+
+pub loop-p-smaller : goal.loop-p-smaller
+loop-p-smaller c = add-one-dec _ _ c.before.before.loop-p-test.true
+
+pub loop-p-preserved : goal.loop-p-preserved
+loop-p-preserved c =
+    let i = c.before.before in
+    (add-one-le i.loop-p-test.true, any-more _ _ false i.before.loop-p.invariant.1 (sym (le-ltb _ _ c.if-tags-p-gt-CORNER_TAG.false)) refl)
+
+pub returns : goal.returns
+returns c = search (any-not, rules)

@@ -1,0 +1,72 @@
+-- `vertex_twice` meets its contract: the three other corners of the face are looked at one after the other, until one has the vertex of c.
+use mathlib.Core.Path.{◌≡◌, refl, sym, ap, ◌∙◌}
+use mathlib.Core.Bool.{Bool, true, false}
+use Prim.Native.Nat.{ℕ, suc}
+use native.Mathlib.Omega.{arith}
+use lib.Dec.{eqb}
+use lib.ListN.{get_or}
+use borrow.Author.Tests.{eq-eqb, ne_eqb}
+use Rattle.finite.proofs.AnyAll.{any_found, or_no}
+use Rattle.corner.specs.Corner.{turn, next, across}
+use Rattle.entries.proofs.CornerTests.{any-of-three}
+use Rattle.entries.proofs.vertex_twice.Goals.{After-shared_slice_known-3-1, After-shared_slice_known-4-1, Else-faces-across_corner, Else-faces-next_corner, Start}
+use Rattle.entries.proofs.vertex_twice.Goals as goal
+
+-- ---- at the entry: the vertices of the corners, and whether the corner i + 1 further has the vertex of c
+module _ (s : Start) where
+  abbrev vertex : ℕ → ℕ
+  vertex d = get_or s.args.faces.now d 0
+
+  abbrev again : ℕ → Bool
+  again i = eqb (vertex (turn (suc i) s.args.c)) (vertex s.args.c)
+
+abbrev entry : After-shared_slice_known-3-1 → Start
+entry c = c.before.before.before.before
+
+-- ---- the next corner is read
+module _ (c : After-shared_slice_known-3-1) where
+  next-is : vertex (entry c) c.before.next_corner.result ≡ vertex (entry c) (next (entry c).args.c)
+  next-is = ap (vertex (entry c)) c.before.next_corner.ensures
+
+module _ (c : Else-faces-next_corner) where
+  abbrev start : Start
+  start = entry c.before
+
+  next-other : again start 0 ≡ false
+  next-other = ne_eqb _ _ (λ h. c.if-faces-next_corner.false (next-is c.before ∙ h))
+
+-- ---- the corner across is read
+module _ (c : After-shared_slice_known-4-1) where
+  abbrev past_next : Else-faces-next_corner
+  past_next = c.before.before
+
+  abbrev start₁ : Start
+  start₁ = start past_next
+
+  across-is : vertex start₁ c.before.across_corner.result ≡ vertex start₁ (across start₁.args.c)
+  across-is = ap (vertex start₁) c.before.across_corner.ensures
+
+module _ (c : Else-faces-across_corner) where
+  abbrev start₂ : Start
+  start₂ = start₁ c.before
+
+  across-other : again start₂ 1 ≡ false
+  across-other = ne_eqb _ _ (λ h. c.if-faces-across_corner.false (across-is c.before ∙ h))
+
+pub returns-then-faces-next_corner : goal.returns-then-faces-next_corner
+returns-then-faces-next_corner c = any_found _ 3 0 true (omega arith) (sym (eq-eqb _ _ (sym (next-is c.before) ∙ c.if-faces-next_corner.true))) refl
+
+pub returns-then-faces-across_corner : goal.returns-then-faces-across_corner
+returns-then-faces-across_corner c = any_found _ 3 1 true (omega arith) (sym (eq-eqb _ _ (sym (across-is c.before) ∙ c.if-faces-across_corner.true))) refl
+
+pub bounds-faces-prev_corner : goal.bounds-faces-prev_corner
+bounds-faces-prev_corner c = omega (arith, c.before.prev_corner.ensures)
+
+pub returns : goal.returns
+returns c =
+    let e = c.before.before in
+    let s = start₂ e in
+    rw (any-of-three _)
+    (or_no _ _ _ (next-other (past_next e.before))
+    (or_no _ _ _ (across-other e)
+    (ap (λ (d : ℕ). eqb (vertex s d) (vertex s s.args.c)) c.before.prev_corner.ensures)))

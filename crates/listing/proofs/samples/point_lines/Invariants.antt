@@ -1,0 +1,30 @@
+-- `point_lines` meets its contract: the lines before a are stored, each by the three numbers at its place, and the first one has room.
+use mathlib.Core.Path.{◌≡◌, subst}
+use mathlib.Core.Logic.{⊎_elim}
+use mathlib.Core.List.{List}
+use Prim.Native.Nat.{ℕ, ◌+◌, ◌-◌, ◌*◌, ◌≤◌}
+use native.Mathlib.Omega.{arith}
+use lib.IntN.{ℤ}
+use lib.ListN.{length, length-take, length-drop}
+use borrow.Author.Rules.{rules}
+use borrow.Author.Tests.{leb-true, leb-false}
+use Rattle.answer.specs.Table.{result}
+use Rattle.line.specs.Line.{point_in}
+use Rattle.sample.specs.Refusal.{max_steps}
+use Rattle.text.specs.Text.{line_places, Printed}
+use Rattle.text.proofs.TextLaws.{printed-within}
+use Rattle.listing.specs.Listing.{line_of}
+use Rattle.listing.specs.declared.model.Place.{Place}
+use Rattle.listing.proofs.StretchLaws.{stored-length}
+use Rattle.listing.proofs.RowLaws.{run-one, Running, running-start, running-ends, running_more, running-stuck, running-end}
+use Rattle.listing.proofs.samples.point_lines.Given as goal
+
+-- the line of the point that is j places after p
+abbrev pub line_text : List ℤ → Place → ℕ → List ℕ
+line_text points p j = line_of (result (point_in points (p.a + j))) p.face (p.a + j) p.b
+
+abbrev pub invariant-loop-a : goal.invariant-loop-a
+invariant-loop-a l = Running (line_text l.points l.p) l.p.a (l.n + 1) l.initial.out l.out l.a l.at
+
+abbrev pub decreases-loop-a : goal.decreases-loop-a
+decreases-loop-a l = l.n + 1 - l.a

@@ -1,0 +1,49 @@
+-- `boundary_corner` meets its contract: its two weights are of at most 96, and its numerator a sum of numbers of 32 bits.
+use Prim.Native.Nat.{◌+◌, ◌-◌, ◌*◌}
+use native.Mathlib.Omega.{arith}
+use borrow.Author.Rules.{rules}
+use Rattle.mask.specs.Mask.{sharp_corner_mask}
+use Rattle.mask.proofs.MachineLaws.{Sum, one, term, ◌⊞◌, fraction, fits}
+use Rattle.mask.proofs.boundary_corner.Goals.{Start}
+use Rattle.mask.proofs.boundary_corner.Goals as goal
+
+module _ (s : Start) where
+  abbrev own : Sum
+  own = term (64 + 2 * s.args.g) s.args.p
+
+  abbrev neighbours : Sum
+  neighbours = term (16 - s.args.g) s.args.s
+
+pub overflow_mul-result : goal.overflow_mul-result
+overflow_mul-result s = search rules
+
+pub overflow_add-result : goal.overflow_add-result
+overflow_add-result s = search rules
+
+pub overflow_cast-result : goal.overflow_cast-result
+overflow_cast-result s = search rules
+
+pub overflow_cast-result-2 : goal.overflow_cast-result-2
+overflow_cast-result-2 s = fits (one s.args.p) s.ranges.p (omega arith)
+
+pub overflow_mul-result-2 : goal.overflow_mul-result-2
+overflow_mul-result-2 s = fits (own s) s.ranges.p (omega (arith, s.requires))
+
+pub overflow_sub-result : goal.overflow_sub-result
+overflow_sub-result s = search rules
+
+pub overflow_cast-result-3 : goal.overflow_cast-result-3
+overflow_cast-result-3 s = search rules
+
+pub overflow_cast-result-4 : goal.overflow_cast-result-4
+overflow_cast-result-4 s = fits (one s.args.s) s.ranges.s (omega arith)
+
+pub overflow_mul-result-3 : goal.overflow_mul-result-3
+overflow_mul-result-3 s = fits (neighbours s) s.ranges.s (omega arith)
+
+pub overflow_add-result-2 : goal.overflow_add-result-2
+overflow_add-result-2 s = fits (own s ⊞ neighbours s) (s.ranges.p, s.ranges.s) (omega (arith, s.requires))
+
+pub returns : goal.returns
+unfolding sharp_corner_mask
+returns s = fraction (own s ⊞ neighbours s) (s.ranges.p, s.ranges.s) (omega (arith, s.requires)) 96

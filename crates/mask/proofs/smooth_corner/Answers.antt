@@ -1,0 +1,45 @@
+-- `smooth_corner` meets its contract: the square of a number of 8 bits is a weight of 16, and the numerator a sum of numbers of 32 bits.
+use Prim.Native.Nat.{◌+◌, ◌*◌, ◌≤◌}
+use native.Mathlib.Nat.{mul-le-mul}
+use native.Mathlib.Omega.{arith}
+use borrow.Author.Rules.{rules}
+use Rattle.integer.proofs.Laws.{sfits-abs}
+use Rattle.mask.specs.Mask.{smooth_corner_mask}
+use Rattle.mask.proofs.MachineLaws.{Sum, one, term, ◌⊞◌, fraction, fits}
+use Rattle.mask.proofs.smooth_corner.Goals.{Start}
+use Rattle.mask.proofs.smooth_corner.Goals as goal
+
+module _ (s : Start) where
+  square : s.args.n * s.args.n ≤ 255 * 255
+  square = let h : s.args.n ≤ 255 = omega (arith, s.well-formed) in mul-le-mul h h
+
+  abbrev sum : Sum
+  sum = term (s.args.n * s.args.n) s.args.p ⊞ one s.args.s
+
+pub overflow_mul-result : goal.overflow_mul-result
+overflow_mul-result s = omega (arith, square s)
+
+pub overflow_cast-result : goal.overflow_cast-result
+overflow_cast-result s = sfits-abs _ (omega (arith, square s))
+
+pub overflow_cast-result-2 : goal.overflow_cast-result-2
+overflow_cast-result-2 s = fits (one s.args.p) s.ranges.p (omega arith)
+
+pub overflow_mul-result-2 : goal.overflow_mul-result-2
+overflow_mul-result-2 s = fits (term (s.args.n * s.args.n) s.args.p) s.ranges.p (omega (arith, square s))
+
+pub overflow_cast-result-3 : goal.overflow_cast-result-3
+overflow_cast-result-3 s = fits (one s.args.s) s.ranges.s (omega arith)
+
+pub overflow_add-result : goal.overflow_add-result
+overflow_add-result s = fits (sum s) (s.ranges.p, s.ranges.s) (omega (arith, square s))
+
+pub overflow_add-result-2 : goal.overflow_add-result-2
+overflow_add-result-2 s = search rules
+
+pub overflow_mul-result-3 : goal.overflow_mul-result-3
+overflow_mul-result-3 s = omega (arith, square s)
+
+pub returns : goal.returns
+unfolding smooth_corner_mask
+returns s = fraction (sum s) (s.ranges.p, s.ranges.s) (omega (arith, square s)) (s.args.n * (s.args.n + 5))

@@ -1,0 +1,29 @@
+-- `fill_twins` meets its contract: the places passed hold their twins, and the others what they held.
+use mathlib.Core.Path.{◌≡◌}
+use Prim.Native.Nat.{◌-◌, ◌≤◌}
+use native.Mathlib.Numerals.{add-one-le, add-one-dec}
+use native.Mathlib.Omega.{arith}
+use lib.ListN.{length}
+use borrow.Author.Rules.{rules}
+use Rattle.finite.proofs.FilledLaws.{filled-start, filled_more, filled-all}
+use Rattle.finite.specs.Filled.{filled}
+use Rattle.mesh.specs.HalfEdge.{twin}
+use Rattle.mesh.specs.Tables.{vertex_of}
+use Rattle.mesh.proofs.chain.fill_twins.Goals as goal
+
+pub loop-c-init : goal.loop-c-init
+loop-c-init c = search (filled-start, rules)
+
+pub loop-c-smaller : goal.loop-c-smaller
+loop-c-smaller c = add-one-dec _ _ c.before.loop-c-test.true
+
+pub loop-c-preserved : goal.loop-c-preserved
+loop-c-preserved c =
+    let i = c.before in
+    (add-one-le i.loop-c-test.true, search rules, filled_more _ _ _ _ _ (omega arith) i.before.loop-c.invariant.2 c.twin_of.ensures)
+
+pub shape_of-twins : goal.shape_of-twins
+shape_of-twins c = c.before.loop-c.invariant.1
+
+pub returns : goal.returns
+returns c = search (filled-all, rules)

@@ -1,0 +1,26 @@
+-- `link_corners` meets its contract: the corners passed are chained and no half-edge among them runs as an earlier one does; the loop stops at
+-- the first that does.
+use mathlib.Core.Bool.{true≢false, false}
+use mathlib.Core.List.{List}
+use mathlib.Core.Path.{◌≡◌, refl, sym, ap, ◌∙◌, subst}
+use Prim.Native.Nat.{ℕ, ◌-◌, ◌<◌, ◌≤◌}
+use native.Mathlib.Nat.{le_antisymm}
+use native.Mathlib.Numerals.{add-one-le, add-one-dec}
+use native.Mathlib.Omega.{arith}
+use lib.Dec.{eqb}
+use lib.ListN.{length, get_or, length-set}
+use borrow.Author.Rules.{rules}
+use Rattle.finite.specs.Fold.{any_below}
+use Rattle.finite.proofs.AnyAll.{any-start, any-more, any_found, any-not}
+use Rattle.limits.specs.Limits.{max_vertices}
+use Rattle.corner.specs.Corner.{next}
+use Rattle.mesh.specs.HalfEdge.{runs}
+use Rattle.mesh.proofs.ChainLaws.{chained-start, chained_more, doubled-earlier}
+use Rattle.mesh.specs.Tables.{vertex_of, latest, Chained}
+use Rattle.mesh.proofs.chain.link_corners.Given as goal
+
+abbrev pub invariant-loop-c : goal.invariant-loop-c
+invariant-loop-c l = Linking l.faces l.n l.initial.head l.initial.link l.head l.link l.c
+
+abbrev pub decreases-loop-c : goal.decreases-loop-c
+decreases-loop-c l = l.n - l.c

@@ -1,0 +1,23 @@
+-- `count_edges` meets its contract: the count is that of the half-edges passed.
+use mathlib.Core.List.{List}
+use mathlib.Core.Path.{◌≡◌, ap}
+use mathlib.Core.Bool.{Bool}
+use Prim.Native.Nat.{ℕ, ◌-◌, ◌≤◌}
+use native.Mathlib.Numerals.{add-one-le, add-one-dec}
+use native.Mathlib.Omega.{arith}
+use lib.Dec.{ltb}
+use borrow.Author.Rules.{rules}
+use Rattle.finite.proofs.Counting.{count-start, count-bit, count-all, count-le, indicator-le}
+use Rattle.finite.specs.Fold.{count_below}
+use Rattle.mesh.specs.Tables.{twin_of}
+use Rattle.mesh.proofs.count.count_edges.Given as goal
+
+-- half-edge d comes before its twin
+abbrev pub leads : List ℕ → ℕ → Bool
+leads twins d = ltb d (twin_of twins d)
+
+abbrev pub invariant-loop-c : goal.invariant-loop-c
+invariant-loop-c l = (l.c ≤ l.n) × (l.count ≡ count_below (leads l.twins) l.c)
+
+abbrev pub decreases-loop-c : goal.decreases-loop-c
+decreases-loop-c l = l.n - l.c

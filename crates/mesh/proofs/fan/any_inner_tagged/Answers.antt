@@ -1,0 +1,45 @@
+-- `any_inner_tagged` meets its contract: the loop goes on only past vertices whose tag is no fault, and stops at the first whose is.
+use mathlib.Core.Path.{◌≡◌}
+use mathlib.Core.Bool.{false, not, ◌&&◌}
+use Prim.Native.Nat.{◌-◌, ◌≤◌}
+use native.Mathlib.Numerals.{add-one-le, add-one-dec}
+use native.Mathlib.Omega.{arith}
+use lib.Dec.{eqb}
+use lib.ListN.{get_or}
+use borrow.Author.Rules.{rules}
+use Rattle.finite.specs.Fold.{any_below}
+use Rattle.finite.proofs.AnyAll.{any-start, any-more, any_found, any-not}
+use Rattle.limits.specs.Limits.{corner_tag}
+use Rattle.mesh.specs.Fan.{on_boundary}
+use Rattle.mesh.specs.Tables.{vertex_of}
+use Rattle.mesh.proofs.fan.any_inner_tagged.Goals.{After-shared_slice_known-4-1, In-loop-p, Start}
+use Rattle.mesh.proofs.fan.any_inner_tagged.Goals as goal
+
+abbrev entry : After-shared_slice_known-4-1 → Start
+entry c = c.before.before.before.before
+
+-- ---- in the loop
+module _ (i : In-loop-p) where
+  abbrev start : Start
+  start = entry i.before.before
+
+pub loop-p-init : goal.loop-p-init
+loop-p-init c = search (any-start, rules)
+
+pub tag_off-requires : goal.tag_off-requires
+tag_off-requires c =
+    let i = c.before in
+    let s = start i in
+    (s.requires.0.0, omega arith, s.requires.1 i.before.loop-p.p i.loop-p-test.true)
+
+pub returns-then-tag_off : goal.returns-then-tag_off
+returns-then-tag_off c = search (any_found, rules)
+
+pub loop-p-smaller : goal.loop-p-smaller
+loop-p-smaller c = add-one-dec _ _ c.before.before.before.loop-p-test.true
+
+pub loop-p-preserved : goal.loop-p-preserved
+loop-p-preserved c = search (any-more, add-one-le, rules)
+
+pub returns : goal.returns
+returns c = search (any-not, rules)

@@ -1,0 +1,74 @@
+-- `any_valence_off` meets its contract: the loop goes on only past vertices whose valence is in its range, and stops at the first whose is not.
+use mathlib.Core.Path.{◌≡◌, ap, ◌∙◌}
+use mathlib.Core.Bool.{false}
+use Prim.Native.Nat.{ℕ, ◌-◌, ◌≤◌, ◌<◌}
+use native.Mathlib.Numerals.{add-one-le, add-one-dec}
+use native.Mathlib.Omega.{arith}
+use borrow.Author.Rules.{rules}
+use Rattle.finite.specs.Fold.{any_below}
+use Rattle.finite.proofs.AnyAll.{any-start, any-more, any_found, any-not}
+use Rattle.limits.specs.Limits.{max_vertices}
+use Rattle.limits.specs.Range.{valence_bad}
+use Rattle.mesh.specs.Fan.{valence, on_boundary}
+use Rattle.mesh.specs.Refusal.{valence_off}
+use Rattle.mesh.specs.Tables.{vertex_of}
+use Rattle.mesh.proofs.fan.any_valence_off.Goals.{After-shared_slice_known-4-1, After-valence_off, After-wide, In-loop-p, Start}
+use Rattle.mesh.proofs.fan.any_valence_off.Goals as goal
+
+abbrev entry : After-shared_slice_known-4-1 → Start
+entry c = c.before.before.before.before
+
+-- ---- in the loop, at vertex p
+module _ (i : In-loop-p) where
+  abbrev start : Start
+  start = entry i.before.before
+
+  abbrev p : ℕ
+  p = i.before.loop-p.p
+
+  abbrev vertex : ℕ → ℕ
+  vertex = vertex_of start.args.faces.now
+
+  p-named : p < max_vertices
+  p-named = omega arith
+
+-- ---- the valence of p is read and tested
+module _ (c : After-valence_off) where
+  abbrev passing : In-loop-p
+  passing = let w : After-wide = c.before in w.before.before
+
+  abbrev begun : Start
+  begun = start passing
+
+  told : c.valence_off.result ≡ valence_bad (on_boundary (vertex passing) begun.args.n (p passing)) (valence (vertex passing) begun.args.n (p passing))
+  told =
+      c.valence_off.ensures
+      ∙ ap (valence_bad (on_boundary (vertex passing) begun.args.n (p passing)))
+      (c.before.wide.ensures ∙ begun.requires.1.0.are (p passing) (p-named passing))
+
+-- ---- the answers, in the order of the code
+pub loop-p-init : goal.loop-p-init
+loop-p-init c = search (any-start, rules)
+
+pub valence_off-requires : goal.valence_off-requires
+valence_off-requires c =
+    let i = c.before.before in
+    let s = start i in
+    (s.requires.0.0, p-named i, s.requires.1.1 (p i) i.loop-p-test.true)
+
+pub returns-then-valence_off : goal.returns-then-valence_off
+unfolding valence_off
+returns-then-valence_off c = let t = c.before in any_found _ _ _ _ (passing t).loop-p-test.true (told t) c.if-valence_off.true
+
+pub loop-p-smaller : goal.loop-p-smaller
+loop-p-smaller c = add-one-dec _ _ (passing c.before).loop-p-test.taken
+
+pub loop-p-preserved : goal.loop-p-preserved
+loop-p-preserved c =
+    let t = c.before in
+    let i = passing t in
+    (add-one-le i.loop-p-test.taken, any-more _ _ _ i.before.loop-p.invariant.1 (told t) c.if-valence_off.false)
+
+pub returns : goal.returns
+unfolding valence_off
+returns c = search (any-not, rules)

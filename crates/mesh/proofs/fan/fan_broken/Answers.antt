@@ -1,0 +1,28 @@
+-- `fan_broken` meets its contract: the corners form a fan exactly when circulating from one of them meets as many as the vertex has.
+use mathlib.Core.Path.{ap, ◌∙◌}
+use mathlib.Core.Bool.{not}
+use lib.Dec.{eqb}
+use borrow.Author.Rules.{rules}
+use Rattle.mesh.proofs.ConnectedLaws.{corners-whole, twins-paired, fan-told}
+use Rattle.mesh.proofs.fan.fan_broken.Goals.{After-corner_at-start, Start}
+use Rattle.mesh.proofs.fan.fan_broken.Goals as goal
+
+-- ---- a corner at p is found
+module _ (c : After-corner_at-start) where
+  abbrev start : Start
+  start = c.before.before.before.before.before
+
+pub circulate-met-requires : goal.circulate-met-requires
+circulate-met-requires c =
+    let k = (start c).requires.0.0.twinned in
+    record { listed = k.twins-listed; inside = c.corner_at-start.ensures.0; corners = corners-whole k; paired = twins-paired k }
+
+pub returns : goal.returns
+returns c =
+    let m = c.before.before in
+    let f = m.before in
+    let s = start f in
+    let valence-is = c.wide.ensures ∙ s.requires.1.are s.args.p s.requires.0.1 in
+    ap not
+    (ap (eqb m.circulate-met.result) valence-is
+    ∙ fan-told s.requires.0.0.twinned f.corner_at-start.result s.args.p f.corner_at-start.ensures.1 m.circulate-met.result m.circulate-met.ensures)

@@ -1,0 +1,13 @@
+-- `walk_back` meets its contract: the corners met grow by the one before the first of them until there is none, so they are one chain.
+use Prim.Native.Nat.{◌-◌}
+use native.Mathlib.Omega.{arith}
+use borrow.Author.Rules.{rules}
+use Rattle.mesh.proofs.WalkLaws.{Backward, backward-start, backward-in, backward-more, backward-less, backward-end}
+use Rattle.mesh.specs.Tables.{twin_of}
+use Rattle.mesh.proofs.walk.walk_back.Given as goal
+
+abbrev pub invariant-loop-back : goal.invariant-loop-back
+invariant-loop-back l = Backward (twin_of l.twins) l.n l.start l.met l.back
+
+abbrev pub decreases-loop-back : goal.decreases-loop-back
+decreases-loop-back l = l.n - l.met

@@ -1,0 +1,95 @@
+-- `open` meets its contract: a file that decoding refuses is refused, and else the parts of the lists that were written are the file's mesh.
+use mathlib.Core.Path.{◌≡◌, sym, ap, subst}
+use mathlib.Core.List.{List}
+use Prim.Native.Nat.{ℕ, ◌*◌, ◌≤◌}
+use native.Mathlib.Nat.{le_of_eq}
+use native.Mathlib.Omega.{arith}
+use lib.IntN.{ℤ, pos}
+use lib.ListN.{length, replicate, length-replicate}
+use borrow.Author.Rules.{rules}
+use Rattle.limits.specs.Limits.{max_vertices, max_faces}
+use Rattle.decoding.specs.File.{vertices, faces, steps, position_at, tag_at, index_at}
+use Rattle.decoding.specs.declared.model.Header.{Header}
+use Rattle.decoding.specs.Decoding.{decoded}
+use Rattle.decoding.proofs.FileLaws.{Whole, file-whole}
+use Rattle.mesh.specs.WellFormed.{MeshSized}
+use Rattle.meshfile.proofs.OpenLaws.{FileRead, file-read, file-turned-down, part-fits, mesh-is, whole-sized, open-mesh, open-refused}
+use Rattle.meshfile.proofs.open.Goals.{After-decode, After-positions-1, After-tessellate-arg-in-Read-1, After-tessellate-arg-in-Read-3-1, In-Read, In-Read-1, In-Read-2, In-Refused-1, Start}
+use Rattle.meshfile.proofs.open.Goals as goal
+
+-- ---- the three lists of `open`, before they are written
+abbrev no-positions : List ℤ
+no-positions = replicate (3 * max_vertices) (pos 0)
+
+abbrev no-tags : List ℕ
+no-tags = replicate max_vertices 0
+
+abbrev no-indices : List ℕ
+no-indices = replicate (4 * max_faces) 0
+
+as_long : {A : Type 0} (n : ℕ) (a : A) → n ≤ length (replicate n a)
+as_long n a = le_of_eq (sym (length-replicate n a))
+
+abbrev start : After-decode → Start
+start c = let first : After-positions-1 = c.before.before.before in first.before.before
+
+abbrev file : After-decode → List ℕ
+file c = (start c).args.bytes.now
+
+-- ---- the file was read
+module _ (c : In-Read) where
+  abbrev call : After-decode
+  call = let t : In-Read-2 = c.before in let k : In-Read-1 = t.before in k.before.before.before.before
+
+  abbrev header : Header
+  header = c.before.header-1.given.0.0
+
+  read : FileRead (file call) no-positions no-tags no-indices header call.decode.last.1.0 call.decode.last.1.1.0 call.decode.last.1.1.1.0
+  read = file-read (file call) _ _ _ (ap decoded c.before.header-1.given.1) call.decode.ensures
+
+  whole : Whole (file call)
+  whole = file-whole (file call) read.passed
+
+  vertices-are : header.vertices ≡ vertices (file call)
+  vertices-are = ap (λ (h : Header). h.vertices) read.header_is
+
+  faces-are : header.faces-1 ≡ faces (file call)
+  faces-are = ap (λ (h : Header). h.faces-1) read.header_is
+
+  steps-are : header.steps ≡ steps (file call)
+  steps-are = ap (λ (h : Header). h.steps) read.header_is
+
+-- ---- the parts of the lists are handed on
+abbrev tags-told : After-tessellate-arg-in-Read-1 → In-Read
+tags-told c = c.before.before.before.before
+
+abbrev told : After-tessellate-arg-in-Read-3-1 → In-Read
+told c = tags-told c.before.before.before
+
+pub overflow_mul-p : goal.overflow_mul-p
+overflow_mul-p c = omega (arith, vertices-are c, (whole c).vertices-high)
+
+pub overflow_mul-i : goal.overflow_mul-i
+overflow_mul-i c = omega (arith, faces-are c, (whole c).faces-high)
+
+pub tessellate-requires : goal.tessellate-requires
+tessellate-requires c =
+    let k = told c in
+    subst MeshSized (sym (mesh-is (file (call k)) (read k))) (whole-sized (file (call k)) (whole k))
+
+pub returns-in-Read : goal.returns-in-Read
+returns-in-Read c =
+    let t = c.before in
+    let k = told t.before in
+    let b = file (call k) in
+    open-mesh b (start (call k)).args.patches-1.now (read k).passed (mesh-is b (read k)) (steps-are k) t.tessellate.ensures
+
+pub returns-in-Refused : goal.returns-in-Refused
+returns-in-Refused c =
+    let m : In-Refused-1 = c.before.before in
+    let a = m.before.before.before.before in
+    let b = file a in
+    open-refused b _
+    (file-turned-down b no-positions no-tags no-indices
+    (as_long (3 * max_vertices) (pos 0)) (as_long {A = ℕ} max_vertices 0) (as_long {A = ℕ} (4 * max_faces) 0)
+    (ap decoded c.before.k-1.given.1) a.decode.ensures)

@@ -1,0 +1,16 @@
+-- `fill_rules` meets its contract: each rule is made of what the three lists have at the place of its vertex.
+use Prim.Native.Nat.{◌-◌, ◌<◌}
+use native.Mathlib.Numerals.{add-one-dec}
+use native.Mathlib.Omega.{arith}
+use lib.Dec.{eqb}
+use lib.ListN.{length, get_or}
+use Rattle.mask.proofs.RuleLaws.{rule-most}
+use Rattle.patch.specs.PatchTables.{rule_by}
+use Rattle.patch.proofs.FillingLaws.{Filling, filling-none, filling-room, filling-more, filling-all}
+use Rattle.patch.proofs.counts.fill_rules.Given as goal
+
+abbrev pub invariant-loop-p : goal.invariant-loop-p
+invariant-loop-p l = Filling (rule_by l.tags l.valences l.leaving) l.p-end l.initial.rules l.rules l.p
+
+abbrev pub decreases-loop-p : goal.decreases-loop-p
+decreases-loop-p l = l.p-end - l.p

@@ -1,0 +1,20 @@
+-- `write_patches` meets its contract: 48 numbers and 16 marks are written for each face, from 48 and 16 times its number on.
+use mathlib.Core.Path.{◌≡◌, refl}
+use mathlib.Core.List.{List}
+use Prim.Native.Nat.{ℕ, ◌<◌, ◌+◌, ◌*◌, ◌-◌, ◌≤◌}
+use native.Mathlib.Numerals.{add-one-le}
+use native.Mathlib.Omega.{arith}
+use lib.IntN.{ℤ}
+use lib.ListN.{length}
+use Rattle.finite.specs.Filled.{filled}
+use Rattle.finite.proofs.FilledLaws.{filled-start, filled-all, stretch-long, filled-stretch}
+use Rattle.patch.specs.Written.{PatchLists, patch_lists, written_number, written_mark}
+use Rattle.patch.proofs.SourceLaws.{number-placed, mark-placed}
+use Rattle.patch.proofs.fill.write_patches.Given as goal
+
+abbrev pub invariant-loop-g : goal.invariant-loop-g
+invariant-loop-g l =
+    Written (patch_lists l.faces l.values l.links l.weights l.points l.flags) l.f l.initial.patches l.initial.marks l.patches l.marks l.g
+
+abbrev pub decreases-loop-g : goal.decreases-loop-g
+decreases-loop-g l = l.f - l.g

@@ -1,0 +1,95 @@
+-- `patches` meets its contract: the check is told of a patch list or a list of marks that is too short, so its refusals are those of the call; where
+-- it gives counts, the mesh is well-formed, its twins are listed, and the patches and their marks are written.
+use mathlib.Core.Path.{◌≡◌, sym, ap, ◌∙◌}
+use mathlib.Core.List.{[]}
+use mathlib.Core.Option.{Option}
+use Prim.Native.Nat.{ℕ}
+use borrow.Author.Rules.{rules}
+use Rattle.answer.proofs.TableLaws.{refusal-met}
+use Rattle.mesh.specs.IndexedMesh.{IndexedMesh, indexed}
+use Rattle.mesh.specs.Answer.{counts_of, checked, mesh_refusal}
+use Rattle.patch.specs.Answer.{Lent, lent, patch_rows, patch_answer, patch_twins}
+use Rattle.patch.proofs.AnswerLaws.{same_answer, same-twins, patches-long, marks-long, result-well-formed, result-list, result-marks, twins-left}
+use Rattle.patch.proofs.patches.Goals.{After-check_after-answer, After-fill_patches, After-own_refusal-own, After-slice_known-1, After-slice_known-3-1, After-slice_known-4-1, In-Accepted, Start}
+use Rattle.patch.proofs.patches.Goals as goal
+
+-- ---- at the entry: the mesh that was passed, and the three lists that were lent
+module _ (s : Start) where
+  abbrev mesh : IndexedMesh
+  mesh = indexed s.args.v s.args.f s.args.positions.now s.args.tags.now s.args.faces.now
+
+  abbrev lists : Lent
+  lists = lent s.args.twins-1.now s.args.patches-1.now s.args.marks-1.now
+
+-- ---- the check has answered
+module _ (c : After-slice_known-3-1) where
+  abbrev asked : After-check_after-answer
+  asked = c.before.before
+
+  abbrev owned : After-own_refusal-own
+  owned = asked.before.before
+
+  abbrev start : Start
+  start = let k : After-slice_known-1 = owned.before.before in k.before.before.before
+
+  -- the first cause that the call meets
+  abbrev met : Option ℕ
+  met = mesh_refusal (mesh start) (patch_rows (mesh start) (lists start)) []
+
+  answered : checked asked.check_after-answer.result ≡ patch_answer (mesh start) (lists start)
+  answered = asked.check_after-answer.ensures.answer-is ∙ same_answer (mesh start) (lists start) _ owned.own_refusal-own.ensures
+
+  left : asked.check_after-answer.last.1.1.1.1.1.1.0 ≡ patch_twins (mesh start) (lists start)
+  left = asked.check_after-answer.ensures.twins-are ∙ same-twins (mesh start) (lists start) _ owned.own_refusal-own.ensures
+
+abbrev refused : goal.In_default → After-slice_known-3-1
+refused c = c.before.before
+
+abbrev accepted : In-Accepted → After-slice_known-3-1
+accepted c = c.before.before.before
+
+abbrev filled : After-slice_known-4-1 → After-fill_patches
+filled c = c.before.before.before
+
+pub returns-in_default : goal.returns-in_default
+returns-in_default c =
+    let k = refused c in
+    let s = start k in
+    record {
+      answer-is = answered k;
+      twins-are = left k;
+      patches-are = rw (refusal-met (counts_of (mesh s)) (met k) (sym (ap checked c.enum_told-1.given.1) ∙ answered k));
+      marks-are = rw (refusal-met (counts_of (mesh s)) (met k) (sym (ap checked c.enum_told-1.given.1) ∙ answered k));
+    }
+
+pub fill_patches-requires : goal.fill_patches-requires
+fill_patches-requires c =
+    let t : In-Accepted = c.before.before.before in
+    let k = accepted t in
+    let s = start k in
+    let counted = sym (ap checked t.before.answer-1.given.1) ∙ answered k in
+    record {
+      accepted = result-well-formed (mesh s) (lists s) counted;
+      twinned = twins-left (mesh s) (lists s) counted _ (left k);
+      patches-room = patches-long (mesh s) (lists s) counted;
+      marks-room = marks-long (mesh s) (lists s) counted;
+    }
+
+pub shape_of-patches : goal.shape_of-patches
+shape_of-patches c = (filled c).fill_patches.auto.patches
+
+pub shape_of-marks : goal.shape_of-marks
+shape_of-marks c = (filled c).fill_patches.auto.marks
+
+pub returns : goal.returns
+returns c =
+    let t : In-Accepted = let known = (filled c).before.before in known.before.before in
+    let k = accepted t in
+    let s = start k in
+    let counted = sym (ap checked t.before.answer-1.given.1) ∙ answered k in
+    record {
+      answer-is = counted;
+      twins-are = left k;
+      patches-are = (filled c).fill_patches.ensures.0 ∙ sym (result-list (mesh s) (lists s) counted);
+      marks-are = (filled c).fill_patches.ensures.1 ∙ sym (result-marks (mesh s) (lists s) counted);
+    }

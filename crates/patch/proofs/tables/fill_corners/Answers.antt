@@ -1,0 +1,102 @@
+-- `fill_corners` meets its contract: each pass writes one coordinate of the corner points, and takes marks away.
+use mathlib.Core.Path.{◌≡◌, refl, ◌∙◌}
+use mathlib.Core.List.{List}
+use Prim.Native.Nat.{ℕ, ◌-◌, ◌<◌, ◌≤◌}
+use native.Mathlib.Nat.{not-suc-le-zero, le_antisymm}
+use native.Mathlib.Numerals.{add-one-le, add-one-dec}
+use native.Mathlib.Omega.{arith}
+use lib.IntN.{ℤ}
+use lib.ListN.{length}
+use Rattle.finite.specs.Fold.{fold_below}
+use Rattle.mask.specs.Mask.{Fraction}
+use Rattle.patch.specs.PatchTables.{CornerLists, corner_lists, CornerPoints, ruled_point}
+use Rattle.patch.proofs.CornerTableLaws.{corners-more}
+use Rattle.patch.proofs.tables.fill_corners.Goals.{After-fill_coordinate, After-slice_known-in-loop-k-1, At-loop-k, In-loop-k, Start}
+use Rattle.patch.proofs.tables.fill_corners.Goals as goal
+
+-- what is written after k coordinates
+record Passed (q : ℕ → ℕ → Fraction) (v : ℕ) (points₀ : List ℤ) (flags₀ : List ℕ) (points : List ℤ) (flags : List ℕ) (k : ℕ) : Type 0 where
+  most : k ≤ 3
+  points-long : length points ≡ length points₀
+  marks-long : length flags ≡ length flags₀
+  written : CornerPoints q v k points flags
+
+pub loop-k-init : goal.loop-k-init
+unfolding fold_below
+loop-k-init c =
+    let s = c.before.before.before.before in
+    record {
+      most = omega arith;
+      points-long = refl;
+      marks-long = refl;
+      written = record { points-are = λ k p b l. absurd (not-suc-le-zero b); marks-are = s.requires.marked };
+    }
+
+abbrev lists : Start → CornerLists
+lists s =
+    let a = s.args in
+    corner_lists a.positions.now a.faces.now a.values.now a.ends.now a.rules.now
+
+-- ---- a turn: the loop's head and the function's entry
+module _ (c : In-loop-k) where
+  abbrev head : At-loop-k
+  head = c.before
+
+  abbrev start : Start
+  start = let k = head.before.before.before in k.before.before
+
+  below : head.loop-k.k < 3
+  below = c.loop-k-test.true
+
+pub fill_coordinate-requires : goal.fill_coordinate-requires
+fill_coordinate-requires c =
+    let t : In-loop-k = c.before.before in
+    let s = start t in
+    let inv = (head t).loop-k.invariant in
+    record {
+      source = s.requires.source;
+      axis = below t;
+      points-room = omega (arith, s.requires.points-room, inv.points-long);
+      marks-room = omega (arith, s.requires.marks-room, inv.marks-long);
+    }
+
+-- ---- the end of a turn
+module _ (c : After-slice_known-in-loop-k-1) where
+  abbrev written : After-fill_coordinate
+  written = c.before.before.before
+
+  abbrev turn : In-loop-k
+  turn = written.before.before.before
+
+pub overflow_step-k : goal.overflow_step-k
+overflow_step-k c = omega (arith, below (turn c))
+
+pub loop-k-smaller : goal.loop-k-smaller
+loop-k-smaller c = add-one-dec _ _ (below (turn c))
+
+pub loop-k-preserved : goal.loop-k-preserved
+loop-k-preserved c =
+    let t = turn c in
+    let s = start t in
+    let inv = (head t).loop-k.invariant in
+    let one = (written c).fill_coordinate in
+    record {
+      most = add-one-le (below t);
+      points-long = one.kept.1.1.1.1.1.1.1.0 ∙ inv.points-long;
+      marks-long = one.kept.1.1.1.1.1.1.1.1.0 ∙ inv.marks-long;
+      written =
+          corners-more (ruled_point (lists s))
+          s.args.v (head t).loop-k.k (below t) inv.written one.ensures;
+    }
+
+pub shape_of-points : goal.shape_of-points
+shape_of-points c = c.before.loop-k.invariant.points-long
+
+pub shape_of-flags : goal.shape_of-flags
+shape_of-flags c = c.before.loop-k.invariant.marks-long
+
+pub returns : goal.returns
+returns c =
+    let l = c.before.loop-k in
+    let all : l.k ≡ 3 = le_antisymm l.invariant.most c.loop-k-test.false in
+    rw all at l.invariant.written

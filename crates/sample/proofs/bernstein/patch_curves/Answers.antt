@@ -1,0 +1,46 @@
+-- `patch_curves` meets its contract: the weights of b are light, so that each curve can be blended.
+use mathlib.Core.Path.{sym, subst}
+use Prim.Native.Nat.{ℕ, ◌<◌}
+use native.Mathlib.Omega.{arith}
+use Rattle.sample.specs.Blend.{LightWeights, ForCurve}
+use Rattle.sample.proofs.BlendLaws.{weights-light, curve-list}
+use Rattle.sample.proofs.CurveLaws.{same-curves}
+use Rattle.sample.proofs.bernstein.patch_curves.Goals.{After-curve-y, After-weights-v, Start}
+use Rattle.sample.proofs.bernstein.patch_curves.Goals as goal
+
+-- ---- the weights are there: what the curve of coordinate k asks
+module _ (c : After-weights-v) where
+  abbrev start : Start
+  start = c.before
+
+  asked : (k : ℕ) → k < 3 → ForCurve start.args.patch.now k c.weights-v.result
+  asked k l = record {
+    small = start.requires.small;
+    axis = l;
+    light = subst LightWeights (sym c.weights-v.ensures) (weights-light start.requires.across);
+  }
+
+pub weights-v-requires : goal.weights-v-requires
+weights-v-requires c = c.requires.across
+
+pub curve-x-requires : goal.curve-x-requires
+curve-x-requires c = asked c 0 (omega arith)
+
+pub curve-y-requires : goal.curve-y-requires
+curve-y-requires c = asked c.before 1 (omega arith)
+
+pub curve-z-requires : goal.curve-z-requires
+curve-z-requires c = asked c.before.before 2 (omega arith)
+
+pub divisor-requires : goal.divisor-requires
+divisor-requires c = (start c.before.before.before).requires.across.most
+
+pub returns : goal.returns
+returns c =
+    let y : After-curve-y = c.before.before in
+    let w : After-weights-v = y.before.before in
+    let s = (start w).args in
+    same-curves c.divisor.ensures
+    (curve-list s.patch.now _ _ 0 w.weights-v.ensures y.before.curve-x.ensures)
+    (curve-list s.patch.now _ _ 1 w.weights-v.ensures y.curve-y.ensures)
+    (curve-list s.patch.now _ _ 2 w.weights-v.ensures c.before.curve-z.ensures)

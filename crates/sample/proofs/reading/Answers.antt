@@ -1,0 +1,31 @@
+-- `reading` meets its contract: it reads the answer of the sample call, case by case.
+use mathlib.Core.Path.{refl, sym, ap, ◌∙◌, subst}
+use borrow.Author.Rules.{rules}
+use Rattle.sample.specs.declared.model.Reading.TheVariants.{At, Refused}
+use Rattle.sample.specs.Answer.{sampled, Reads}
+use Rattle.sample.proofs.reading.Goals.{After-sample}
+use Rattle.sample.proofs.reading.Goals as goal
+
+pub sample-requires : goal.sample-requires
+sample-requires c = tt
+
+pub enum_known-p : goal.enum_known-p
+enum_known-p c = search rules
+
+pub in_micrometres-requires : goal.in_micrometres-requires
+in_micrometres-requires c = tt
+
+pub enum_known-k : goal.enum_known-k
+enum_known-k c = search rules
+
+pub returns-in-At : goal.returns-in-At
+returns-in-At c =
+    let k = c.before.before in
+    let called : After-sample = k.before.before in
+    subst (Reads (At c.in_micrometres.result)) (sym (ap sampled k.p-1.given.1) ∙ called.sample.ensures) c.in_micrometres.ensures
+
+pub returns-in-Refused : goal.returns-in-Refused
+returns-in-Refused c =
+    let k = c.before in
+    let called : After-sample = k.before.before in
+    subst (Reads (Refused k.k-1.given.0.0)) (sym (ap sampled k.k-1.given.1) ∙ called.sample.ensures) refl

@@ -1,0 +1,86 @@
+-- `fill_tangents` meets its contract: the values, the counts, the parts and the cosines are filled one from the other, and the numbers are written from
+-- them.
+use mathlib.Core.Path.{◌≡◌, refl, ap, ap₂, ◌∙◌}
+use mathlib.Core.List.{List}
+use Prim.Native.Nat.{ℕ}
+use native.Mathlib.Omega.{arith}
+use lib.IntN.{ℤ, pos}
+use lib.ListN.{length, replicate}
+use borrow.Author.Rules.{rules}
+use Rattle.finite.specs.Filled.{filled}
+use Rattle.finite.proofs.FilledLaws.{length-list_below, filled-whole}
+use Rattle.tangent.specs.Told.{parts_told}
+use Rattle.tangent.specs.Lists.{number_from_parts, values_of, face_valences, cosines_from, parts_from}
+use Rattle.tangent.proofs.DrawnLaws.{weighing, source, known}
+use Rattle.tangent.proofs.fill.fill_tangents.Goals.{After-cosines_of-cosines, After-face_valences-valences, After-fill_parts, After-fill_values, After-parts-1, After-values-3-1, After-weights-weights, Start}
+use Rattle.tangent.proofs.fill.fill_tangents.Goals as goal
+
+-- ---- the values, the counts, the cosines and the weights are known
+module _ (w : After-weights-weights) where
+  abbrev cosines-at : After-cosines_of-cosines
+  cosines-at = w.before
+
+  abbrev counts-at : After-face_valences-valences
+  counts-at = cosines-at.before.before
+
+  abbrev values-at : After-fill_values
+  values-at = counts-at.before.before
+
+  abbrev start : Start
+  start = values-at.before.before.before
+
+  abbrev table : List ℤ
+  table = values_of start.args.positions.now start.args.faces.now
+
+  abbrev counts : List ℕ
+  counts = face_valences start.args.faces.now start.args.g
+
+  abbrev parts : List ℤ
+  parts = parts_from table start.args.twins.now counts start.args.g
+
+-- ---- the way back from the list of parts
+abbrev weighed : After-parts-1 → After-weights-weights
+weighed c = let lent : After-values-3-1 = c.before.before.before.before in lent.before.before.before
+
+-- ---- the parts are filled
+module _ (p : After-fill_parts) where
+  abbrev w : After-weights-weights
+  w = weighed p.before
+
+  parts_are : {l : List ℤ}
+      → l ≡ filled (parts_told (values-at w).fill_values.last.1.1.0 (start w).args.twins.now (counts-at w).face_valences-valences.result (start w).args.g) 72
+      (replicate 72 (pos 0))
+      → l ≡ parts w
+  parts_are e =
+      e
+      ∙ ap₂ (λ (v : List ℤ) (n : List ℕ). filled (parts_told v (start w).args.twins.now n (start w).args.g) 72 (replicate 72 (pos 0)))
+      (values-at w).fill_values.ensures (counts-at w).face_valences-valences.ensures
+      ∙ filled-whole (parts_told (table w) (start w).args.twins.now (counts w) (start w).args.g) 72 (replicate 72 (pos 0)) refl
+
+  cosines-are : (cosines-at w).cosines_of-cosines.result ≡ cosines_from (counts w)
+  cosines-are = (cosines-at w).cosines_of-cosines.ensures ∙ ap cosines_from (counts-at w).face_valences-valences.ensures
+
+pub face_valences-valences-requires : goal.face_valences-valences-requires
+face_valences-valences-requires c = let v : After-fill_values = c.before in v.before.before.before.requires.face-1
+
+pub cosines_of-cosines-requires : goal.cosines_of-cosines-requires
+cosines_of-cosines-requires c = ap length c.before.face_valences-valences.ensures ∙ length-list_below _ 4
+
+pub fill_parts-requires : goal.fill_parts-requires
+fill_parts-requires c =
+    let w = weighed c in
+    (source (start w).requires (values-at w).fill_values.ensures (counts-at w).face_valences-valences.ensures (weighing _ w.weights-weights.ensures), omega arith)
+
+pub write_numbers-requires : goal.write_numbers-requires
+write_numbers-requires c =
+    let p : After-fill_parts = c.before.before.before.before in
+    let s = start (w p) in
+    (known s.requires (parts_are p p.fill_parts.ensures) (cosines-are p), s.requires.places)
+
+pub returns : goal.returns
+returns c =
+    let n = c.before in
+    let lent = n.before in
+    let p : After-fill_parts = lent.before.before.before.before in
+    n.write_numbers.ensures
+    ∙ ap₂ (λ (x y : List ℤ). filled (number_from_parts x y) 72 (start (w p)).args.tangents-1.now) (parts_are p p.fill_parts.ensures) (cosines-are p)
