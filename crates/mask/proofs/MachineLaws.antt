@@ -69,7 +69,7 @@ value-fits e l w = sfits-abs (value e) (omega (arith, size e l))
 
 pub exact : (e : Sum) → Ranged e → Light e → machine e ≡ value e
 exact (one z) l w = to_z-of_z l
-exact (term k z) l w = ap₂ ◌*ℤ◌ (to_z_pos w64 (omega arith)) (ap stored (to_z-of_z l) ∙ to_z-of_z (sfits_widen tt l))
+exact (term k z) l w = ap₂ ◌*ℤ◌ (to_z_pos w64 (omega arith)) (ap stored (to_z-of_z l) ∙ to_z-of_z {w = w64} (sfits_widen tt l))
 exact (e ⊞ f) l w =
     let le : Light e = omega arith in
     let lf : Light f = omega arith in

@@ -45,18 +45,15 @@ module _ (xs : List ℕ) (f : ℕ) (some : length (face_corners xs f) ≡ 0 → 
 
 -- the corners that the library found, where it found some
 some-told : (c : Then-n-ne0) → length (face_corners c.before.before.before.args.indices.now c.before.before.before.args.f) ≡ 0 → ⊥
-some-told c e = c.if-n-ne0.true (ap length c.before.face_corners-corners.ensures ∙ e)
-
-pub face_corners-corners-requires : goal.face_corners-corners-requires
-face_corners-corners-requires c = tt
+some-told c e = c.if1.true (ap length c.before.face-corners.ensures ∙ e)
 
 pub overflow_mul-first : goal.overflow_mul-first
 overflow_mul-first c = omega (arith, room _ _ (some-told c))
 
 pub returns-then-n-ne0 : goal.returns-then-n-ne0
 returns-then-n-ne0 c =
-    let s = c.before.before.before.args in
-    let n = ap length c.before.face_corners-corners.ensures in
+    let s = c.args in
+    let n = ap length c.face_corners-corners.ensures in
     record {
       count-is = n;
       first-is = first_some (face_corners s.indices.now s.f) s.f s.first.now (some-told c);
@@ -65,7 +62,7 @@ returns-then-n-ne0 c =
 
 pub returns-else-n-ne0 : goal.returns-else-n-ne0
 returns-else-n-ne0 c =
-    let s = c.before.before.before.args in
-    let n = ap length c.before.face_corners-corners.ensures in
+    let s = c.args in
+    let n = ap length c.face_corners-corners.ensures in
     let e = none (face_corners s.indices.now s.f) s.f s.first.now (drop s.first.now s.indices.now) (sym n ∙ c.if-n-ne0.false) in
     record { count-is = n; first-is = e.0; part-is = ap (λ (k : ℕ). take k (drop s.first.now s.indices.now)) n ∙ e.1 }

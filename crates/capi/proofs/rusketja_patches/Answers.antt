@@ -5,29 +5,14 @@ use Rattle.capi.proofs.rusketja_patches.Goals as goal
 
 -- ---- the way back: from the counts that are stored to the lists that are lent, and to the patch call
 abbrev lists_back : After-store_counts-arg-1 → After-patches-1
-lists_back c = c.before.before.before
+lists_back c = (goal.at.After-store_counts-arg-1 c).After-patches-1
 
 abbrev called : After-store_counts-arg-1 → After-patches-answer
 called c = (lists_back c).before.before.before
 
-pub patches-answer-requires : goal.patches-answer-requires
-patches-answer-requires c = tt
-
-pub store_counts-requires : goal.store_counts-requires
-store_counts-requires c = tt
-
-pub shape_of-twins : goal.shape_of-twins
-shape_of-twins c = search rules
-
-pub shape_of-patches : goal.shape_of-patches
-shape_of-patches c = search rules
-
-pub shape_of-exact : goal.shape_of-exact
-shape_of-exact c = search rules
-
 pub returns : goal.returns
 returns c =
-    let answer = (called c.before.before.before.before).patches-answer.ensures in
+    let answer = (called (goal.at.returns c).After-store_counts-arg-1).patches-answer.ensures in
     record {
       stored = rw answer.answer-is at c.store_counts.ensures;
       twins-are = answer.twins-are;

@@ -7,16 +7,7 @@ use Rattle.capi.proofs.rusketja_tangents.Goals as goal
 
 -- ---- the way back: from the number to the tangent call
 abbrev called : After-outcome_code → After-tangents-answer
-called c = c.before.before
-
-pub tangents-answer-requires : goal.tangents-answer-requires
-tangents-answer-requires c = tt
-
-pub outcome_code-requires : goal.outcome_code-requires
-outcome_code-requires c = tt
-
-pub shape_of-tangents : goal.shape_of-tangents
-shape_of-tangents c = search rules
+called c = (goal.at.After-outcome_code c).After-tangents-answer
 
 pub returns : goal.returns
 returns c =

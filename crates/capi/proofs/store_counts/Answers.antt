@@ -14,18 +14,12 @@ use Rattle.capi.proofs.store_counts.Goals as goal
 abbrev lent : Start → List ℕ
 lent s = s.args.vertices.now ∷ (s.args.faces.now ∷ (s.args.edges.now ∷ (s.args.boundary.now ∷ [])))
 
-pub enum_known-answer : goal.enum_known-answer
-enum_known-answer c = search rules
-
-pub enum_known-answer-in-Refused-1 : goal.enum_known-answer-in-Refused-1
-enum_known-answer-in-Refused-1 c = search rules
-
 pub returns-in-Accepted : goal.returns-in-Accepted
 returns-in-Accepted c =
-    let e = sym (ap checked c.before.answer-1.given.1) in
-    record { code_is = ap code e; counts-are = ap (λ (t : Answer Mesh). counted t (lent c.before.before.before)) e }
+    let e = sym (ap checked c.answer-1.given.1) in
+    record { code_is = ap code e; counts-are = ap (λ (t : Answer Mesh). counted t (lent (goal.at.returns-in-Accepted c).Start)) e }
 
 pub returns-in-Refused : goal.returns-in-Refused
 returns-in-Refused c =
-    let e = sym (ap checked c.before.answer-in-Refused-1.given.1) in
-    record { code_is = ap code e; counts-are = ap (λ (t : Answer Mesh). counted t (lent c.before.before.before)) e }
+    let e = sym (ap checked c.answer-in-Refused-1.given.1) in
+    record { code_is = ap code e; counts-are = ap (λ (t : Answer Mesh). counted t (lent (goal.at.returns-in-Refused c).Start)) e }

@@ -8,10 +8,10 @@ use Rattle.control.proofs.along_point.Goals as goal
 
 pub returns : goal.returns
 returns c =
-    let z = c.before in
-    let y = z.before in
-    let x = y.before in
-    let s = x.before.before.before in
+    let z = c in
+    let y = z in
+    let x = y in
+    let s = x in
     c.point.ensures
     ∙ point-of (λ k. along_at s.args.values.now s.args.links.now s.args.weights.now k s.args.c)
     x.along_value.ensures y.along_value-2.ensures z.along_value-3.ensures

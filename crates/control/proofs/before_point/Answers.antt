@@ -14,10 +14,10 @@ use Rattle.control.proofs.before_point.Goals as goal
 -- ---- the twin and the weight are read
 module _ (w : After-wide) where
   abbrev cornered : After-prev_corner
-  cornered = w.before.before
+  cornered = (goal.at.After-wide w).After-prev_corner
 
   abbrev start : Start
-  start = cornered.before
+  start = (goal.at.After-prev_corner cornered).Start
 
   abbrev values : List ℤ
   values = start.args.values.now
@@ -38,10 +38,10 @@ module _ (w : After-wide) where
 
 pub returns : goal.returns
 returns c =
-    let z = c.before in
-    let y = z.before in
-    let x = y.before in
-    let w = x.before.before in
+    let z = c in
+    let y = z in
+    let x = y in
+    let w = x in
     c.point.ensures
-    ∙ point-of (λ k. before_at (values w) (links w) (weights w) k (start w).args.c)
-    (seen w 0 x.before_value.ensures) (seen w 1 y.before_value-2.ensures) (seen w 2 z.before_value-3.ensures)
+    ∙ point-of (λ k. before_at (values (goal.at.returns w).After-wide) (links (goal.at.returns w).After-wide) (weights (goal.at.returns w).After-wide) k (start (goal.at.returns w).After-wide).args.c)
+    (seen (goal.at.returns w).After-wide 0 x.before_value.ensures) (seen (goal.at.returns w).After-wide 1 y.before_value-2.ensures) (seen (goal.at.returns w).After-wide 2 z.before_value-3.ensures)

@@ -11,9 +11,6 @@ use Rattle.cosine.specs.Cosine.{cosines, cosine, Entry}
 use Rattle.cosine.proofs.CosineLaws.{cosine-entry, cosine-past}
 use Rattle.cosine.proofs.cosine.Goals as goal
 
-pub offset_bounds-m : goal.offset_bounds-m
-offset_bounds-m c = omega arith
-
 -- what stands at place m of a list that is the table
 at : (xs : List ℤ) → xs ≡ cosines → (m : ℕ) → get_or xs m (pos 0) ≡ cosine m
 unfolding cosine
@@ -22,10 +19,10 @@ at xs e m = ap (λ (t : List ℤ). get_or t m (pos 0)) e
 pub returns-then-m-lt33 : goal.returns-then-m-lt33
 unfolding cosines
 returns-then-m-lt33 c =
-    let m = c.before.before.args.m in
+    let m = c.args.m in
     subst (λ (z : ℤ). Entry m z) (sym (to_z-of_z {w = w32} (record { sfits = c.result-1.given }) ∙ at _ refl m)) (cosine-entry m)
 
 pub returns-else-m-lt33 : goal.returns-else-m-lt33
 returns-else-m-lt33 c =
-    let m = c.before.args.m in
+    let m = c.args.m in
     subst (λ (z : ℤ). Entry m z) (cosine-past m (omega arith)) (cosine-entry m)

@@ -11,11 +11,8 @@ use Rattle.cosine.specs.Weight.{chain, multiple_cosine, hypotenuse, face_numerat
 use Rattle.cosine.proofs.WeightLaws.{listed-is}
 use Rattle.cosine.proofs.face_weight.Goals as goal
 
-pub entry-requires : goal.entry-requires
-entry-requires c = search rules
-
 pub returns : goal.returns
 unfolding half_even nearest_ℕ nearest list_below cosines cosine root chain multiple_cosine hypotenuse weight_by weights_by
 returns c =
-    let s = c.before.before in
+    let s = c in
     read_back w32 c.entry.type_inv (listed-is face_numerator s.args.n s.args.i _ _ refl c.entry.ensures)

@@ -9,14 +9,5 @@ use Rattle.cosine.proofs.generated_weights.Goals as goal
 abbrev both : List ℤ → List ℤ → Weights
 both edge face = record { edge = edge; face = face }
 
-pub slice_bounds-fill-end : goal.slice_bounds-fill-end
-slice_bounds-fill-end c = search rules
-
-pub slice_bounds-fill-end-2 : goal.slice_bounds-fill-end-2
-slice_bounds-fill-end-2 c = search rules
-
-pub fill-requires : goal.fill-requires
-fill-requires c = search rules
-
 pub returns : goal.returns
-returns c = let w = c.before.before.fill.ensures in ap₂ both w.0 w.1
+returns c = let w = c.fill.ensures in ap₂ both w.0 w.1

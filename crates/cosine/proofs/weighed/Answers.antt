@@ -8,7 +8,7 @@ pub returns-then-n-lt3 : goal.returns-then-n-lt3
 returns-then-n-lt3 c = and_no _ _ (lt-leb _ _ c.if-n-lt3.true)
 
 pub returns-then-n-gt16 : goal.returns-then-n-gt16
-returns-then-n-gt16 c = and_yes _ _ _ (le-leb _ _ c.before.if-n-lt3.false) (and_no _ _ (lt-leb _ _ c.if-n-gt16.true))
+returns-then-n-gt16 c = and_yes _ _ _ (le-leb _ _ c.if-n-lt3.false) (and_no _ _ (lt-leb _ _ c.if-n-gt16.true))
 
 pub returns : goal.returns
-returns c = and_yes _ _ _ (le-leb _ _ c.before.if-n-lt3.false) (and_yes _ _ _ (le-leb _ _ c.if-n-gt16.false) refl)
+returns c = and_yes _ _ _ (le-leb _ _ c.if-n-lt3.false) (and_yes _ _ _ (le-leb _ _ c.if-n-gt16.false) refl)

@@ -21,27 +21,27 @@ module _ (s : Start) where
   mesh = indexed s.args.v s.args.f s.args.positions.now s.args.tags.now s.args.faces.now
 
   abbrev lent : Outputs
-  lent = outputs s.args.out_positions-1.now s.args.out_tags-1.now s.args.out_faces-1.now
+  lent = outputs s.args.out-positions.now s.args.out-tags.now s.args.out-faces.now
 
 -- ---- the check has answered
 abbrev start : After-check_alone-answer → Start
-start c = let k = c.before.before.before in k.before.before
+start c = let k = c in k.before.before
 
 -- ---- it refused
 abbrev asked : In-Refused → After-check_alone-answer
-asked c = c.before.before.before
+asked c = (goal.at.In-Refused c).After-check_alone-answer
 
 -- ---- it accepted, and the lengths are compared
 module _ (c : After-outputs_off) where
   abbrev checked-at : After-check_alone-answer
-  checked-at = c.before.before.before
+  checked-at = (goal.at.After-outputs_off c).After-check_alone-answer
 
   abbrev entry : Start
   entry = start checked-at
 
   accepted : Accepted (mesh entry)
   unfolding mesh_refusal
-  accepted = check-accepted (mesh entry) (sym (ap checked c.before.enum_told-1.given.1) ∙ checked-at.check_alone-answer.ensures)
+  accepted = check-accepted (mesh entry) (sym (ap checked c.enum_told-1.given.1) ∙ checked-at.check_alone-answer.ensures)
 
 pub returns-in-Refused : goal.returns-in-Refused
 unfolding mesh_refusal
@@ -49,19 +49,19 @@ returns-in-Refused c =
     let k = asked c in
     let s = start k in
     refused (mesh s) (lent s) _ refl
-    (check-refused (mesh s) (lent s) (sym (ap checked c.before.answer-1.given.1) ∙ k.check_alone-answer.ensures))
+    (check-refused (mesh s) (lent s) (sym (ap checked c.answer-1.given.1) ∙ k.check_alone-answer.ensures))
 
 pub returns-then-outputs_off : goal.returns-then-outputs_off
 returns-then-outputs_off c =
-    let k = c.before in
-    let s = entry k in
+    let k = c in
+    let s = entry (goal.at.returns-then-outputs_off k).After-outputs_off in
     refused (mesh s) (lent s) _ refl
-    (lengths-refused (mesh s) (lent s) (accepted k) (sym k.outputs_off.ensures ∙ c.if-outputs_off.true))
+    (lengths-refused (mesh s) (lent s) (accepted (goal.at.returns-then-outputs_off k).After-outputs_off) (sym k.outputs_off.ensures ∙ c.if-outputs_off.true))
 
 -- ---- the lengths are those of the mesh's lists
 module _ (c : Else-outputs_off) where
   abbrev compared : After-outputs_off
-  compared = c.before
+  compared = (goal.at.Else-outputs_off c).After-outputs_off
 
   abbrev passed-in : Start
   passed-in = entry compared
@@ -77,14 +77,14 @@ module _ (c : Else-outputs_off) where
 
 -- ---- the way back, from list to list
 abbrev before-tags : After-copy_bytes-arg-1 → Else-outputs_off
-before-tags c = let written = c.before.before in written.before.before
+before-tags c = let written = c in written.before.before
 
 abbrev before-faces : After-reflect_faces-arg-1 → Else-outputs_off
-before-faces c = let written = c.before.before.before in before-tags written.before
+before-faces c = let written = c in before-tags (goal.at.After-reflect_faces-arg-1 written).After-copy_bytes-arg-1
 
 pub reflect_positions-requires : goal.reflect_positions-requires
 reflect_positions-requires c =
-    let k : Else-outputs_off = c.before in
+    let k : Else-outputs_off = (goal.at.reflect_positions-requires c).Else-outputs_off in
     (le_of_eq (sym (same k).positions), λ i l. (formed k).coordinates i (rw (formed k).sized.positions-are at l))
 
 pub copy_bytes-requires : goal.copy_bytes-requires
@@ -97,10 +97,10 @@ reflect_faces-requires c =
 
 pub returns : goal.returns
 returns c =
-    let faces : After-reflect_faces = c.before.before in
-    let tags : After-copy_bytes = faces.before.before.before.before in
-    let positions : After-reflect_positions = tags.before.before.before in
-    let k : Else-outputs_off = positions.before.before in
+    let faces : After-reflect_faces = (goal.at.returns c).After-reflect_faces in
+    let tags : After-copy_bytes = (goal.at.After-reflect_faces faces).After-copy_bytes in
+    let positions : After-reflect_positions = (goal.at.After-copy_bytes tags).After-reflect_positions in
+    let k : Else-outputs_off = (goal.at.After-reflect_positions positions).Else-outputs_off in
     let s = passed-in k in
     done (mesh s) (lent s) (accepted (compared k)) (on k) _ refl
     (record { positions = positions.reflect_positions.ensures; tags = tags.copy_bytes.ensures; indices = faces.reflect_faces.ensures })

@@ -16,14 +16,14 @@ use Rattle.entries.proofs.any_vertex_off.Goals as goal
 -- ---- the vertex of corner c is read
 module _ (c : After-wide) where
   abbrev passing : In-loop-c
-  passing = c.before.before
+  passing = (goal.at.After-wide c).In-loop-c
 
   abbrev start : Start
-  start = passing.before.before.before
+  start = (goal.at.In-loop-c passing).Start
 
   -- what is asked of it
   abbrev off : Bool
-  off = leb start.args.v (get_or start.args.faces.now passing.before.loop-c.c 0)
+  off = leb start.args.v (get_or start.args.faces.now passing.loop-c.c 0)
 
   above : start.args.v ≤ c.wide.result → true ≡ off
   above h = sym (le-leb _ _ (subst (λ (x : ℕ). start.args.v ≤ x) c.wide.ensures h))
@@ -36,16 +36,16 @@ pub loop-c-init : goal.loop-c-init
 loop-c-init c = search (any-start, rules)
 
 pub returns-then-v-wide : goal.returns-then-v-wide
-returns-then-v-wide c = let w = c.before in any_found _ _ _ true (passing w).loop-c-test.true (above w c.if-v-wide.true) refl
+returns-then-v-wide c = let w = c in any_found _ _ _ true (passing (goal.at.returns-then-v-wide w).After-wide).loop-c-test.true (above (goal.at.returns-then-v-wide w).After-wide c.if-v-wide.true) refl
 
 pub loop-c-smaller : goal.loop-c-smaller
-loop-c-smaller c = add-one-dec _ _ (passing c.before).loop-c-test.taken
+loop-c-smaller c = add-one-dec _ _ (passing (goal.at.loop-c-smaller c).After-wide).loop-c-test.true
 
 pub loop-c-preserved : goal.loop-c-preserved
 loop-c-preserved c =
-    let w = c.before in
-    let i = passing w in
-    (add-one-le i.loop-c-test.taken, any-more _ _ false i.before.loop-c.invariant.1 (below w c.if-v-wide.false) refl)
+    let w = c in
+    let i = passing (goal.at.loop-c-preserved w).After-wide in
+    (add-one-le i.loop-c-test.true, any-more _ _ false i.loop-c.invariant.1 (below (goal.at.loop-c-preserved w).After-wide c.if-v-wide.false) refl)
 
 pub returns : goal.returns
 returns c = search (any-not, rules)

@@ -17,7 +17,7 @@ pub returns-then-vertex_twice : goal.returns-then-vertex_twice
 returns-then-vertex_twice c = search (any_found, rules)
 
 pub loop-c-smaller : goal.loop-c-smaller
-loop-c-smaller c = add-one-dec _ _ c.before.before.loop-c-test.true
+loop-c-smaller c = add-one-dec _ _ c.loop-c-test.true
 
 pub loop-c-preserved : goal.loop-c-preserved
 loop-c-preserved c = search (any-more, rules)

@@ -21,52 +21,52 @@ module _ (s : Start) where
   again i = eqb (vertex (turn (suc i) s.args.c)) (vertex s.args.c)
 
 abbrev entry : After-shared_slice_known-3-1 → Start
-entry c = c.before.before.before.before
+entry c = (goal.at.After-shared_slice_known-3-1 c).Start
 
 -- ---- the next corner is read
 module _ (c : After-shared_slice_known-3-1) where
-  next-is : vertex (entry c) c.before.next_corner.result ≡ vertex (entry c) (next (entry c).args.c)
-  next-is = ap (vertex (entry c)) c.before.next_corner.ensures
+  next-is : vertex (entry c) c.next_corner.result ≡ vertex (entry c) (next (entry c).args.c)
+  next-is = ap (vertex (entry c)) c.next_corner.ensures
 
 module _ (c : Else-faces-next_corner) where
   abbrev start : Start
-  start = entry c.before
+  start = entry (goal.at.Else-faces-next_corner c).After-shared_slice_known-3-1
 
   next-other : again start 0 ≡ false
-  next-other = ne_eqb _ _ (λ h. c.if-faces-next_corner.false (next-is c.before ∙ h))
+  next-other = ne_eqb _ _ (λ h. c.if-faces-next_corner.false (next-is (goal.at.Else-faces-next_corner c).After-shared_slice_known-3-1 ∙ h))
 
 -- ---- the corner across is read
 module _ (c : After-shared_slice_known-4-1) where
   abbrev past_next : Else-faces-next_corner
-  past_next = c.before.before
+  past_next = (goal.at.After-shared_slice_known-4-1 c).Else-faces-next_corner
 
   abbrev start₁ : Start
   start₁ = start past_next
 
-  across-is : vertex start₁ c.before.across_corner.result ≡ vertex start₁ (across start₁.args.c)
-  across-is = ap (vertex start₁) c.before.across_corner.ensures
+  across-is : vertex start₁ c.across_corner.result ≡ vertex start₁ (across start₁.args.c)
+  across-is = ap (vertex start₁) c.across_corner.ensures
 
 module _ (c : Else-faces-across_corner) where
   abbrev start₂ : Start
-  start₂ = start₁ c.before
+  start₂ = start₁ (goal.at.Else-faces-across_corner c).After-shared_slice_known-4-1
 
   across-other : again start₂ 1 ≡ false
-  across-other = ne_eqb _ _ (λ h. c.if-faces-across_corner.false (across-is c.before ∙ h))
+  across-other = ne_eqb _ _ (λ h. c.if-faces-across_corner.false (across-is (goal.at.Else-faces-across_corner c).After-shared_slice_known-4-1 ∙ h))
 
 pub returns-then-faces-next_corner : goal.returns-then-faces-next_corner
-returns-then-faces-next_corner c = any_found _ 3 0 true (omega arith) (sym (eq-eqb _ _ (sym (next-is c.before) ∙ c.if-faces-next_corner.true))) refl
+returns-then-faces-next_corner c = any_found _ 3 0 true (omega arith) (sym (eq-eqb _ _ (sym (next-is (goal.at.returns-then-faces-next_corner c).After-shared_slice_known-3-1) ∙ c.if-faces-next_corner.true))) refl
 
 pub returns-then-faces-across_corner : goal.returns-then-faces-across_corner
-returns-then-faces-across_corner c = any_found _ 3 1 true (omega arith) (sym (eq-eqb _ _ (sym (across-is c.before) ∙ c.if-faces-across_corner.true))) refl
+returns-then-faces-across_corner c = any_found _ 3 1 true (omega arith) (sym (eq-eqb _ _ (sym (across-is (goal.at.returns-then-faces-across_corner c).After-shared_slice_known-4-1) ∙ c.if-faces-across_corner.true))) refl
 
 pub bounds-faces-prev_corner : goal.bounds-faces-prev_corner
-bounds-faces-prev_corner c = omega (arith, c.before.prev_corner.ensures)
+bounds-faces-prev_corner c = omega (arith, c.prev_corner.ensures)
 
 pub returns : goal.returns
 returns c =
-    let e = c.before.before in
-    let s = start₂ e in
+    let e = c in
+    let s = start₂ (goal.at.returns e).Else-faces-across_corner in
     rw (any-of-three _)
-    (or_no _ _ _ (next-other (past_next e.before))
-    (or_no _ _ _ (across-other e)
-    (ap (λ (d : ℕ). eqb (vertex s d) (vertex s s.args.c)) c.before.prev_corner.ensures)))
+    (or_no _ _ _ (next-other (past_next (goal.at.returns e).After-shared_slice_known-4-1))
+    (or_no _ _ _ (across-other (goal.at.returns e).Else-faces-across_corner)
+    (ap (λ (d : ℕ). eqb (vertex s d) (vertex s s.args.c)) c.prev_corner.ensures)))

@@ -37,7 +37,7 @@ overflow_cast-result c = record { sfits = omega (arith, size-≤ c.before, mag-n
 
 pub returns-then-num-lt0 : goal.returns-then-num-lt0
 returns-then-num-lt0 c =
-    to_z-of_z (record { sfits = c.negated.type_inv })
+    to_z-of_z {w = w64} (record { sfits = c.negated.type_inv })
     ∙ c.negated.ensures
     ∙ ap (λ (a : ℕ). neg_ℤ (pos a)) (size c.before.before)
     ∙ nearest_negative _ _ (negative c.before)

@@ -47,7 +47,7 @@ returns-then-den-gt0 c =
     let num = (start r).args.num in
     let f : SFits w64 num = (start r).ranges.num in
     let g : SFits w64 r.rest_of_magnitude.result = record { sfits = r.rest_of_magnitude.type_inv } in
-    to_z-of_z (record { sfits = c.with_sign.type_inv })
+    to_z-of_z {w = w64} (record { sfits = c.with_sign.type_inv })
     ∙ c.with_sign.ensures
     ∙ simp (to_z-of_z f, to_z-of_z g)
     (ap (λ (z : ℤ). cond (lt_z num (pos 0)) (neg_ℤ z) z) (left_is r) ∙ remainder_signed num (start r).args.den)

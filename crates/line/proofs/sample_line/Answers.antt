@@ -18,10 +18,10 @@ use Rattle.line.proofs.sample_line.Goals as goal
 -- ---- no cause of a sample is met: the curves are there
 module _ (c : Else-curves-ne0) where
   abbrev called : After-curves-curves
-  called = c.before.before
+  called = (goal.at.Else-curves-ne0 c).After-curves-curves
 
   abbrev start : Start
-  start = called.before
+  start = (goal.at.After-curves-curves called).Start
 
   nothing-met : (let s = start.args in curve_refusal s.patches.now s.f s.n s.b ≡ none)
   nothing-met = sym called.curves-curves.ensures.refusal_is ∙ ap refusal_of c.if-curves-ne0.false
@@ -32,14 +32,14 @@ module _ (c : Else-curves-ne0) where
 -- ---- the lent list is long enough
 module _ (c : Else-line-n) where
   abbrev passed : Else-curves-ne0
-  passed = c.before
+  passed = (goal.at.Else-line-n c).Else-curves-ne0
 
-  long : (let s = (start passed).args in line_length s.n ≤ length s.line-1.now)
+  long : (let s = (start passed).args in line_length s.n ≤ length s.line.now)
   long = omega (arith, c.if-line-n.false)
 
 pub returns-then-curves-ne0 : goal.returns-then-curves-ne0
 returns-then-curves-ne0 c =
-    let e = c.before.before.curves-curves.ensures.refusal_is in
+    let e = c.curves-curves.ensures.refusal_is in
     line-not-done _ _ _ _ _ (line-stopped _ _ _ _ _ (sym e ∙ refusal-some _ c.if-curves-ne0.true))
 
 pub overflow_add-n : goal.overflow_add-n
@@ -49,16 +49,16 @@ pub overflow_mul-n : goal.overflow_mul-n
 overflow_mul-n c = omega (arith, few c)
 
 pub returns-then-line-n : goal.returns-then-line-n
-returns-then-line-n c = let e : Else-curves-ne0 = c.before in line-not-done _ _ _ _ _ (line-short _ _ _ _ _ (nothing-met e) c.if-line-n.true)
+returns-then-line-n c = let e : Else-curves-ne0 = (goal.at.returns-then-line-n c).Else-curves-ne0 in line-not-done _ _ _ _ _ (line-short _ _ _ _ _ (nothing-met e) c.if-line-n.true)
 
 pub write_points-requires : goal.write_points-requires
 write_points-requires c =
-    let e : Else-line-n = c.before in
+    let e : Else-line-n = (goal.at.write_points-requires c).Else-line-n in
     drawable (called (passed e)).curves-curves.ensures (nothing-met (passed e)) (long e)
 
 pub returns : goal.returns
 returns c =
-    let w : After-write_points = c.before in
-    let e : Else-line-n = w.before.before in
+    let w : After-write_points = (goal.at.returns c).After-write_points in
+    let e : Else-line-n = (goal.at.After-write_points w).Else-line-n in
     let met = nothing-met (passed e) in
     line-done _ _ _ _ _ (line_clear _ _ _ _ _ met (long e)) (w.write_points.ensures ∙ line-along _ (called (passed e)).curves-curves.ensures met)

@@ -11,21 +11,21 @@ use Rattle.listing.proofs.mesh_count.Goals.{After-struct_known-1, After-struct_k
 use Rattle.listing.proofs.mesh_count.Goals as goal
 
 abbrev passed : After-struct_known-1 → Tessellation
-passed c = c.before.before.args.t
+passed c = c.args.t
 
 -- ---- F and N are within their limits, and so the numbers of rows and of lines
 module _ (c : After-struct_known-2-1) where
   abbrev few-steps : Else-n-gt-MAX_STEPS
-  few-steps = c.before
+  few-steps = (goal.at.After-struct_known-2-1 c).Else-n-gt-MAX_STEPS
 
   abbrev t : Tessellation
-  t = passed few-steps.before.before
+  t = passed (goal.at.Else-n-gt-MAX_STEPS few-steps).After-struct_known-1
 
   faces-few : t.mesh.faces ≤ max_faces
-  faces-few = few-steps.before.if-m-gt-MAX_FACES.left
+  faces-few = few-steps.if-m-gt-MAX_FACES.false
 
   side-few : t.steps + 1 ≤ max_steps + 1
-  side-few = omega (arith, few-steps.if-n-gt-MAX_STEPS.left)
+  side-few = omega (arith, few-steps.if-n-gt-MAX_STEPS.false)
 
   rows_few : t.mesh.faces * (t.steps + 1) ≤ max_faces * (max_steps + 1)
   rows_few = mul-le-mul faces-few side-few
@@ -35,19 +35,13 @@ module _ (c : After-struct_known-2-1) where
 
 -- ---- the answers, in the order of the code
 pub returns-then-m-gt-MAX_FACES : goal.returns-then-m-gt-MAX_FACES
-returns-then-m-gt-MAX_FACES c = count-faces-over (passed c.before) c.if-m-gt-MAX_FACES.true
+returns-then-m-gt-MAX_FACES c = count-faces-over (passed (goal.at.returns-then-m-gt-MAX_FACES c).After-struct_known-1) c.if-m-gt-MAX_FACES.true
 
 pub returns-then-n-gt-MAX_STEPS : goal.returns-then-n-gt-MAX_STEPS
-returns-then-n-gt-MAX_STEPS c = let few : Else-m-gt-MAX_FACES = c.before in count-steps-over (passed few.before) few.if-m-gt-MAX_FACES.false c.if-n-gt-MAX_STEPS.true
-
-pub overflow_add-result : goal.overflow_add-result
-overflow_add-result c = search rules
+returns-then-n-gt-MAX_STEPS c = let few : Else-m-gt-MAX_FACES = (goal.at.returns-then-n-gt-MAX_STEPS c).Else-m-gt-MAX_FACES in count-steps-over (passed (goal.at.Else-m-gt-MAX_FACES few).After-struct_known-1) few.if-m-gt-MAX_FACES.false c.if-n-gt-MAX_STEPS.true
 
 pub overflow_mul-result : goal.overflow_mul-result
 overflow_mul-result c = omega (arith, rows_few c)
-
-pub overflow_add-result-2 : goal.overflow_add-result-2
-overflow_add-result-2 c = search rules
 
 pub overflow_mul-result-2 : goal.overflow_mul-result-2
 overflow_mul-result-2 c = omega (arith, lines-few c)

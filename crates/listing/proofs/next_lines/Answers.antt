@@ -23,28 +23,28 @@ run-as patches line {before = before} {after = after} {r = r} e s =
 
 -- ---- the answer is known
 abbrev accepted : In-Ready-2 → Start
-accepted c = c.before.before.before
+accepted c = (goal.at.In-Ready-2 c).Start
 
 abbrev refused : In-Refused-2 → Start
-refused c = c.before.before.before
+refused c = (goal.at.In-Refused-2 c).Start
 
 pub mesh_lines-requires : goal.mesh_lines-requires
 mesh_lines-requires c =
-    let k : In-Ready-2 = c.before.before in
+    let k : In-Ready-2 = (goal.at.mesh_lines-requires c).In-Ready-2 in
     let s = accepted k in
     (rw (ap opened k.answer-1.given.1) at s.requires.0, s.requires.1)
 
 pub returns-in-Ready : goal.returns-in-Ready
 returns-in-Ready c =
-    let w : After-mesh_lines = c.before.before in
-    let k : In-Ready-2 = w.before.before.before in
+    let w : After-mesh_lines = (goal.at.returns-in-Ready c).After-mesh_lines in
+    let k : In-Ready-2 = (goal.at.After-mesh_lines w).In-Ready-2 in
     let s = (accepted k).args in
     run-as s.patches.now s.line (sym (ap opened k.answer-1.given.1)) w.mesh_lines.ensures
 
 pub returns-in-Refused : goal.returns-in-Refused
 returns-in-Refused c =
-    let w : After-refusal_line = c.before.before in
-    let k : In-Refused-2 = w.before.before.before in
+    let w : After-refusal_line = (goal.at.returns-in-Refused c).After-refusal_line in
+    let k : In-Refused-2 = (goal.at.After-refusal_line w).In-Refused-2 in
     let s = refused k in
     let known = ap opened k.answer-in-Refused-1.given.1 in
     run-as s.args.patches.now s.args.line (sym known)

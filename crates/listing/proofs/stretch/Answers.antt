@@ -18,27 +18,27 @@ use Rattle.listing.proofs.stretch.Goals as goal
 -- ---- at the loop
 module _ (c : At-loop-to) where
   abbrev start : Start
-  start = let k : After-line_count-lines = c.before in k.before.before
+  start = let k : After-line_count-lines = (goal.at.At-loop-to c).After-line_count-lines in k.before.before
 
   -- how many lines are handed out
   abbrev lines : ℕ
-  lines = c.before.line_count-lines.result
+  lines = c.line_count-lines.result
 
   lines_are : lines ≡ handed_count (opened start.args.answer)
-  lines_are = c.before.line_count-lines.ensures
+  lines_are = c.line_count-lines.ensures
 
 -- ---- in the loop: a line is left, and it has room
 module _ (c : Then-out-at-ge-LINE_PLACES) where
   abbrev at-loop : At-loop-to
-  at-loop = c.before.before
+  at-loop = (goal.at.Then-out-at-ge-LINE_PLACES c).At-loop-to
 
-  room : line_places ≤ length at-loop.loop-to.out-1 - at-loop.loop-to.at
+  room : line_places ≤ length at-loop.loop-to.out - at-loop.loop-to.at
   room = leb-true line_places _ c.if-out-at-ge-LINE_PLACES.true
 
 -- ---- the next lines are stored: they lead on, no further than to the last line, and end within the part that was lent
 module _ (c : After-next_lines-more) where
   abbrev in-loop : Then-out-at-ge-LINE_PLACES
-  in-loop = c.before.before
+  in-loop = (goal.at.After-next_lines-more c).Then-out-at-ge-LINE_PLACES
 
   abbrev here : At-loop-to
   here = at-loop in-loop
@@ -47,63 +47,63 @@ module _ (c : After-next_lines-more) where
   leads = c.next_lines-more.ensures.some
 
   within : here.loop-to.to + c.next_lines-more.result.count ≤ lines here
-  within = omega (arith, c.next_lines-more.ensures.within, lines_are here, in-loop.before.loop-to-test.taken)
+  within = omega (arith, c.next_lines-more.ensures.within, lines_are here, in-loop.loop-to-test.true)
 
-  stored-end : here.loop-to.at + c.next_lines-more.result.length ≤ length here.loop-to.out-1
+  stored-end : here.loop-to.at + c.next_lines-more.result.length ≤ length here.loop-to.out
   stored-end =
       let g = c.next_lines-more.ensures.stored in
-      omega (arith, running-ends here.loop-to.invariant, g.length-is, simp (length-take, length-drop) at g.ranges)
+      omega (arith, running-ends here.loop-to.invariant, g.length-is, simp (length-take, length-drop) at g.fits)
 
 abbrev called : After-struct_known-1 → After-next_lines-more
-called c = c.before.before.before
+called c = (goal.at.After-struct_known-1 c).After-next_lines-more
 
 pub loop-to-init : goal.loop-to-init
 loop-to-init c = running-start _ _ _ _ (le-max_left _ _)
 
 pub overflow_sub-out : goal.overflow_sub-out
-overflow_sub-out c = running-ends c.before.loop-to.invariant
+overflow_sub-out c = running-ends c.loop-to.invariant
 
 pub slice_bounds-next_lines-count : goal.slice_bounds-next_lines-count
 slice_bounds-next_lines-count c = running-ends (at-loop c).loop-to.invariant
 
 pub next_lines-more-requires : goal.next_lines-more-requires
 next_lines-more-requires c =
-    let i : Then-out-at-ge-LINE_PLACES = c.before in
-    (omega (arith, i.before.loop-to-test.true, lines_are (at-loop i)), rw (length-take, length-drop) (omega (arith, room i)))
+    let i : Then-out-at-ge-LINE_PLACES = (goal.at.next_lines-more-requires c).Then-out-at-ge-LINE_PLACES in
+    (omega (arith, i.loop-to-test.true, lines_are (at-loop i)), rw (length-take, length-drop) (omega (arith, room i)))
 
 pub overflow_add-at : goal.overflow_add-at
 overflow_add-at c =
     let w = called c in
-    omega (arith, stored-end w, stored-length (here w).loop-to.invariant.stored, (start (here w)).good)
+    omega (arith, stored-end w, stored-length (here w).loop-to.invariant.stored, (start (here w)).well_formed)
 
 pub overflow_add-to : goal.overflow_add-to
-overflow_add-to c = omega (arith, within (called c.before))
+overflow_add-to c = omega (arith, within (called (goal.at.overflow_add-to c).After-struct_known-1))
 
 pub loop-to-smaller : goal.loop-to-smaller
-loop-to-smaller c = let w = called c.before in omega (arith, leads w, within w)
+loop-to-smaller c = let w = called (goal.at.loop-to-smaller c).After-struct_known-1 in omega (arith, leads w, within w)
 
 pub loop-to-preserved : goal.loop-to-preserved
 loop-to-preserved c =
-    let w = called c.before in
+    let w = called (goal.at.loop-to-preserved c).After-struct_known-1 in
     let l = here w in
     let s = (start l).args in
-    running-lines (opened s.answer) s.patches.now s.line (lines_are l) l.loop-to.invariant _ _ (in-loop w).before.loop-to-test.taken
+    running-lines (opened s.answer) s.patches.now s.line (lines_are l) l.loop-to.invariant _ _ (in-loop w).loop-to-test.true
     w.next_lines-more.ensures
 
 pub shape_of-out-else-out-at-ge-LINE_PLACES : goal.shape_of-out-else-out-at-ge-LINE_PLACES
-shape_of-out-else-out-at-ge-LINE_PLACES c = stored-length c.before.before.loop-to.invariant.stored
+shape_of-out-else-out-at-ge-LINE_PLACES c = stored-length c.loop-to.invariant.stored
 
 pub returns-else-out-at-ge-LINE_PLACES : goal.returns-else-out-at-ge-LINE_PLACES
 returns-else-out-at-ge-LINE_PLACES c =
-    let l : At-loop-to = c.before.before in
+    let l : At-loop-to = (goal.at.returns-else-out-at-ge-LINE_PLACES c).At-loop-to in
     let s = (start l).args in
     running-stretched (opened s.answer) s.patches.now s.line (lines_are l) l.loop-to.invariant (λ _. leb-false line_places _ c.if-out-at-ge-LINE_PLACES.false)
 
 pub shape_of-out-after-loop-to : goal.shape_of-out-after-loop-to
-shape_of-out-after-loop-to c = stored-length c.before.loop-to.invariant.stored
+shape_of-out-after-loop-to c = stored-length c.loop-to.invariant.stored
 
 pub returns-after-loop-to : goal.returns-after-loop-to
 returns-after-loop-to c =
-    let l : At-loop-to = c.before in
+    let l : At-loop-to = (goal.at.returns-after-loop-to c).At-loop-to in
     let s = (start l).args in
     running-stretched (opened s.answer) s.patches.now s.line (lines_are l) l.loop-to.invariant (λ more. absurd (omega (arith, more, c.loop-to-test.false)))

@@ -14,26 +14,11 @@ module _ (s : Start) where
   abbrev neighbours : Sum
   neighbours = term (16 - s.args.g) s.args.s
 
-pub overflow_mul-result : goal.overflow_mul-result
-overflow_mul-result s = search rules
-
-pub overflow_add-result : goal.overflow_add-result
-overflow_add-result s = search rules
-
-pub overflow_cast-result : goal.overflow_cast-result
-overflow_cast-result s = search rules
-
 pub overflow_cast-result-2 : goal.overflow_cast-result-2
 overflow_cast-result-2 s = fits (one s.args.p) s.ranges.p (omega arith)
 
 pub overflow_mul-result-2 : goal.overflow_mul-result-2
 overflow_mul-result-2 s = fits (own s) s.ranges.p (omega (arith, s.requires))
-
-pub overflow_sub-result : goal.overflow_sub-result
-overflow_sub-result s = search rules
-
-pub overflow_cast-result-3 : goal.overflow_cast-result-3
-overflow_cast-result-3 s = search rules
 
 pub overflow_cast-result-4 : goal.overflow_cast-result-4
 overflow_cast-result-4 s = fits (one s.args.s) s.ranges.s (omega arith)

@@ -5,25 +5,16 @@ use borrow.Author.Tests.{lt-ltb, le-ltb}
 use Rattle.mask.specs.Mask.{max_sharpness, corner_mask}
 use Rattle.mask.proofs.corner_mask.Goals as goal
 
-pub overflow_sub-rule : goal.overflow_sub-rule
-overflow_sub-rule c = search rules
-
-pub smooth_corner-requires : goal.smooth_corner-requires
-smooth_corner-requires c = search rules
-
 pub returns-then-rule-gt-MAX_SHARPNESS : goal.returns-then-rule-gt-MAX_SHARPNESS
 unfolding corner_mask
 returns-then-rule-gt-MAX_SHARPNESS c =
-    let t = c.before in
-    let s = t.before in
+    let t = c in
+    let s = t in
     rw (lt-ltb max_sharpness s.args.rule t.if-rule-gt-MAX_SHARPNESS.true) (simp (to_z-of_z s.ranges.p, to_z-of_z s.ranges.ring) at c.smooth_corner.ensures)
-
-pub boundary_corner-requires : goal.boundary_corner-requires
-boundary_corner-requires c = search rules
 
 pub returns : goal.returns
 unfolding corner_mask
 returns c =
-    let t = c.before in
-    let s = t.before in
+    let t = c in
+    let s = t in
     rw (le-ltb max_sharpness s.args.rule t.if-rule-gt-MAX_SHARPNESS.false) (simp (to_z-of_z s.ranges.p, to_z-of_z s.ranges.sharp) at c.boundary_corner.ensures)

@@ -11,11 +11,8 @@ returns-then-inside c = search rules
 
 pub returns-then-n-eq1 : goal.returns-then-n-eq1
 unfolding corner_weight
-returns-then-n-eq1 c = rw (c.before.if-inside.false, eq-eqb _ _ c.if-n-eq1.true) (omega arith)
-
-pub overflow_add-result : goal.overflow_add-result
-overflow_add-result c = search rules
+returns-then-n-eq1 c = rw (c.if-inside.false, eq-eqb _ _ c.if-n-eq1.true) (omega arith)
 
 pub returns : goal.returns
 unfolding corner_weight
-returns c = rw (c.before.if-inside.false, ne_eqb _ _ c.if-n-eq1.false) (omega arith)
+returns c = rw (c.if-inside.false, ne_eqb _ _ c.if-n-eq1.false) (omega arith)

@@ -9,16 +9,16 @@ use Rattle.mask.proofs.inner_mask.Goals as goal
 
 -- the function's entry, from the place of each value that is read
 abbrev start₁ : After-struct_told-1 → Start
-start₁ c = c.before.before
+start₁ c = (goal.at.After-struct_told-1 c).Start
 
 abbrev start₂ : After-struct_told-2-1 → Start
-start₂ c = start₁ c.before.before
+start₂ c = start₁ (goal.at.After-struct_told-2-1 c).After-struct_told-1
 
 abbrev start₃ : After-struct_told-3-1 → Start
-start₃ c = start₂ c.before.before
+start₃ c = start₂ (goal.at.After-struct_told-3-1 c).After-struct_told-2-1
 
 abbrev start₄ : After-struct_told-4-1 → Start
-start₄ c = start₃ c.before.before
+start₄ c = start₃ (goal.at.After-struct_told-4-1 c).After-struct_told-3-1
 
 -- the sum by its terms, from the left
 abbrev sum₁ : Start → Sum
@@ -34,7 +34,7 @@ abbrev sum : Start → Sum
 sum s = sum₃ s ⊞ one s.args.a.across
 
 values : (s : Start) → Narrow s.args.a
-values s = narrow s.args.a (omega (arith, s.well-formed)) (omega (arith, s.well-formed)) (omega (arith, s.well-formed)) (omega (arith, s.well-formed))
+values s = narrow s.args.a (omega (arith, s.well_formed)) (omega (arith, s.well_formed)) (omega (arith, s.well_formed)) (omega (arith, s.well_formed))
 
 ranged : (s : Start) → Ranged (sum s)
 ranged s = let a = values s in (((a.here, a.next), a.prev), a.across)
@@ -43,7 +43,7 @@ pub overflow_cast-result-2 : goal.overflow_cast-result-2
 overflow_cast-result-2 c = let s = start₁ c in fits (one s.args.a.here) (values s).here (omega arith)
 
 pub overflow_mul-result : goal.overflow_mul-result
-overflow_mul-result c = let s = start₁ c in fits (sum₁ s) (values s).here (omega (arith, s.good))
+overflow_mul-result c = let s = start₁ c in fits (sum₁ s) (values s).here (omega (arith, s.well_formed))
 
 pub overflow_cast-result-3 : goal.overflow_cast-result-3
 overflow_cast-result-3 c = let s = start₂ c in fits (one s.args.a.next) (values s).next (omega arith)
@@ -52,7 +52,7 @@ pub overflow_mul-result-2 : goal.overflow_mul-result-2
 overflow_mul-result-2 c = let s = start₂ c in fits (term 2 s.args.a.next) (values s).next (omega arith)
 
 pub overflow_add-result : goal.overflow_add-result
-overflow_add-result c = let s = start₂ c in fits (sum₂ s) (ranged s).0.0 (omega (arith, s.good))
+overflow_add-result c = let s = start₂ c in fits (sum₂ s) (ranged s).0.0 (omega (arith, s.well_formed))
 
 pub overflow_cast-result-4 : goal.overflow_cast-result-4
 overflow_cast-result-4 c = let s = start₃ c in fits (one s.args.a.prev) (values s).prev (omega arith)
@@ -61,14 +61,14 @@ pub overflow_mul-result-3 : goal.overflow_mul-result-3
 overflow_mul-result-3 c = let s = start₃ c in fits (term 2 s.args.a.prev) (values s).prev (omega arith)
 
 pub overflow_add-result-2 : goal.overflow_add-result-2
-overflow_add-result-2 c = let s = start₃ c in fits (sum₃ s) (ranged s).0 (omega (arith, s.good))
+overflow_add-result-2 c = let s = start₃ c in fits (sum₃ s) (ranged s).0 (omega (arith, s.well_formed))
 
 pub overflow_cast-result-5 : goal.overflow_cast-result-5
 overflow_cast-result-5 c = let s = start₄ c in fits (one s.args.a.across) (values s).across (omega arith)
 
 pub overflow_add-result-3 : goal.overflow_add-result-3
-overflow_add-result-3 c = let s = start₄ c in fits (sum s) (ranged s) (omega (arith, s.good))
+overflow_add-result-3 c = let s = start₄ c in fits (sum s) (ranged s) (omega (arith, s.well_formed))
 
 pub returns : goal.returns
 unfolding inner_mask
-returns c = let s = start₄ c in fraction (sum s) (ranged s) (omega (arith, s.good)) (s.args.w + 5)
+returns c = let s = start₄ c in fraction (sum s) (ranged s) (omega (arith, s.well_formed)) (s.args.w + 5)

@@ -9,13 +9,10 @@ use Rattle.mask.proofs.ring_of.Goals.{After-ring_sum, Start}
 use Rattle.mask.proofs.ring_of.Goals as goal
 
 abbrev start : After-ring_sum → Start
-start c = c.before.before.before.before
+start c = (goal.at.After-ring_sum c).Start
 
 values : (s : Start) → Narrow s.args.a
-values s = narrow s.args.a (omega (arith, s.well-formed)) (omega (arith, s.well-formed)) (omega (arith, s.well-formed)) (omega (arith, s.well-formed))
-
-pub ring_sum-requires : goal.ring_sum-requires
-ring_sum-requires c = search rules
+values s = narrow s.args.a (omega (arith, s.well_formed)) (omega (arith, s.well_formed)) (omega (arith, s.well_formed)) (omega (arith, s.well_formed))
 
 pub returns : goal.returns
 returns c =

@@ -11,7 +11,7 @@ use Rattle.mask.proofs.smooth_corner.Goals as goal
 
 module _ (s : Start) where
   square : s.args.n * s.args.n ≤ 255 * 255
-  square = let h : s.args.n ≤ 255 = omega (arith, s.well-formed) in mul-le-mul h h
+  square = let h : s.args.n ≤ 255 = omega (arith, s.well_formed) in mul-le-mul h h
 
   abbrev sum : Sum
   sum = term (s.args.n * s.args.n) s.args.p ⊞ one s.args.s
@@ -33,9 +33,6 @@ overflow_cast-result-3 s = fits (one s.args.s) s.ranges.s (omega arith)
 
 pub overflow_add-result : goal.overflow_add-result
 overflow_add-result s = fits (sum s) (s.ranges.p, s.ranges.s) (omega (arith, square s))
-
-pub overflow_add-result-2 : goal.overflow_add-result-2
-overflow_add-result-2 s = search rules
 
 pub overflow_mul-result-3 : goal.overflow_mul-result-3
 overflow_mul-result-3 s = omega (arith, square s)

@@ -3,12 +3,6 @@ use borrow.Author.Rules.{rules}
 use Rattle.mesh.specs.Answer.{mesh_refusal, twins_after}
 use Rattle.mesh.proofs.check.Goals as goal
 
-pub check_after-requires : goal.check_after-requires
-check_after-requires c = tt
-
-pub shape_of-twins : goal.shape_of-twins
-shape_of-twins c = search rules
-
 pub returns : goal.returns
 unfolding mesh_refusal twins_after
-returns c = let said = c.before.before.check_after.ensures in record { answer-is = said.answer-is; twins-are = said.twins-are }
+returns c = let said = c.check_after.ensures in record { answer-is = said.answer-is; twins-are = said.twins-are }

@@ -34,25 +34,25 @@ module _ (s : Start) where
   mesh = indexed s.args.v s.args.f s.args.positions.now s.args.tags.now s.args.faces.now
 
   abbrev lent : List ℕ
-  lent = s.args.twins-1.now
+  lent = s.args.twins.now
 
   abbrev own : List Row
   own = given s.args.own ∷ lent_rows mesh lent
 
 -- ---- the call's own rows are checked: what the caller met of its own, then the lent list
 abbrev entry : After-twins_short → Start
-entry c = let k : After-slice_known-1 = c.before in k.before.before.before
+entry c = let k : After-slice_known-1 = (goal.at.After-twins_short c).After-slice_known-1 in k.before.before.before
 
-own-met : (c : After-first_met-first) → first_met (own (entry c.before)) ≡ refusal_of c.first_met-first.result
-own-met c = (next_row (row-given (entry c.before).args.own) c.first_met-first.ensures c.before.twins_short.ensures refl).first
+own-met : (c : After-first_met-first) → first_met (own (entry (goal.at.After-first_met-first c).After-twins_short)) ≡ refusal_of c.first_met-first.result
+own-met c = (next_row (row-given (entry (goal.at.After-first_met-first c).After-twins_short).args.own) c.first_met-first.ensures c.twins_short.ensures refl).first
 
 -- ---- the early group has answered
 module _ (c : After-early_refusal-early) where
   abbrev owned : After-first_met-first
-  owned = c.before.before.before
+  owned = (goal.at.After-early_refusal-early c).After-first_met-first
 
   abbrev early-start : Start
-  early-start = entry owned.before
+  early-start = entry (goal.at.After-first_met-first owned).After-twins_short
 
   early : first_met (early_rows (mesh early-start) (own early-start)) ≡ refusal_of c.early_refusal-early.result
   early = c.early_refusal-early.ensures.first (own early-start) (own-met owned)
@@ -60,7 +60,7 @@ module _ (c : After-early_refusal-early) where
 -- ---- past the early group: no early row is met, and what that gives
 module _ (c : Else-early-ne0) where
   abbrev grouped : After-early_refusal-early
-  grouped = c.before.before.before
+  grouped = (goal.at.Else-early-ne0 c).After-early_refusal-early
 
   abbrev start : Start
   start = early-start grouped
@@ -88,7 +88,7 @@ module _ (c : Else-early-ne0) where
 -- ---- the twins are written: the list is as long as it was, and holds the twins
 module _ (c : After-fill_twins) where
   abbrev clean : Else-early-ne0
-  clean = let k : After-link-3-1 = c.before.before in k.before.before
+  clean = let k : After-link-3-1 = (goal.at.After-fill_twins c).After-link-3-1 in k.before.before
 
   abbrev fill_start : Start
   fill_start = start clean
@@ -110,7 +110,7 @@ module _ (c : After-fill_twins) where
 -- ---- the late group has answered
 module _ (c : After-late_refusal-late) where
   abbrev filled-list : After-fill_twins
-  filled-list = let k : After-slice_known-2-1 = c.before.before.before in k.before.before
+  filled-list = let k : After-slice_known-2-1 = (goal.at.After-late_refusal-late c).After-slice_known-2-1 in k.before.before
 
   abbrev late-start : Start
   late-start = fill_start filled-list
@@ -119,10 +119,10 @@ module _ (c : After-late_refusal-late) where
   late = c.late_refusal-late.ensures late-start.args.positions.now
 
 abbrev cleared : After-slice_known-then-late-ne0-1 → After-clear_twins
-cleared c = c.before.before
+cleared c = (goal.at.After-slice_known-then-late-ne0-1 c).After-clear_twins
 
 abbrev met-late : After-clear_twins → Then-late-ne0
-met-late c = c.before.before
+met-late c = (goal.at.After-clear_twins c).Then-late-ne0
 
 pub early_refusal-early-requires : goal.early_refusal-early-requires
 early_refusal-early-requires c =
@@ -131,9 +131,9 @@ early_refusal-early-requires c =
 -- an early row
 pub returns-then-early-ne0 : goal.returns-then-early-ne0
 returns-then-early-ne0 c =
-    let g = c.before.before.before in
-    let s = early-start g in
-    let said = early g ∙ refusal-some g.early_refusal-early.result c.if-early-ne0.true in
+    let g = c in
+    let s = early-start (goal.at.returns-then-early-ne0 g).After-early_refusal-early in
+    let said = early (goal.at.returns-then-early-ne0 g).After-early_refusal-early ∙ refusal-some g.early_refusal-early.result c.if-early-ne0.true in
     record { answer-is = answer-early (mesh s) (own s) said; twins-are = twins-early (mesh s) (own s) said (lent s) }
 
 pub overflow_mul-n : goal.overflow_mul-n
@@ -141,42 +141,42 @@ overflow_mul-n c = let z = (passed c).sized in omega arith
 
 pub fill_twins-requires : goal.fill_twins-requires
 fill_twins-requires c =
-    let e = c.before.before.before in
-    let p = passed e in (
+    let e = c in
+    let p = passed (goal.at.fill_twins-requires e).Else-early-ne0 in (
       record {
         room = record { indices = p.indices; heads-listed = omega arith; links-listed = omega (arith, p.sized.faces-high) };
-        chained = chained e;
+        chained = chained (goal.at.fill_twins-requires e).Else-early-ne0;
         simple = p.simple;
       },
-      room e,
+      room (goal.at.fill_twins-requires e).Else-early-ne0,
     )
 
 pub late_refusal-late-requires : goal.late_refusal-late-requires
 late_refusal-late-requires c =
-    let t = let k : After-slice_known-2-1 = c.before.before in k.before.before in
+    let t = let k : After-slice_known-2-1 = (goal.at.late_refusal-late-requires c).After-slice_known-2-1 in k.before.before in
     let e = clean t in
     let sizes = (passed e).sized in
     let headed : Headed (mesh (start e)).indices (head e) (corners (mesh (start e))) = record { heads-listed = omega arith; heads-are = (chained e).heads } in
     (record { twinned = twinned t; headed = headed }, sizes.vertices-high, le_of_eq (sym sizes.tags-are))
 
 pub clear_twins-requires : goal.clear_twins-requires
-clear_twins-requires c = omega (arith, kept (filled-list c.before.before))
+clear_twins-requires c = omega (arith, kept (filled-list (goal.at.clear_twins-requires c).After-late_refusal-late))
 
 pub shape_of-twins-then-late-ne0 : goal.shape_of-twins-then-late-ne0
 shape_of-twins-then-late-ne0 c =
     let k = cleared c in
-    k.clear_twins.kept.1.0 ∙ (filled-list (met-late k).before).fill_twins.kept.1.1.1.1.0
+    k.clear_twins.kept.1.0 ∙ (filled-list (goal.at.Then-late-ne0 (met-late k)).After-late_refusal-late).fill_twins.kept.1.1.1.1.0
 
 -- a late row
 pub returns-then-late-ne0 : goal.returns-then-late-ne0
 returns-then-late-ne0 c =
     let k = cleared c in
     let m = met-late k in
-    let l = m.before in
-    let t = filled-list l in
+    let l = m in
+    let t = filled-list (goal.at.Then-late-ne0 l).After-late_refusal-late in
     let s = fill_start t in
     let none_yet = none-early (clean t) in
-    let said = late l ∙ refusal-some l.late_refusal-late.result m.if-late-ne0.taken in
+    let said = late (goal.at.Then-late-ne0 l).After-late_refusal-late ∙ refusal-some l.late_refusal-late.result m.if-late-ne0.true in
     record {
       answer-is = answer-late (mesh s) (own s) none_yet said;
       twins-are = k.clear_twins.ensures ∙ filled-again _ _ _ _ _ t.fill_twins.ensures ∙ twins-late (mesh s) (own s) none_yet said (lent s);
@@ -184,22 +184,22 @@ returns-then-late-ne0 c =
 
 pub accepted-requires : goal.accepted-requires
 accepted-requires c =
-    let t = filled-list c.before.before in
+    let t = filled-list (goal.at.accepted-requires c).After-late_refusal-late in
     let p = passed (clean t) in
     record { twinned = twinned t; named = p.named; ends = p.ends }
 
 pub shape_of-twins : goal.shape_of-twins
-shape_of-twins c = let e : Else-late-ne0 = c.before.before in (filled-list e.before).fill_twins.kept.1.1.1.1.0
+shape_of-twins c = let e : Else-late-ne0 = (goal.at.shape_of-twins c).Else-late-ne0 in (filled-list (goal.at.Else-late-ne0 e).After-late_refusal-late).fill_twins.kept.1.1.1.1.0
 
 -- no row
 pub returns : goal.returns
 returns c =
-    let e = c.before.before in
-    let l = e.before in
-    let t = filled-list l in
+    let e = c in
+    let l = e in
+    let t = filled-list (goal.at.returns l).After-late_refusal-late in
     let s = fill_start t in
     let none_yet = none-early (clean t) in
-    let none-late = late l ∙ ap refusal_of e.if-late-ne0.false in
+    let none-late = late (goal.at.returns l).After-late_refusal-late ∙ ap refusal_of e.if-late-ne0.false in
     record {
       answer-is = ap (λ (m : Mesh). checked (Accepted m)) c.accepted.ensures ∙ answer-accepted (mesh s) (own s) none_yet none-late;
       twins-are = t.fill_twins.ensures ∙ twins-accepted (mesh s) (own s) none_yet none-late (lent s);

@@ -36,19 +36,12 @@ room M k e =
     ap (λ (m : Option ℕ). cond (not (eqb k 0)) (some k) m) (skipped 2 none long)
 
 abbrev entry : After-twins-1 → Start
-entry c = c.before.before.before
-
--- ---- the answers, in the order of the code
-pub slice_bounds-check_after-end : goal.slice_bounds-check_after-end
-slice_bounds-check_after-end c = search rules
-
-pub check_after-requires : goal.check_after-requires
-check_after-requires c = tt
+entry c = (goal.at.After-twins-1 c).Start
 
 pub returns : goal.returns
 returns c =
-    let k = c.before in
-    let s = entry k.before in
+    let k = c in
+    let s = entry (goal.at.returns k).After-twins-1 in
     let m = mesh s in
     let own = s.args.own in
     k.check_after.ensures.answer-is

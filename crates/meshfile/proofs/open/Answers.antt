@@ -31,7 +31,7 @@ as_long : {A : Type 0} (n : ℕ) (a : A) → n ≤ length (replicate n a)
 as_long n a = le_of_eq (sym (length-replicate n a))
 
 abbrev start : After-decode → Start
-start c = let first : After-positions-1 = c.before.before.before in first.before.before
+start c = let first : After-positions-1 = (goal.at.After-decode c).After-positions-1 in first.before.before
 
 abbrev file : After-decode → List ℕ
 file c = (start c).args.bytes.now
@@ -39,13 +39,13 @@ file c = (start c).args.bytes.now
 -- ---- the file was read
 module _ (c : In-Read) where
   abbrev call : After-decode
-  call = let t : In-Read-2 = c.before in let k : In-Read-1 = t.before in k.before.before.before.before
+  call = let t : In-Read-2 = (goal.at.In-Read c).In-Read-2 in let k : In-Read-1 = (goal.at.In-Read-2 t).In-Read-1 in k.before.before.before.before
 
   abbrev header : Header
-  header = c.before.header-1.given.0.0
+  header = c.header-1.given.0.0
 
   read : FileRead (file call) no-positions no-tags no-indices header call.decode.last.1.0 call.decode.last.1.1.0 call.decode.last.1.1.1.0
-  read = file-read (file call) _ _ _ (ap decoded c.before.header-1.given.1) call.decode.ensures
+  read = file-read (file call) _ _ _ (ap decoded c.header-1.given.1) call.decode.ensures
 
   whole : Whole (file call)
   whole = file-whole (file call) read.passed
@@ -53,18 +53,33 @@ module _ (c : In-Read) where
   vertices-are : header.vertices ≡ vertices (file call)
   vertices-are = ap (λ (h : Header). h.vertices) read.header_is
 
-  faces-are : header.faces-1 ≡ faces (file call)
-  faces-are = ap (λ (h : Header). h.faces-1) read.header_is
+  faces-are : header.faces ≡ faces (file call)
+  faces-are = ap (λ (h : Header). h.faces) read.header_is
 
   steps-are : header.steps ≡ steps (file call)
   steps-are = ap (λ (h : Header). h.steps) read.header_is
 
 -- ---- the parts of the lists are handed on
 abbrev tags-told : After-tessellate-arg-in-Read-1 → In-Read
-tags-told c = c.before.before.before.before
+tags-told c = (goal.at.After-tessellate-arg-in-Read-1 c).In-Read
 
 abbrev told : After-tessellate-arg-in-Read-3-1 → In-Read
-told c = tags-told c.before.before.before
+told c = tags-told (goal.at.After-tessellate-arg-in-Read-3-1 c).After-tessellate-arg-in-Read-1
+
+pub slice_bounds-decode-end : goal.slice_bounds-decode-end
+slice_bounds-decode-end c = search rules
+
+pub slice_bounds-decode-end-2 : goal.slice_bounds-decode-end-2
+slice_bounds-decode-end-2 c = search rules
+
+pub slice_bounds-decode-end-3 : goal.slice_bounds-decode-end-3
+slice_bounds-decode-end-3 c = search rules
+
+pub decode-requires : goal.decode-requires
+decode-requires c = tt
+
+pub enum_known-header : goal.enum_known-header
+enum_known-header c = search rules
 
 pub overflow_mul-p : goal.overflow_mul-p
 overflow_mul-p c = omega (arith, vertices-are c, (whole c).vertices-high)
@@ -72,24 +87,39 @@ overflow_mul-p c = omega (arith, vertices-are c, (whole c).vertices-high)
 pub overflow_mul-i : goal.overflow_mul-i
 overflow_mul-i c = omega (arith, faces-are c, (whole c).faces-high)
 
+pub slice_bounds-tessellate-count : goal.slice_bounds-tessellate-count
+slice_bounds-tessellate-count c = search rules
+
+pub slice_bounds-tessellate-count-in-Read : goal.slice_bounds-tessellate-count-in-Read
+slice_bounds-tessellate-count-in-Read c = search rules
+
+pub slice_bounds-tessellate-count-in-Read-2 : goal.slice_bounds-tessellate-count-in-Read-2
+slice_bounds-tessellate-count-in-Read-2 c = search rules
+
 pub tessellate-requires : goal.tessellate-requires
 tessellate-requires c =
     let k = told c in
     subst MeshSized (sym (mesh-is (file (call k)) (read k))) (whole-sized (file (call k)) (whole k))
 
+pub enum_known-k : goal.enum_known-k
+enum_known-k c = search rules
+
+pub shape_of-patches : goal.shape_of-patches
+shape_of-patches c = search rules
+
 pub returns-in-Read : goal.returns-in-Read
 returns-in-Read c =
-    let t = c.before in
-    let k = told t.before in
+    let t = c in
+    let k = told (goal.at.returns-in-Read t).After-tessellate-arg-in-Read-3-1 in
     let b = file (call k) in
-    open-mesh b (start (call k)).args.patches-1.now (read k).passed (mesh-is b (read k)) (steps-are k) t.tessellate.ensures
+    open-mesh b (start (call k)).args.patches.now (read k).passed (mesh-is b (read k)) (steps-are k) t.tessellate.ensures
 
 pub returns-in-Refused : goal.returns-in-Refused
 returns-in-Refused c =
-    let m : In-Refused-1 = c.before.before in
-    let a = m.before.before.before.before in
-    let b = file a in
+    let m : In-Refused-1 = (goal.at.returns-in-Refused c).In-Refused-1 in
+    let a = m in
+    let b = file (goal.at.In-Refused-1 a).After-decode in
     open-refused b _
     (file-turned-down b no-positions no-tags no-indices
     (as_long (3 * max_vertices) (pos 0)) (as_long {A = ℕ} max_vertices 0) (as_long {A = ℕ} (4 * max_faces) 0)
-    (ap decoded c.before.k-1.given.1) a.decode.ensures)
+    (ap decoded c.k-1.given.1) a.decode.ensures)

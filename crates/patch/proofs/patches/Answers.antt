@@ -19,18 +19,18 @@ module _ (s : Start) where
   mesh = indexed s.args.v s.args.f s.args.positions.now s.args.tags.now s.args.faces.now
 
   abbrev lists : Lent
-  lists = lent s.args.twins-1.now s.args.patches-1.now s.args.marks-1.now
+  lists = lent s.args.twins.now s.args.patches.now s.args.marks.now
 
 -- ---- the check has answered
 module _ (c : After-slice_known-3-1) where
   abbrev asked : After-check_after-answer
-  asked = c.before.before
+  asked = (goal.at.After-slice_known-3-1 c).After-check_after-answer
 
   abbrev owned : After-own_refusal-own
-  owned = asked.before.before
+  owned = (goal.at.After-check_after-answer asked).After-own_refusal-own
 
   abbrev start : Start
-  start = let k : After-slice_known-1 = owned.before.before in k.before.before.before
+  start = let k : After-slice_known-1 = (goal.at.After-own_refusal-own owned).After-slice_known-1 in k.before.before.before
 
   -- the first cause that the call meets
   abbrev met : Option ℕ
@@ -43,13 +43,13 @@ module _ (c : After-slice_known-3-1) where
   left = asked.check_after-answer.ensures.twins-are ∙ same-twins (mesh start) (lists start) _ owned.own_refusal-own.ensures
 
 abbrev refused : goal.In_default → After-slice_known-3-1
-refused c = c.before.before
+refused c = (goal.at.In_default c).After-slice_known-3-1
 
 abbrev accepted : In-Accepted → After-slice_known-3-1
-accepted c = c.before.before.before
+accepted c = (goal.at.In-Accepted c).After-slice_known-3-1
 
 abbrev filled : After-slice_known-4-1 → After-fill_patches
-filled c = c.before.before.before
+filled c = (goal.at.After-slice_known-4-1 c).After-fill_patches
 
 pub returns-in_default : goal.returns-in_default
 returns-in_default c =
@@ -64,10 +64,10 @@ returns-in_default c =
 
 pub fill_patches-requires : goal.fill_patches-requires
 fill_patches-requires c =
-    let t : In-Accepted = c.before.before.before in
+    let t : In-Accepted = (goal.at.fill_patches-requires c).In-Accepted in
     let k = accepted t in
     let s = start k in
-    let counted = sym (ap checked t.before.answer-1.given.1) ∙ answered k in
+    let counted = sym (ap checked t.answer-1.given.1) ∙ answered k in
     record {
       accepted = result-well-formed (mesh s) (lists s) counted;
       twinned = twins-left (mesh s) (lists s) counted _ (left k);
@@ -83,10 +83,10 @@ shape_of-marks c = (filled c).fill_patches.auto.marks
 
 pub returns : goal.returns
 returns c =
-    let t : In-Accepted = let known = (filled c).before.before in known.before.before in
+    let t : In-Accepted = let known = (filled c) in known.before.before in
     let k = accepted t in
     let s = start k in
-    let counted = sym (ap checked t.before.answer-1.given.1) ∙ answered k in
+    let counted = sym (ap checked t.answer-1.given.1) ∙ answered k in
     record {
       answer-is = counted;
       twins-are = left k;

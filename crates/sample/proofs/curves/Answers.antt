@@ -14,17 +14,17 @@ use Rattle.sample.proofs.curves.Goals as goal
 -- ---- no cause of a sample is met
 module _ (c : Else-k-ne0) where
   abbrev start : Start
-  start = c.before.before
+  start = (goal.at.Else-k-ne0 c).Start
 
   nothing-met : (let s = start.args in curve_refusal s.patches.now s.f s.n s.b ≡ none)
-  nothing-met = sym c.before.sample_refusal-k.ensures ∙ ap refusal_of c.if-k-ne0.false
+  nothing-met = sym c.sample_refusal-k.ensures ∙ ap refusal_of c.if-k-ne0.false
 
   holds : (let s = start.args in SampleAllowed s.patches.now s.f s.n 0 s.b)
   holds = allowed _ _ _ _ _ nothing-met
 
 pub returns-then-k-ne0 : goal.returns-then-k-ne0
 returns-then-k-ne0 c =
-    let e = c.before.sample_refusal-k.ensures in
+    let e = c.sample_refusal-k.ensures in
     curves-refused _ _ _ _ e (sym e ∙ refusal-some _ c.if-k-ne0.true)
 
 pub overflow_mul-at : goal.overflow_mul-at
@@ -40,9 +40,9 @@ pub slice_bounds-patch_curves-count : goal.slice_bounds-patch_curves-count
 slice_bounds-patch_curves-count c = omega (arith, (holds c).listed)
 
 pub patch_curves-requires : goal.patch_curves-requires
-patch_curves-requires c = (holds c.before).samplable
+patch_curves-requires c = (holds (goal.at.patch_curves-requires c).Else-k-ne0).samplable
 
 pub returns : goal.returns
 returns c =
-    let e : Else-k-ne0 = c.before.before in
+    let e : Else-k-ne0 = (goal.at.returns c).Else-k-ne0 in
     curves-given _ _ _ _ (nothing-met e) (holds e).listed c.patch_curves.ensures

@@ -16,25 +16,25 @@ use Rattle.sample.proofs.marked_sample.Goals as goal
 -- ---- the marks of the face are listed, and the sample is asked for
 module _ (c : After-own_sample) where
   abbrev start : Start
-  start = c.before.before.before
+  start = (goal.at.After-own_sample c).Start
 
   listed : (let s = start.args in s.f < length s.marks.now / 16)
-  listed = c.before.if-marks-f.false
+  listed = c.if-marks-f.false
 
 -- ---- the sample is there
 module _ (c : After-p-1) where
   abbrev known : In-At-2
-  known = c.before.before
+  known = (goal.at.After-p-1 c).In-At-2
 
   abbrev called : After-own_sample
-  called = known.before.before
+  called = (goal.at.In-At-2 known).After-own_sample
 
   held : (let s = (start called).args in s.f < length s.marks.now / 16)
   held = listed called
 
 -- ---- the answers, in the order of the code
 pub returns-then-marks-f : goal.returns-then-marks-f
-returns-then-marks-f c = marked_refused _ _ _ _ _ _ (let s = c.before.before.args in marks-off s.patches.now s.marks.now s.f _ _ _ c.if-marks-f.true)
+returns-then-marks-f c = marked_refused _ _ _ _ _ _ (let s = c.args in marks-off s.patches.now s.marks.now s.f _ _ _ c.if-marks-f.true)
 
 pub overflow_mul-at : goal.overflow_mul-at
 overflow_mul-at c = omega (arith, held c)
@@ -47,8 +47,8 @@ slice_bounds-all_exact-count c = omega (arith, held c)
 
 pub returns-in-At : goal.returns-in-At
 returns-in-At c =
-    let tested : After-all_exact = c.before in
-    let p : After-p-1 = tested.before.before in
+    let tested : After-all_exact = (goal.at.returns-in-At c).After-all_exact in
+    let p : After-p-1 = (goal.at.After-all_exact tested).After-p-1 in
     let own = called p in
     let s = (start own).args in
     ap (λ (m : Bool). result (with_marks m (known p).own-1.given.0.0)) (tested.all_exact.ensures ∙ marks-all s.marks.now s.f (listed own))
@@ -57,8 +57,8 @@ returns-in-At c =
 
 pub returns-in-Refused : goal.returns-in-Refused
 returns-in-Refused c =
-    let refused = c.before in
-    let own : After-own_sample = refused.before.before in
+    let refused = c in
+    let own : After-own_sample = (goal.at.returns-in-Refused refused).After-own_sample in
     let s = (start own).args in
     ap (over (with_marks (patch_marked s.marks.now s.f))) (sym (ap marked refused.k-1.given.1) ∙ own.own_sample.ensures)
     ∙ own-marked s.patches.now s.marks.now s.f s.n s.a s.b (listed own)

@@ -6,26 +6,14 @@ use Rattle.sample.specs.Answer.{sampled, Reads}
 use Rattle.sample.proofs.reading.Goals.{After-sample}
 use Rattle.sample.proofs.reading.Goals as goal
 
-pub sample-requires : goal.sample-requires
-sample-requires c = tt
-
-pub enum_known-p : goal.enum_known-p
-enum_known-p c = search rules
-
-pub in_micrometres-requires : goal.in_micrometres-requires
-in_micrometres-requires c = tt
-
-pub enum_known-k : goal.enum_known-k
-enum_known-k c = search rules
-
 pub returns-in-At : goal.returns-in-At
 returns-in-At c =
-    let k = c.before.before in
-    let called : After-sample = k.before.before in
+    let k = c in
+    let called : After-sample = (goal.at.returns-in-At k).After-sample in
     subst (Reads (At c.in_micrometres.result)) (sym (ap sampled k.p-1.given.1) ∙ called.sample.ensures) c.in_micrometres.ensures
 
 pub returns-in-Refused : goal.returns-in-Refused
 returns-in-Refused c =
-    let k = c.before in
-    let called : After-sample = k.before.before in
+    let k = c in
+    let called : After-sample = (goal.at.returns-in-Refused k).After-sample in
     subst (Reads (Refused k.k-1.given.0.0)) (sym (ap sampled k.k-1.given.1) ∙ called.sample.ensures) refl

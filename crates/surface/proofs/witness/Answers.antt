@@ -6,15 +6,15 @@ use Rattle.surface.proofs.witness.Goals as goal
 
 -- the three calls, from the end, from the second evaluation, and from the sample between the two
 abbrev again : After-slice_known-8-1 → After-evaluate
-again c = let back : After-slice_known-7-1 = c.before.before.before in back.before.before
+again c = let back : After-slice_known-7-1 = (goal.at.After-slice_known-8-1 c).After-slice_known-7-1 in back.before.before
 
 abbrev between : After-evaluate → After-sample-other
-between c = c.before.before.before.before
+between c = (goal.at.After-evaluate c).After-sample-other
 
 abbrev once : After-sample-other → After-evaluate-first
 once c =
-    let lent : After-slice_known-6-1 = c.before.before in
-    let back : After-slice_known-5-1 = lent.before.before.before in
+    let lent : After-slice_known-6-1 = (goal.at.After-sample-other c).After-slice_known-6-1 in
+    let back : After-slice_known-5-1 = (goal.at.After-slice_known-6-1 lent).After-slice_known-5-1 in
     back.before.before
 
 pub returns : goal.returns

@@ -22,19 +22,19 @@ module _ (s : Start) where
   mesh = indexed s.args.v s.args.f s.args.positions.now s.args.tags.now s.args.faces.now
 
   abbrev lent : List ℤ
-  lent = s.args.tangents-1.now
+  lent = s.args.tangents.now
 
   abbrev face : ℕ
   face = s.args.g
 
 -- ---- the check has answered
 abbrev start : After-check-answer → Start
-start c = c.before.before.before.before
+start c = (goal.at.After-check-answer c).Start
 
 -- ---- it accepted
 module _ (c : goal.In_default) where
   abbrev asked : After-check-answer
-  asked = c.before.before.before
+  asked = (goal.at.In_default c).After-check-answer
 
   abbrev entry : Start
   entry = start asked
@@ -49,33 +49,33 @@ module _ (c : goal.In_default) where
 -- ---- nothing of its own is met
 module _ (c : Else-own-ne0) where
   abbrev told : goal.In_default
-  told = c.before.before.before
+  told = (goal.at.Else-own-ne0 c).In_default
 
 pub returns-in-Refused : goal.returns-in-Refused
 returns-in-Refused c =
-    let k = c.before.before.before.before in
-    let s = start k in
+    let k = c in
+    let s = start (goal.at.returns-in-Refused k).After-check-answer in
     refused (mesh s) (face s) (lent s)
-    (check-refused (mesh s) (face s) (lent s) (sym (ap checked c.before.answer-1.given.1) ∙ k.check-answer.ensures.answer-is)) _ refl
+    (check-refused (mesh s) (face s) (lent s) (sym (ap checked c.answer-1.given.1) ∙ k.check-answer.ensures.answer-is)) _ refl
 
 pub face_refusal-own-requires : goal.face_refusal-own-requires
 face_refusal-own-requires c =
-    let k = c.before in
-    (twins-left k, (formed (mesh (entry k)) (face (entry k)) (lent (entry k)) (accepted k).1).sized.indices-are)
+    let k = c in
+    (twins-left (goal.at.face_refusal-own-requires k).In_default, (formed (mesh (entry (goal.at.face_refusal-own-requires k).In_default)) (face (entry (goal.at.face_refusal-own-requires k).In_default)) (lent (entry (goal.at.face_refusal-own-requires k).In_default)) (accepted (goal.at.face_refusal-own-requires k).In_default).1).sized.indices-are)
 
 pub returns-then-own-ne0 : goal.returns-then-own-ne0
 returns-then-own-ne0 c =
-    let o = c.before in
-    let k = o.before.before in
-    let s = entry k in
+    let o = c in
+    let k = o in
+    let s = entry (goal.at.returns-then-own-ne0 k).In_default in
     refused (mesh s) (face s) (lent s)
-    (own-refused (mesh s) (face s) (lent s) (accepted k).1 _ o.face_refusal-own.ensures c.if-own-ne0.true) _ refl
+    (own-refused (mesh s) (face s) (lent s) (accepted (goal.at.returns-then-own-ne0 k).In_default).1 _ o.face_refusal-own.ensures c.if-own-ne0.true) _ refl
 
 pub fill_tangents-requires : goal.fill_tangents-requires
 fill_tangents-requires c =
-    let e = c.before.before in
-    let o = e.before in
-    let k = told e in
+    let e = c in
+    let o = e in
+    let k = told (goal.at.fill_tangents-requires e).Else-own-ne0 in
     let s = entry k in
     let w = formed (mesh s) (face s) (lent s) (accepted k).1 in
     let ok = o.face_refusal-own.ensures in
@@ -85,8 +85,8 @@ fill_tangents-requires c =
 
 pub returns : goal.returns
 returns c =
-    let f = c.before in
-    let e = f.before.before.before in
-    let k = told e in
+    let f = c in
+    let e = f in
+    let k = told (goal.at.returns e).Else-own-ne0 in
     let s = entry k in
-    done (mesh s) (face s) (lent s) (accepted k).1 _ e.before.face_refusal-own.ensures e.if-own-ne0.false _ refl (twins-left k) f.fill_tangents.ensures
+    done (mesh s) (face s) (lent s) (accepted k).1 _ e.face_refusal-own.ensures e.if-own-ne0.false _ refl (twins-left k) f.fill_tangents.ensures

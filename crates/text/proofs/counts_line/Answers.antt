@@ -11,11 +11,11 @@ returns-then-line-lt-LINE_PLACES c = unprinted _ _ c.if-line-lt-LINE_PLACES.true
 pub returns : goal.returns
 unfolding counts_line
 returns c =
-    let fourth = c.before.before in
-    let third = fourth.before.before.before.before in
-    let second = third.before.before.before.before in
-    let first = second.before.before.before.before in
-    let s = first.before.before.before.before.args in
+    let fourth = c in
+    let third = fourth in
+    let second = third in
+    let first = second in
+    let s = first.args in
     printed (omega arith) (omega arith)
     (put_word (decimal s.v) first.put_number-f_at.ensures.0
     (put_word (decimal s.f) second.put_number-e_at.ensures.0

@@ -8,18 +8,15 @@ use Rattle.text.proofs.TextLaws.{text-length, put-length, put-field}
 use Rattle.text.proofs.put_coordinate.Goals.{After-put_signed-last, After-slice_known-2-1, Start}
 use Rattle.text.proofs.put_coordinate.Goals as goal
 
-pub put_signed-last-requires : goal.put_signed-last-requires
-put_signed-last-requires c = omega arith
-
 -- ---- behind the call: the text of the number was stored
 module _ (c : After-slice_known-2-1) where
   abbrev call : After-put_signed-last
-  call = c.before.before
+  call = (goal.at.After-slice_known-2-1 c).After-put_signed-last
 
   abbrev start : Start
-  start = call.before.before.before
+  start = (goal.at.After-put_signed-last call).Start
 
-  put : Put (text start.args.z) start.args.at start.args.line-1.now call.put_signed-last.last.1.0 call.put_signed-last.result
+  put : Put (text start.args.z) start.args.at start.args.line.now call.put_signed-last.last.1.0 call.put_signed-last.result
   put = simp (to_z-of_z start.ranges.z) at call.put_signed-last.ensures
 
 pub bounds-line-last : goal.bounds-line-last

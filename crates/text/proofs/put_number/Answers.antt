@@ -8,17 +8,17 @@ use Rattle.text.proofs.put_number.Goals.{After-put_digits-last, After-slice_know
 use Rattle.text.proofs.put_number.Goals as goal
 
 pub put_digits-last-requires : goal.put_digits-last-requires
-put_digits-last-requires c = let s = c.before.before in omega (arith, decimal-length s.args.n, s.requires)
+put_digits-last-requires c = let s = c in omega (arith, decimal-length s.args.n, s.requires)
 
 -- ---- behind the call: the digits were stored
 module _ (c : After-slice_known-2-1) where
   abbrev call : After-put_digits-last
-  call = c.before.before
+  call = (goal.at.After-slice_known-2-1 c).After-put_digits-last
 
   abbrev start : Start
-  start = call.before.before.before
+  start = (goal.at.After-put_digits-last call).Start
 
-  abbrev put : Put (decimal start.args.n) start.args.at start.args.line-1.now call.put_digits-last.last.1.0 call.put_digits-last.result
+  abbrev put : Put (decimal start.args.n) start.args.at start.args.line.now call.put_digits-last.last.1.0 call.put_digits-last.result
   put = call.put_digits-last.ensures
 
 pub bounds-line-last : goal.bounds-line-last

@@ -12,13 +12,13 @@ returns-then-line-lt-LINE_PLACES c = unprinted _ _ c.if-line-lt-LINE_PLACES.true
 pub returns : goal.returns
 unfolding sample_line
 returns c =
-    let sixth = c.before.before in
-    let fifth = sixth.before.before.before.before in
-    let fourth = fifth.before.before.before.before in
-    let third = fourth.before.before.before.before in
-    let second = third.before.before.before.before in
-    let first = second.before.before.before.before in
-    let s = first.before.before.before.before in
+    let sixth = c in
+    let fifth = sixth in
+    let fourth = fifth in
+    let third = fourth in
+    let second = third in
+    let first = second in
+    let s = first in
     printed (omega arith) (omega arith)
     (put_word (decimal s.args.f) first.put_number-a_at.ensures.0
     (put_word (decimal s.args.a) second.put_number-b_at.ensures.0

@@ -13,7 +13,7 @@ use Rattle.capi.proofs.samples.rusketja_marked_sample.Goals as goal
 
 -- ---- at the entry: where the code goes back to, and what an answer leaves in the lent numbers and in the lent byte
 abbrev start : After-marked_sample → Start
-start c = c.before.before
+start c = (goal.at.After-marked_sample c).Start
 
 module _ (s : Start) where
   abbrev point-of : Answer MarkedPoint → List ℤ
@@ -24,38 +24,22 @@ module _ (s : Start) where
 
 -- ---- the way back: from the point that is stored to the marked sample
 abbrev found : After-store_point-arg-in-At-2-1 → In-At-2
-found c = c.before.before.before.before
-
--- ---- the answers, in the order of the code
-pub marked_sample-requires : goal.marked_sample-requires
-marked_sample-requires c = tt
-
-pub enum_known-p : goal.enum_known-p
-enum_known-p c = search rules
-
-pub store_point-requires : goal.store_point-requires
-store_point-requires c = tt
-
-pub mark_byte-requires : goal.mark_byte-requires
-mark_byte-requires c = tt
-
-pub enum_known-k : goal.enum_known-k
-enum_known-k c = search rules
+found c = (goal.at.After-store_point-arg-in-At-2-1 c).In-At-2
 
 pub returns-in-At : goal.returns-in-At
 returns-in-At c =
-    let at = found c.before.before in
-    let s = start at.before.before in
-    let e = sym (ap marked at.p-1.given.1) ∙ at.before.before.marked_sample.ensures in
+    let at = found (goal.at.returns-in-At c).After-store_point-arg-in-At-2-1 in
+    let s = start (goal.at.In-At-2 at).After-marked_sample in
+    let e = sym (ap marked at.p-1.given.1) ∙ at.marked_sample.ensures in
     record {
       code_is = ap code e;
-      point-is = c.before.store_point.ensures ∙ ap (point-of s) e;
+      point-is = c.store_point.ensures ∙ ap (point-of s) e;
       mark-is = c.mark_byte.ensures ∙ ap (mark_of s) e;
     }
 
 pub returns-in-Refused : goal.returns-in-Refused
 returns-in-Refused c =
-    let at = c.before in
-    let s = start at.before.before in
-    let e = sym (ap marked at.k-1.given.1) ∙ at.before.before.marked_sample.ensures in
+    let at = c in
+    let s = start (goal.at.returns-in-Refused at).After-marked_sample in
+    let e = sym (ap marked at.k-1.given.1) ∙ at.marked_sample.ensures in
     record { code_is = ap code e; point-is = ap (point-of s) e; mark-is = ap (mark_of s) e }

@@ -25,25 +25,16 @@ read-refused (refusal k) j x y z h = record { code_is = h; reading-is = (refl, r
 abbrev answer : Start → Answer Point
 answer s = sample_answer s.args.patches.now s.args.f s.args.n s.args.a s.args.b
 
-pub reading-requires : goal.reading-requires
-reading-requires c = tt
-
-pub enum_known-p : goal.enum_known-p
-enum_known-p c = search rules
-
-pub enum_known-k : goal.enum_known-k
-enum_known-k c = search rules
-
 pub returns-in-At : goal.returns-in-At
 returns-in-At c =
-    let told = c.before.before.before in
-    let s = told.before in
-    let read = subst (λ (r : Reading). Reads r (answer s)) c.before.p-1.given.1 told.reading.ensures in
-    read_at (answer s) _ s.args.x.now s.args.y.now s.args.z.now read
+    let told = c in
+    let s = told in
+    let read = subst (λ (r : Reading). Reads r (answer (goal.at.returns-in-At s).Start)) c.p-1.given.1 told.reading.ensures in
+    read_at (answer (goal.at.returns-in-At s).Start) _ s.args.x.now s.args.y.now s.args.z.now read
 
 pub returns-in-Refused : goal.returns-in-Refused
 returns-in-Refused c =
-    let told = c.before.before.before in
-    let s = told.before in
-    let read = subst (λ (r : Reading). Reads r (answer s)) c.before.k-1.given.1 told.reading.ensures in
-    read-refused (answer s) _ s.args.x.now s.args.y.now s.args.z.now read
+    let told = c in
+    let s = told in
+    let read = subst (λ (r : Reading). Reads r (answer (goal.at.returns-in-Refused s).Start)) c.k-1.given.1 told.reading.ensures in
+    read-refused (answer (goal.at.returns-in-Refused s).Start) _ s.args.x.now s.args.y.now s.args.z.now read

@@ -16,31 +16,19 @@ lent s = s.args.x.now ∷ (s.args.y.now ∷ (s.args.z.now ∷ []))
 
 -- ---- the way back: from the point that is stored to the sample
 abbrev found : After-store_point-arg-in-At-2-1 → In-At-2
-found c = c.before.before.before.before
-
-pub sample-requires : goal.sample-requires
-sample-requires c = tt
-
-pub enum_known-p : goal.enum_known-p
-enum_known-p c = search rules
-
-pub store_point-requires : goal.store_point-requires
-store_point-requires c = tt
-
-pub enum_known-k : goal.enum_known-k
-enum_known-k c = search rules
+found c = (goal.at.After-store_point-arg-in-At-2-1 c).In-At-2
 
 pub returns-in-At : goal.returns-in-At
 returns-in-At c =
-    let at = found c.before in
-    let e = sym (ap sampled at.p-1.given.1) ∙ at.before.before.sample.ensures in
+    let at = found (goal.at.returns-in-At c).After-store_point-arg-in-At-2-1 in
+    let e = sym (ap sampled at.p-1.given.1) ∙ at.sample.ensures in
     record {
       code_is = ap code e;
-      point-is = c.store_point.ensures ∙ ap (λ (t : Answer Point). placed t (lent at.before.before.before)) e;
+      point-is = c.store_point.ensures ∙ ap (λ (t : Answer Point). placed t (lent (goal.at.In-At-2 at).Start)) e;
     }
 
 pub returns-in-Refused : goal.returns-in-Refused
 returns-in-Refused c =
-    let at = c.before in
-    let e = sym (ap sampled at.k-1.given.1) ∙ at.before.before.sample.ensures in
-    record { code_is = ap code e; point-is = ap (λ (t : Answer Point). placed t (lent at.before.before.before)) e }
+    let at = c in
+    let e = sym (ap sampled at.k-1.given.1) ∙ at.sample.ensures in
+    record { code_is = ap code e; point-is = ap (λ (t : Answer Point). placed t (lent (goal.at.returns-in-Refused at).Start)) e }

@@ -7,16 +7,7 @@ use Rattle.capi.proofs.samples.rusketja_sample_line.Goals as goal
 
 -- ---- the way back: from the number to the line call
 abbrev called : After-outcome_code → After-sample_line-answer
-called c = c.before.before
-
-pub sample_line-answer-requires : goal.sample_line-answer-requires
-sample_line-answer-requires c = tt
-
-pub outcome_code-requires : goal.outcome_code-requires
-outcome_code-requires c = tt
-
-pub shape_of-line : goal.shape_of-line
-shape_of-line c = search rules
+called c = (goal.at.After-outcome_code c).After-sample_line-answer
 
 pub returns : goal.returns
 returns c =

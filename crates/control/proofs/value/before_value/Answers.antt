@@ -9,11 +9,11 @@ use Rattle.control.proofs.value.before_value.Goals as goal
 
 pub returns-then-d-eq-NO_TWIN : goal.returns-then-d-eq-NO_TWIN
 returns-then-d-eq-NO_TWIN c =
-    let far = c.before in
-    let near = far.before in
-    let t = near.before in
-    let h = t.before in
-    let s = h.before in
+    let far = c in
+    let near = far in
+    let t = near in
+    let h = t in
+    let s = h in
     let at = value_at s.args.values.now s.args.k in
     let p = read_back w32 near.value.type_inv near.value.ensures in
     let q = read_back w32 far.value-then-d-eq-NO_TWIN.type_inv (far.value-then-d-eq-NO_TWIN.ensures ∙ ap at h.prev_corner-h.ensures) in
@@ -21,9 +21,9 @@ returns-then-d-eq-NO_TWIN c =
 
 pub returns : goal.returns
 returns c =
-    let w = c.before in
-    let e = w.before in
-    let h = e.before in
-    let s = h.before in
+    let w = c in
+    let e = w in
+    let h = e in
+    let s = h in
     let of = edge_at s.args.values.now s.args.w s.args.k in
     c.edge_value.ensures ∙ ap value_of (ap₂ of w.wide.ensures h.prev_corner-h.ensures ∙ sym (linked-smooth s.args.d _ _ e.if-d-eq-NO_TWIN.false))

@@ -11,13 +11,10 @@ use Rattle.control.proofs.ControlLaws.{abs-narrow, corner-small}
 use Rattle.control.proofs.value.corner_value.Goals.{After-corner_mask, Start}
 use Rattle.control.proofs.value.corner_value.Goals as goal
 
-pub corner_mask-requires : goal.corner_mask-requires
-corner_mask-requires c = tt
-
 -- the mask, of the three numbers read back from their bits
 module _ (c : After-corner_mask) where
   abbrev start : Start
-  start = c.before
+  start = (goal.at.After-corner_mask c).Start
 
   said : fraction_of c.corner_mask.result ≡ corner_mask start.args.rule start.args.p start.args.ring start.args.sharp
   said =
@@ -34,4 +31,4 @@ in_units-requires c =
     subst (λ (f : Fraction). nat_abs f.num ≤ 2 ^ 54) (sym (said c)) small
 
 pub returns : goal.returns
-returns c = c.in_units.ensures ∙ ap value_of (said c.before)
+returns c = c.in_units.ensures ∙ ap value_of (said (goal.at.returns c).After-corner_mask)

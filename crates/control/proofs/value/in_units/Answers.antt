@@ -23,17 +23,14 @@ module _ (s : Start) where
   product-fits = sfits-abs (pos 256 *ℤ num) (omega (arith, abs-* (pos 256) num, s.requires))
 
 pub overflow_mul-q : goal.overflow_mul-q
-overflow_mul-q c = let s = c.before.before in rw (product s) (product-fits s)
-
-pub round-rounded-requires : goal.round-rounded-requires
-round-rounded-requires c = tt
+overflow_mul-q c = let s = c in rw (product (goal.at.overflow_mul-q s).Start) (product-fits (goal.at.overflow_mul-q s).Start)
 
 pub returns : goal.returns
 returns c =
-    let called = c.before in
-    let s = called.before.before.before in
+    let called = c in
+    let s = called in
     let d = s.args.q.den in
-    let passed = ap (λ (z : ℤ). to_z w64 (of_z w64 z)) (product s) ∙ to_z-of_z (product-fits s) in
+    let passed = ap (λ (z : ℤ). to_z w64 (of_z w64 z)) (product (goal.at.returns s).Start) ∙ to_z-of_z (product-fits (goal.at.returns s).Start) in
     same-value
     (read_back w64 c.struct_told-2-1.given.0.1 (called.round-rounded.ensures.0 ∙ ap (λ (z : ℤ). nearest z d) passed))
     (called.round-rounded.ensures.2 ∙ ap (λ (z : ℤ). whole z d) passed)

@@ -9,26 +9,20 @@ use Rattle.control.specs.Control.{inner_at, value_of}
 use Rattle.control.proofs.ControlLaws.{narrow, inner-small}
 use Rattle.control.proofs.value.inner_value.Goals as goal
 
-pub face_values-requires : goal.face_values-requires
-face_values-requires c = tt
-
-pub inner_mask-requires : goal.inner_mask-requires
-inner_mask-requires c = tt
-
 pub in_units-requires : goal.in_units-requires
 in_units-requires c =
-    let v = c.before in
+    let v = c in
     let a = v.face_values.result in
     let ok = v.face_values.type_inv in
     let faces = narrow a (omega (arith, ok)) (omega (arith, ok)) (omega (arith, ok)) (omega (arith, ok)) in
-    let small = inner-small v.before.args.w a (omega (arith, v.before.ranges.w)) faces in
+    let small = inner-small v.args.w a (omega (arith, v.ranges.w)) faces in
     subst (λ (q : Fraction). nat_abs q.num ≤ 2 ^ 54) (sym c.inner_mask.ensures) small
 
 pub returns : goal.returns
 unfolding inner_at
 returns c =
-    let m = c.before in
-    let v = m.before in
-    let w = v.before.args.w in
+    let m = c in
+    let v = m in
+    let w = v.args.w in
     let of : FaceValues → Fraction = λ a. inner_mask w a.here a.next a.prev a.across in
     c.in_units.ensures ∙ ap value_of (m.inner_mask.ensures ∙ ap of v.face_values.ensures)

@@ -10,13 +10,10 @@ use Rattle.control.proofs.ControlLaws.{abs-narrow, sharp-small}
 use Rattle.control.proofs.value.sharp_value.Goals.{After-boundary_edge_mask, Start}
 use Rattle.control.proofs.value.sharp_value.Goals as goal
 
-pub boundary_edge_mask-requires : goal.boundary_edge_mask-requires
-boundary_edge_mask-requires c = tt
-
 -- the mask, of the two numbers read back from their bits
 module _ (c : After-boundary_edge_mask) where
   abbrev start : Start
-  start = c.before
+  start = (goal.at.After-boundary_edge_mask c).Start
 
   said : fraction_of c.boundary_edge_mask.result ≡ boundary_edge_mask start.args.p start.args.q
   said = c.boundary_edge_mask.ensures ∙ ap₂ boundary_edge_mask (to_z-of_z start.ranges.p) (to_z-of_z start.ranges.q)
@@ -30,4 +27,4 @@ in_units-requires c =
     subst (λ (f : Fraction). nat_abs f.num ≤ 2 ^ 54) (sym (said c)) small
 
 pub returns : goal.returns
-returns c = c.in_units.ensures ∙ ap value_of (said c.before)
+returns c = c.in_units.ensures ∙ ap value_of (said (goal.at.returns c).After-boundary_edge_mask)

@@ -19,7 +19,7 @@ use Rattle.cosine.proofs.generator.chained.Goals as goal
 -- ---- the loop's head: a is the number that its place says
 module _ (c : At-loop-i) where
   abbrev start : Start
-  start = c.before.before
+  start = (goal.at.At-loop-i c).Start
 
   abbrev m : ℕ
   m = start.args.m
@@ -30,21 +30,17 @@ module _ (c : At-loop-i) where
 -- ---- in the loop: so is b, and c is c(m)
 module _ (c : In-loop-i) where
   abbrev head : At-loop-i
-  head = c.before
+  head = (goal.at.In-loop-i c).At-loop-i
 
   b-is : to_z w64 head.loop-i.b ≡ chain (cosine (m head)) (head.loop-i.i + 1)
   b-is = ap (to_z w64) head.loop-i.invariant.2 ∙ to_z-of_z (chain_fits (m head) (head.loop-i.i + 1) (omega arith) (omega arith))
 
-  c-is : to_z w64 (of_z w64 head.before.wide_cosine-c.result) ≡ cosine (m head)
-  c-is = read_back w64 head.before.wide_cosine-c.ok head.before.wide_cosine-c.ensures
-
--- ---- the answers, in the order of the code
-pub wide_cosine-c-requires : goal.wide_cosine-c-requires
-wide_cosine-c-requires c = tt
+  c-is : to_z w64 (of_z w64 head.wide_cosine-c.result) ≡ cosine (m head)
+  c-is = read_back w64 head.wide_cosine-c.ok head.wide_cosine-c.ensures
 
 pub loop-i-init : goal.loop-i-init
 loop-i-init c =
-    let z = cosine c.before.args.m in
+    let z = cosine c.args.m in
     (omega arith, ap (of_z w64) (sym (chain-zero z)), ap (of_z w64) (c.wide_cosine-c.ensures ∙ sym (chain-one z)))
 
 pub following-t-requires : goal.following-t-requires
@@ -55,22 +51,16 @@ following-t-requires c =
       rw (a-is h) (chain-size (m h) h.loop-i.i (omega arith) (omega arith)),
     )
 
-pub overflow_step-i : goal.overflow_step-i
-overflow_step-i c = omega arith
-
-pub loop-i-smaller : goal.loop-i-smaller
-loop-i-smaller c = omega arith
-
 pub loop-i-preserved : goal.loop-i-preserved
 loop-i-preserved c =
-    let i = c.before in
-    let h = head i in (
+    let i = c in
+    let h = head (goal.at.loop-i-preserved i).In-loop-i in (
       omega arith,
       h.loop-i.invariant.2,
       ap (of_z w64) (c.following-t.ensures
-          ∙ ap₂ (λ (x y : ℤ). nearest x scale -ℤ y) (ap₂ (λ (x y : ℤ). pos 2 *ℤ x *ℤ y) (c-is i) (b-is i)) (a-is h)
+          ∙ ap₂ (λ (x y : ℤ). nearest x scale -ℤ y) (ap₂ (λ (x y : ℤ). pos 2 *ℤ x *ℤ y) (c-is (goal.at.loop-i-preserved i).In-loop-i) (b-is (goal.at.loop-i-preserved i).In-loop-i)) (a-is h)
           ∙ sym (chain_next (cosine (m h)) h.loop-i.i)),
     )
 
 pub returns : goal.returns
-returns c = a-is c.before ∙ ap (chain (cosine (m c.before))) (le_antisymm c.before.loop-i.invariant.0 c.loop-i-test.false)
+returns c = a-is (goal.at.returns c).At-loop-i ∙ ap (chain (cosine (m (goal.at.returns c).At-loop-i))) (le_antisymm c.loop-i.invariant.0 c.loop-i-test.false)

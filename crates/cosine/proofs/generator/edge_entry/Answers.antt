@@ -16,34 +16,30 @@ use Rattle.cosine.proofs.generator.edge_entry.Goals as goal
 -- ---- there is such a weight
 module _ (c : Then-weighed) where
   abbrev n : ℕ
-  n = c.before.before.args.n
+  n = c.args.n
 
   abbrev i : ℕ
-  i = c.before.before.args.i
+  i = c.args.i
 
   range : Weighed n i
-  range = weighed-by n i c.before.weighed.ensures c.if-weighed.true
+  range = weighed-by n i c.weighed.ensures c.if-weighed.true
 
 -- ---- both factors are known
 module _ (c : After-multiple_cosine) where
   abbrev there : Then-weighed
-  there = c.before.before
+  there = (goal.at.After-multiple_cosine c).Then-weighed
 
-  factor-is : to_z w64 (of_z w64 c.before.edge_factor.result) ≡ pos (hypotenuse (n there)) +ℤ half_cosine (n there)
-  factor-is = read_back w64 c.before.edge_factor.type_inv c.before.edge_factor.ensures
+  factor-is : to_z w64 (of_z w64 c.edge_factor.result) ≡ pos (hypotenuse (n there)) +ℤ half_cosine (n there)
+  factor-is = read_back w64 c.edge_factor.type_inv c.edge_factor.ensures
 
   value-is : to_z w64 (of_z w64 c.multiple_cosine.result) ≡ multiple_cosine (n there) (i there)
   value-is = read_back w64 c.multiple_cosine.type_inv c.multiple_cosine.ensures
-
--- ---- the answers, in the order of the code
-pub weighed-requires : goal.weighed-requires
-weighed-requires c = tt
 
 pub edge_factor-requires : goal.edge_factor-requires
 edge_factor-requires c = (range c).most
 
 pub multiple_cosine-requires : goal.multiple_cosine-requires
-multiple_cosine-requires c = let w = range c.before in (omega (arith, w.most), omega (arith, w.place))
+multiple_cosine-requires c = let w = range (goal.at.multiple_cosine-requires c).Then-weighed in (omega (arith, w.most), omega (arith, w.place))
 
 pub over_divisor-requires : goal.over_divisor-requires
 over_divisor-requires c =
@@ -58,12 +54,12 @@ over_divisor-requires c =
 
 pub returns-then-weighed : goal.returns-then-weighed
 returns-then-weighed c =
-    let m = c.before in
-    let t = there m in
+    let m = c in
+    let t = there (goal.at.returns-then-weighed m).After-multiple_cosine in
     read_back w32 c.over_divisor.type_inv
     (c.over_divisor.ensures
-    ∙ ap₂ (λ (x y : ℤ). nearest (x *ℤ y) (divisor (n t))) (factor-is m) (value-is m)
-    ∙ sym (weight_is edge_numerator (n t) (i t) (sym t.before.weighed.ensures ∙ t.if-weighed.taken)))
+    ∙ ap₂ (λ (x y : ℤ). nearest (x *ℤ y) (divisor (n t))) (factor-is (goal.at.returns-then-weighed m).After-multiple_cosine) (value-is (goal.at.returns-then-weighed m).After-multiple_cosine)
+    ∙ sym (weight_is edge_numerator (n t) (i t) (sym t.weighed.ensures ∙ t.if-weighed.true)))
 
 pub returns-else-weighed : goal.returns-else-weighed
-returns-else-weighed c = weight-off edge_numerator _ _ (sym c.before.weighed.ensures ∙ c.if-weighed.false)
+returns-else-weighed c = weight-off edge_numerator _ _ (sym c.weighed.ensures ∙ c.if-weighed.false)

@@ -15,21 +15,21 @@ use Rattle.cosine.proofs.generator.edge_factor.Goals as goal
 -- ---- R as a signed number
 root-fits : (c : After-hypotenuse) → SFits w64 (pos c.hypotenuse.result)
 root-fits c =
-    sfits-abs (pos c.hypotenuse.result) (omega (arith, c.hypotenuse.ensures, (hypotenuse-size c.before.args.n c.before.requires).1))
+    sfits-abs (pos c.hypotenuse.result) (omega (arith, c.hypotenuse.ensures, (hypotenuse-size c.args.n c.requires).1))
 
-root_is : (c : After-hypotenuse) → to_z w64 c.hypotenuse.result ≡ pos (hypotenuse c.before.args.n)
+root_is : (c : After-hypotenuse) → to_z w64 c.hypotenuse.result ≡ pos (hypotenuse c.args.n)
 root_is c = to_z-of_z {w = w64} {z = pos c.hypotenuse.result} (root-fits c) ∙ ap pos c.hypotenuse.ensures
 
 -- ---- and H
 module _ (c : After-wide_cosine) where
   abbrev n : ℕ
-  n = c.before.before.args.n
+  n = c.args.n
 
   half_is : to_z w64 (of_z w64 c.wide_cosine.result) ≡ half_cosine n
   half_is = read_back w64 c.wide_cosine.type_inv c.wide_cosine.ensures
 
   sum_fits : SFits w64 (pos (hypotenuse n) +ℤ half_cosine n)
-  sum_fits = sfits-abs (pos (hypotenuse n) +ℤ half_cosine n) (omega (arith, sum-size n c.before.before.requires))
+  sum_fits = sfits-abs (pos (hypotenuse n) +ℤ half_cosine n) (omega (arith, sum-size n c.requires))
 
 -- ---- the answers, in the order of the code
 pub hypotenuse-requires : goal.hypotenuse-requires
@@ -38,14 +38,8 @@ hypotenuse-requires c = c.requires
 pub overflow_cast-result : goal.overflow_cast-result
 overflow_cast-result c = root-fits c
 
-pub overflow_mul-n : goal.overflow_mul-n
-overflow_mul-n c = omega arith
-
-pub wide_cosine-requires : goal.wide_cosine-requires
-wide_cosine-requires c = tt
-
 pub overflow_add-result : goal.overflow_add-result
-overflow_add-result c = rw (root_is c.before, half_is c) (sum_fits c)
+overflow_add-result c = rw (root_is (goal.at.overflow_add-result c).After-hypotenuse, half_is c) (sum_fits c)
 
 pub returns : goal.returns
-returns c = ap (λ (z : ℤ). to_z w64 (of_z w64 z)) (ap₂ ◌+ℤ◌ (root_is c.before) (half_is c)) ∙ to_z-of_z (sum_fits c)
+returns c = ap (λ (z : ℤ). to_z w64 (of_z w64 z)) (ap₂ ◌+ℤ◌ (root_is (goal.at.returns c).After-hypotenuse) (half_is c)) ∙ to_z-of_z (sum_fits c)

@@ -17,18 +17,18 @@ use Rattle.cosine.proofs.generator.face_entry.Goals as goal
 -- ---- there is such a weight
 module _ (c : Then-weighed) where
   abbrev n : ℕ
-  n = c.before.before.args.n
+  n = c.args.n
 
   abbrev i : ℕ
-  i = c.before.before.args.i
+  i = c.args.i
 
   range : Weighed n i
-  range = weighed-by n i c.before.weighed.ensures c.if-weighed.true
+  range = weighed-by n i c.weighed.ensures c.if-weighed.true
 
 -- ---- the cosine is known
 value-is : (c : After-multiple_cosine)
-    → to_z w64 (of_z w64 c.multiple_cosine.result) ≡ multiple_cosine (2 * n c.before) (half_angles (i c.before))
-value-is c = read_back w64 c.multiple_cosine.type_inv c.multiple_cosine.ensures
+    → to_z w64 (of_z w64 c.multiple-cosine.result) ≡ multiple_cosine (2 * n c.before) (half_angles (i c.before))
+value-is c = read_back w64 c.multiple-cosine.type-inv c.multiple-cosine.ensures
 
 pub overflow_mul-n : goal.overflow_mul-n
 overflow_mul-n c = omega (arith, (range c).most)
@@ -44,22 +44,22 @@ multiple_cosine-requires c = (omega (arith, (range c).most), omega (arith, (rang
 
 pub over_divisor-requires : goal.over_divisor-requires
 over_divisor-requires c =
-    let t = c.before in
-    let w = range t in
+    let t = c in
+    let w = range (goal.at.over_divisor-requires t).Then-weighed in
     record {
       factor-small = omega arith;
-      value-small = rw (value-is c) (multiple-size (2 * n t) (half_angles (i t)) (omega (arith, w.most)) (omega (arith, w.place)));
+      value-small = rw (value-is c) (multiple-size (2 * n (goal.at.over_divisor-requires t).Then-weighed) (half_angles (i (goal.at.over_divisor-requires t).Then-weighed)) (omega (arith, w.most)) (omega (arith, w.place)));
       least = w.least;
       most = w.most;
     }
 
 pub returns-then-weighed : goal.returns-then-weighed
 returns-then-weighed c =
-    let t = c.before.before in
+    let t = c in
     read_back w32 c.over_divisor.type_inv
     (c.over_divisor.ensures
-    ∙ ap (λ (z : ℤ). nearest (pos scale *ℤ z) (divisor (n t))) (value-is c.before)
-    ∙ sym (weight_is face_numerator (n t) (i t) (sym t.before.weighed.ensures ∙ t.if-weighed.true)))
+    ∙ ap (λ (z : ℤ). nearest (pos scale *ℤ z) (divisor (n (goal.at.returns-then-weighed t).Then-weighed))) (value-is c.before)
+    ∙ sym (weight_is face_numerator (n (goal.at.returns-then-weighed t).Then-weighed) (i (goal.at.returns-then-weighed t).Then-weighed) (sym t.weighed.ensures ∙ t.if-weighed.true)))
 
 pub returns-else-weighed : goal.returns-else-weighed
-returns-else-weighed c = weight-off face_numerator _ _ (sym c.before.weighed.ensures ∙ c.if-weighed.false)
+returns-else-weighed c = weight-off face_numerator _ _ (sym c.weighed.ensures ∙ c.if-weighed.false)

@@ -36,10 +36,10 @@ module _ (c : Start) where
 -- ---- what `round` gave, and the difference
 module _ (c : After-struct_told-1) where
   abbrev divided : After-round
-  divided = c.before.before
+  divided = (goal.at.After-struct_told-1 c).After-round
 
   abbrev start : Start
-  start = divided.before
+  start = (goal.at.After-round divided).Start
 
   abbrev quotient : ℤ
   quotient = nearest (product start) scale
@@ -62,12 +62,6 @@ overflow_mul-c c = simp (to_z-of_z c.ranges.c) (double-fits c)
 
 pub overflow_mul-c-2 : goal.overflow_mul-c-2
 overflow_mul-c-2 c = simp (to_z-of_z c.ranges.c, to_z-of_z (double-fits c), to_z-of_z c.ranges.last) (product-fits c)
-
-pub overflow_cast-round : goal.overflow_cast-round
-overflow_cast-round c = omega arith
-
-pub round-requires : goal.round-requires
-round-requires c = tt
 
 pub overflow_sub-result : goal.overflow_sub-result
 overflow_sub-result c = rw (rounded c, to_z-of_z (start c).ranges.before) (rest-fits c)

@@ -14,10 +14,10 @@ use Rattle.cosine.proofs.generator.hypotenuse.Goals as goal
 -- ---- H is known
 module _ (c : After-magnitude-h) where
   abbrev start : Start
-  start = c.before.before
+  start = (goal.at.After-magnitude-h c).Start
 
   half_is : c.magnitude-h.result ≡ nat_abs (half_cosine start.args.n)
-  half_is = c.magnitude-h.ensures ∙ ap nat_abs (read_back w64 c.before.wide_cosine.type_inv c.before.wide_cosine.ensures)
+  half_is = c.magnitude-h.ensures ∙ ap nat_abs (read_back w64 c.wide_cosine.type_inv c.wide_cosine.ensures)
 
   half-small : c.magnitude-h.result ≤ 2 ^ 20
   half-small = omega (arith, half_is, half-size start.args.n start.requires)
@@ -33,5 +33,5 @@ root-requires c = radicand-size c.magnitude-h.result (half-small c)
 
 pub returns : goal.returns
 returns c =
-    let m = c.before in
-    hypotenuse-is (start m).args.n m.magnitude-h.result c.root.result (start m).requires (half_is m) c.root.ensures
+    let m = c in
+    hypotenuse-is (start (goal.at.returns m).After-magnitude-h).args.n m.magnitude-h.result c.root.result (start (goal.at.returns m).After-magnitude-h).requires (half_is (goal.at.returns m).After-magnitude-h) c.root.ensures

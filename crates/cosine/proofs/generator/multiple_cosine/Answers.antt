@@ -6,20 +6,14 @@ use Rattle.integer.proofs.Laws.{read_back}
 use Rattle.cosine.proofs.ChainLaws.{multiple-near, multiple-far}
 use Rattle.cosine.proofs.generator.multiple_cosine.Goals as goal
 
-pub overflow_sub-m : goal.overflow_sub-m
-overflow_sub-m c = omega arith
-
 pub chained-requires : goal.chained-requires
 chained-requires c = (omega arith, omega arith)
-
-pub overflow_sub-m-else-i-m : goal.overflow_sub-m-else-i-m
-overflow_sub-m-else-i-m c = omega arith
 
 pub chained-requires-else-i-m : goal.chained-requires-else-i-m
 chained-requires-else-i-m c = (omega arith, omega arith)
 
 pub returns-then-i-m : goal.returns-then-i-m
-returns-then-i-m c = read_back w64 c.chained.type_inv (c.chained.ensures ∙ multiple-near _ _ c.before.if-i-m.true)
+returns-then-i-m c = read_back w64 c.chained.type_inv (c.chained.ensures ∙ multiple-near _ _ c.if-i-m.true)
 
 pub returns-else-i-m : goal.returns-else-i-m
-returns-else-i-m c = read_back w64 c.chained-else-i-m.type_inv (c.chained-else-i-m.ensures ∙ multiple-far _ _ c.before.if-i-m.false)
+returns-else-i-m c = read_back w64 c.chained-else-i-m.type_inv (c.chained-else-i-m.ensures ∙ multiple-far _ _ c.if-i-m.false)

@@ -31,21 +31,21 @@ module _ (c : Start) where
 -- ---- R is known
 module _ (c : After-hypotenuse) where
   abbrev n : ℕ
-  n = c.before.args.n
+  n = c.args.n
 
   divisor-is : n * c.hypotenuse.result ≡ divisor n
   divisor-is = ap (λ (r : ℕ). n * r) c.hypotenuse.ensures
 
   divisor-small : n * c.hypotenuse.result ≤ 2 ^ 26
-  divisor-small = omega (arith, divisor-is, (divisor-size n c.before.requires.least c.before.requires.most).1)
+  divisor-small = omega (arith, divisor-is, (divisor-size n c.requires.least c.requires.most).1)
 
 -- ---- the quotient
 module _ (c : After-struct_told-1) where
   abbrev divided : After-round
-  divided = c.before.before
+  divided = (goal.at.After-struct_told-1 c).After-round
 
   abbrev start : Start
-  start = divided.before.before
+  start = (goal.at.After-round divided).Start
 
   abbrev quotient : ℤ
   quotient = nearest (product start) (divisor start.args.n)
@@ -54,7 +54,7 @@ module _ (c : After-struct_told-1) where
   value =
       read_back w64 c.struct_told-1.given.0.1
       (divided.round.ensures.0
-      ∙ ap₂ nearest (ap (λ (z : ℤ). to_z w64 (of_z w64 z)) (product_is start) ∙ to_z-of_z (product-fits start)) (divisor-is divided.before))
+      ∙ ap₂ nearest (ap (λ (z : ℤ). to_z w64 (of_z w64 z)) (product_is start) ∙ to_z-of_z (product-fits start)) (divisor-is (goal.at.After-round divided).After-hypotenuse))
 
   small : SFits w32 quotient
   small =
@@ -70,13 +70,10 @@ pub overflow_mul-over : goal.overflow_mul-over
 overflow_mul-over c = omega (arith, divisor-small c)
 
 pub overflow_mul-factor : goal.overflow_mul-factor
-overflow_mul-factor c = rw (product_is c.before) (product-fits c.before)
+overflow_mul-factor c = rw (product_is (goal.at.overflow_mul-factor c).Start) (product-fits (goal.at.overflow_mul-factor c).Start)
 
 pub overflow_cast-over : goal.overflow_cast-over
 overflow_cast-over c = omega (arith, divisor-small c)
-
-pub round-requires : goal.round-requires
-round-requires c = tt
 
 pub overflow_cast-result : goal.overflow_cast-result
 overflow_cast-result c = rw (value c) (small c)

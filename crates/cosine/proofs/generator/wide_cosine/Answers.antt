@@ -10,12 +10,9 @@ use Rattle.cosine.proofs.UniqueLaws.{entry-is}
 use Rattle.cosine.proofs.generator.wide_cosine.Goals.{After-cosine}
 use Rattle.cosine.proofs.generator.wide_cosine.Goals as goal
 
-pub cosine-requires : goal.cosine-requires
-cosine-requires c = tt
-
 -- the number of 32 bits
-narrow : (c : After-cosine) → to_z w32 (of_z w32 c.cosine.result) ≡ cosine c.before.args.m
-narrow c = read_back w32 c.cosine.type_inv (entry-is c.before.args.m c.cosine.result c.cosine.ensures)
+narrow : (c : After-cosine) → to_z w32 (of_z w32 c.cosine.result) ≡ cosine c.args.m
+narrow c = read_back w32 c.cosine.type_inv (entry-is c.args.m c.cosine.result c.cosine.ensures)
 
 pub overflow_cast-result : goal.overflow_cast-result
 overflow_cast-result c = rw (to_z-of_z {w = w32} (record { sfits = c.cosine.type_inv })) (record { sfits = omega (arith, c.cosine.type_inv) })

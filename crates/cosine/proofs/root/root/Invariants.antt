@@ -6,6 +6,13 @@ use Rattle.cosine.specs.Root.{RootFrom}
 use Rattle.cosine.proofs.RootLaws.{digit_value, last-digit}
 use Rattle.cosine.proofs.root.root.Given as goal
 
+-- the k leading digits of the root are found: r has them, and b is the value of the last one
+pub record Found (x r b k : ℕ) : Type 0 where
+  pub most : k ≤ 22
+  pub digit : b ≡ 2 ^ (22 - k)
+  pub small : r + b ≤ 2 ^ 22
+  pub bounds : RootFrom x r b
+
 abbrev pub invariant-loop-k : goal.invariant-loop-k
 invariant-loop-k l = Found l.x l.r l.b l.k
 

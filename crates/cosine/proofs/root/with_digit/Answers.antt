@@ -14,9 +14,3 @@ overflow_add-s c = omega (arith, below c)
 
 pub overflow_mul-s : goal.overflow_mul-s
 overflow_mul-s c = omega (arith, mul-le-mul (below c) (below c))
-
-pub returns-then-s-x : goal.returns-then-s-x
-returns-then-s-x c = search rules
-
-pub returns-else-s-x : goal.returns-else-s-x
-returns-else-s-x c = search rules

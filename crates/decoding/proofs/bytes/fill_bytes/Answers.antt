@@ -12,7 +12,7 @@ pub loop-i-init : goal.loop-i-init
 loop-i-init c = (omega arith, refl, filled-start _ _)
 
 pub loop-i-preserved : goal.loop-i-preserved
-loop-i-preserved c = (omega arith, search rules, filled_more _ _ _ _ _ (omega arith) c.before.before.loop-i.invariant.2 refl)
+loop-i-preserved c = (omega arith, search rules, filled_more _ _ _ _ _ (omega arith) c.loop-i.invariant.2 refl)
 
 pub returns : goal.returns
-returns c = filled-all _ _ _ _ _ c.before.loop-i.invariant.0 c.loop-i-test.false c.before.loop-i.invariant.2
+returns c = filled-all _ _ _ _ _ c.loop-i.invariant.0 c.loop-i-test.false c.loop-i.invariant.2

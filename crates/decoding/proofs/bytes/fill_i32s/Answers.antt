@@ -17,7 +17,7 @@ loop-i-init c = (omega arith, refl, filled-start _ _)
 pub loop-i-preserved : goal.loop-i-preserved
 loop-i-preserved c =
     let stored = read_back w32 c.i32_at.type_inv c.i32_at.ensures in
-    (omega arith, search rules, filled_more _ _ _ _ _ (omega arith) c.before.before.loop-i.invariant.2 stored)
+    (omega arith, search rules, filled_more _ _ _ _ _ (omega arith) c.loop-i.invariant.2 stored)
 
 pub returns : goal.returns
-returns c = filled-all _ _ _ _ _ c.before.loop-i.invariant.0 c.loop-i-test.false c.before.loop-i.invariant.2
+returns c = filled-all _ _ _ _ _ c.loop-i.invariant.0 c.loop-i-test.false c.loop-i.invariant.2

@@ -6,11 +6,5 @@ use Rattle.integer.proofs.Laws.{read_back}
 use Rattle.decoding.specs.Bytes.{signed32}
 use Rattle.decoding.proofs.bytes.i32_at.Goals as goal
 
-pub u32_at-requires : goal.u32_at-requires
-u32_at-requires c = search rules
-
-pub signed_of-requires : goal.signed_of-requires
-signed_of-requires c = tt
-
 pub returns : goal.returns
-returns c = read_back w32 c.Signed-of.type_inv (c.Signed-of.ensures ∙ ap signed32 c.before.u32_at.ensures)
+returns c = read_back w32 c.Signed-of.type-inv (c.Signed-of.ensures ∙ ap signed32 c.u32_at.ensures)

@@ -3,20 +3,11 @@ use borrow.Author.Rules.{rules}
 use Rattle.decoding.proofs.ByteLaws.{signed_low, high_fits, signed_high}
 use Rattle.decoding.proofs.bytes.signed_of.Goals as goal
 
-pub overflow_cast-result : goal.overflow_cast-result
-overflow_cast-result c = search rules
-
 pub returns-then-n-lt2147483648 : goal.returns-then-n-lt2147483648
-returns-then-n-lt2147483648 c = signed_low c.before.args.n c.if-n-lt2147483648.true
-
-pub overflow_sub-result : goal.overflow_sub-result
-overflow_sub-result c = search rules
-
-pub overflow_cast-result-2 : goal.overflow_cast-result-2
-overflow_cast-result-2 c = search rules
+returns-then-n-lt2147483648 c = signed_low c.args.n c.if-n-lt2147483648.true
 
 pub overflow_sub-result-2 : goal.overflow_sub-result-2
-overflow_sub-result-2 c = high_fits c.before.args.n c.before.ranges.n.ranges c.if-n-lt2147483648.false
+overflow_sub-result-2 c = high_fits c.args.n c.ranges.n.fits c.if-n-lt2147483648.false
 
 pub returns : goal.returns
-returns c = signed_high c.before.args.n c.before.ranges.n.ranges c.if-n-lt2147483648.false
+returns c = signed_high c.args.n c.ranges.n.fits c.if-n-lt2147483648.false

@@ -4,17 +4,11 @@ use borrow.Author.Tests.{lt-ltb, le-ltb}
 use Rattle.finite.proofs.AnyAll.{or_yes, or_no}
 use Rattle.decoding.proofs.header.places_short.Goals as goal
 
-pub overflow_mul-v : goal.overflow_mul-v
-overflow_mul-v c = search rules
-
 pub returns-then-positions-v : goal.returns-then-positions-v
 returns-then-positions-v c = search (or_yes, or_no, lt-ltb, le-ltb, rules)
 
 pub returns-then-tags-v : goal.returns-then-tags-v
 returns-then-tags-v c = search (or_yes, or_no, lt-ltb, le-ltb, rules)
-
-pub overflow_mul-result : goal.overflow_mul-result
-overflow_mul-result c = search rules
 
 pub returns : goal.returns
 returns c = search (or_yes, or_no, lt-ltb, le-ltb, rules)

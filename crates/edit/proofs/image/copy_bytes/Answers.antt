@@ -10,23 +10,8 @@ use Rattle.edit.proofs.image.copy_bytes.Goals as goal
 pub loop-i-init : goal.loop-i-init
 loop-i-init c = filling-start _ _ _
 
-pub bounds-bytes-i : goal.bounds-bytes-i
-bounds-bytes-i c = omega arith
-
-pub bounds-out-i : goal.bounds-out-i
-bounds-out-i c = omega arith
-
-pub overflow_step-i : goal.overflow_step-i
-overflow_step-i c = omega arith
-
-pub loop-i-smaller : goal.loop-i-smaller
-loop-i-smaller c = omega arith
-
 pub loop-i-preserved : goal.loop-i-preserved
-loop-i-preserved c = filling-more _ _ _ c.before.before.loop-i.invariant _ (omega arith) (omega arith) refl
-
-pub shape_of-out : goal.shape_of-out
-shape_of-out c = search rules
+loop-i-preserved c = filling-more _ _ _ c.loop-i.invariant _ (omega arith) (omega arith) refl
 
 pub returns : goal.returns
-returns c = filling-all _ _ _ c.before.loop-i.invariant c.loop-i-test.false
+returns c = filling-all _ _ _ c.loop-i.invariant c.loop-i-test.false

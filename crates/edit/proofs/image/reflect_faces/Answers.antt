@@ -17,9 +17,9 @@ loop-c-init c = filling-start _ _ _
 
 pub loop-c-preserved : goal.loop-c-preserved
 loop-c-preserved c =
-    let k = c.before.before.before in
-    let stored = ap (λ (d : ℕ). get_or k.before.before.before.args.faces.now d 0) c.before.reflected_corner.ensures in
+    let k = c in
+    let stored = ap (λ (d : ℕ). get_or k.args.faces.now d 0) c.reflected_corner.ensures in
     filling-more _ _ _ k.loop-c.invariant _ (omega arith) (omega arith) stored
 
 pub returns : goal.returns
-returns c = filling-all _ _ _ c.before.loop-c.invariant c.loop-c-test.false
+returns c = filling-all _ _ _ c.loop-c.invariant c.loop-c-test.false

@@ -17,10 +17,10 @@ use Rattle.edit.proofs.image.reflect_positions.Goals as goal
 -- ---- coordinate i is read
 module _ (c : After-reflected_coordinate-arg-1) where
   abbrev at-loop : At-loop-i
-  at-loop = c.before.before
+  at-loop = (goal.at.After-reflected_coordinate-arg-1 c).At-loop-i
 
   abbrev read : ℤ
-  read = get_or at-loop.before.args.positions.now at-loop.loop-i.i (pos 0)
+  read = get_or at-loop.args.positions.now at-loop.loop-i.i (pos 0)
 
   fits : SFits w32 read
   fits = record { sfits = c.reflected_coordinate-arg-1.given }
@@ -29,14 +29,14 @@ pub loop-i-init : goal.loop-i-init
 loop-i-init c = filling-start _ _ _
 
 pub reflected_coordinate-requires : goal.reflected_coordinate-requires
-reflected_coordinate-requires c = rw (to_z-of_z (fits c)) ((at-loop c).before.requires.1 (at-loop c).loop-i.i c.before.loop-i-test.true)
+reflected_coordinate-requires c = rw (to_z-of_z (fits c)) ((at-loop c).requires.1 (at-loop c).loop-i.i c.loop-i-test.true)
 
 pub loop-i-preserved : goal.loop-i-preserved
 loop-i-preserved c =
-    let r = c.before in
-    let k = at-loop r in
-    let stored = read_back w32 c.reflected_coordinate.type_inv (c.reflected_coordinate.ensures ∙ ap (reflected (k.loop-i.i % 3)) (to_z-of_z (fits r))) in
+    let r = c in
+    let k = at-loop (goal.at.loop-i-preserved r).After-reflected_coordinate-arg-1 in
+    let stored = read_back w32 c.reflected_coordinate.type_inv (c.reflected_coordinate.ensures ∙ ap (reflected (k.loop-i.i % 3)) (to_z-of_z (fits (goal.at.loop-i-preserved r).After-reflected_coordinate-arg-1))) in
     filling-more _ _ _ k.loop-i.invariant _ (omega arith) (omega arith) stored
 
 pub returns : goal.returns
-returns c = filling-all _ _ _ c.before.loop-i.invariant c.loop-i-test.false
+returns c = filling-all _ _ _ c.loop-i.invariant c.loop-i-test.false

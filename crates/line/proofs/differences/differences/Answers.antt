@@ -29,13 +29,13 @@ module _ (s : Start) where
 
 -- ---- the way back from each difference
 abbrev start : After-next-1 → Start
-start c = c.before.before
+start c = (goal.at.After-next-1 c).Start
 
 abbrev start-2 : After-later-1 → Start
-start-2 c = start c.before
+start-2 c = start (goal.at.After-later-1 c).After-next-1
 
 abbrev start-3 : After-result-1 → Start
-start-3 c = start-2 c.before
+start-3 c = start-2 (goal.at.After-result-1 c).After-later-1
 
 pub overflow_sub-first : goal.overflow_sub-first
 overflow_sub-first c = let s = start c in minus-fits (value s 1 (omega arith)) (value s 0 (omega arith)) (omega arith)

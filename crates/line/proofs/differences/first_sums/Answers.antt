@@ -26,7 +26,7 @@ module _ (s : Start) where
 -- ---- the differences of the curve are there, and are small
 module _ (c : After-differences-d) where
   abbrev start : Start
-  start = c.before
+  start = (goal.at.After-differences-d c).Start
 
   abbrev at : ℕ → ℤ
   at i = get_or start.args.curve i (pos 0)
@@ -52,19 +52,19 @@ module _ (c : After-differences-d) where
 -- ---- half of the second difference is there, but for the third
 module _ (c : After-add_product-half) where
   abbrev entries : After-differences-d
-  entries = c.before.before
+  entries = (goal.at.After-add_product-half c).After-differences-d
 
   half : ReadAs (read c.add_product-half.result) (pos 0 +ℤ pos (3 * (start entries).args.n) *ℤ forward₂ (at entries) 0) (96 * (4 * 2 ^ 45))
   half = sum-sized zero (curve-second entries) _ 96 (omega (arith, (start entries).requires.few)) c.add_product-half.type_inv c.add_product-half.ensures
 
 -- ---- the third difference of the curve is read
 abbrev read-third : After-struct_told-2-1 → After-add_product-half
-read-third c = c.before.before
+read-third c = (goal.at.After-struct_told-2-1 c).After-add_product-half
 
 -- ---- the first difference is there
 module _ (c : After-add_product-first) where
   abbrev past-half : After-add_product-half
-  past-half = read-third c.before.before
+  past-half = read-third (goal.at.After-add_product-first c).After-struct_told-2-1
 
   abbrev entries-2 : After-differences-d
   entries-2 = entries past-half
@@ -79,7 +79,7 @@ module _ (c : After-add_product-first) where
 -- ---- the sum is there
 module _ (c : After-add_product) where
   abbrev past_first : After-add_product-first
-  past_first = c.before.before
+  past_first = (goal.at.After-add_product c).After-add_product-first
 
   abbrev entries-3 : After-differences-d
   entries-3 = entries-2 past_first
@@ -101,12 +101,12 @@ module _ (c : After-add_product) where
 
 -- ---- the third difference of the curve is read again
 abbrev read-third-2 : After-struct_told-5-1 → After-add_product
-read-third-2 c = c.before.before
+read-third-2 c = (goal.at.After-struct_told-5-1 c).After-add_product
 
 -- ---- the second difference is there
 module _ (c : After-add_product-2) where
   abbrev past-sum : After-add_product
-  past-sum = read-third-2 c.before
+  past-sum = read-third-2 (goal.at.After-add_product-2 c).After-struct_told-5-1
 
   second : (let n = (start (entries-3 past-sum)).args.n in
       let h = at (entries-3 past-sum) in
@@ -120,7 +120,7 @@ pub overflow_mul-m : goal.overflow_mul-m
 overflow_mul-m c = omega (arith, (start c).requires.few)
 
 pub add_product-half-requires : goal.add_product-half-requires
-add_product-half-requires c = let d = c.before in sum_fits zero (curve-second d) _ 96 (omega (arith, (start d).requires.few)) (omega arith)
+add_product-half-requires c = let d = c in sum_fits zero (curve-second (goal.at.add_product-half-requires d).After-differences-d) _ 96 (omega (arith, (start (goal.at.add_product-half-requires d).After-differences-d).requires.few)) (omega arith)
 
 pub overflow_add-half : goal.overflow_add-half
 overflow_add-half c = let h = read-third c in plus-fits (half h) (curve-third (entries h)) (omega arith)
@@ -133,7 +133,7 @@ overflow_mul-m-3 c = omega (arith, square (start (entries (read-third c))))
 
 pub add_product-first-requires : goal.add_product-first-requires
 add_product-first-requires c =
-    let h = read-third c.before in
+    let h = read-third (goal.at.add_product-first-requires c).After-struct_told-2-1 in
     let d = entries h in
     sum_fits (plus-sized (half h) (curve-third d) (omega arith)) (curve-first d) _ 3072 (omega (arith, square (start d))) (omega arith)
 
@@ -144,7 +144,7 @@ pub overflow_mul-m-5 : goal.overflow_mul-m-5
 overflow_mul-m-5 c = omega (arith, cube (start (entries-2 c)))
 
 pub add_product-requires : goal.add_product-requires
-add_product-requires c = let d = entries-2 c.before in sum_fits zero (curve-value d) _ 32768 (omega (arith, cube (start d))) (omega arith)
+add_product-requires c = let d = entries-2 (goal.at.add_product-requires c).After-add_product-first in sum_fits zero (curve-value d) _ 32768 (omega (arith, cube (start d))) (omega arith)
 
 pub overflow_mul-d : goal.overflow_mul-d
 overflow_mul-d c = times-fits 3 (curve-third (entries-3 (read-third-2 c))) (omega arith)
@@ -156,11 +156,11 @@ pub add_product-requires-2 : goal.add_product-requires-2
 add_product-requires-2 c = sum_fits zero (whole-half (read-third-2 c)) 2 2 (omega arith) (omega arith)
 
 pub add_product-requires-3 : goal.add_product-requires-3
-add_product-requires-3 c = sum_fits zero (curve-third (entries-3 (past-sum c.before))) 6 6 (omega arith) (omega arith)
+add_product-requires-3 c = sum_fits zero (curve-third (entries-3 (past-sum (goal.at.add_product-requires-3 c).After-add_product-2))) 6 6 (omega arith) (omega arith)
 
 pub returns : goal.returns
 returns c =
-    let s : After-add_product-2 = c.before.before in
+    let s : After-add_product-2 = (goal.at.returns c).After-add_product-2 in
     let p = past-sum s in
     let d = entries-3 p in
     same-differences

@@ -26,13 +26,13 @@ module _ (s : Start) where
 
 -- ---- the way back from each sum
 abbrev start : After-struct_told-1 → Start
-start c = c.before.before
+start c = (goal.at.After-struct_told-1 c).Start
 
 abbrev start-2 : After-struct_told-2-1 → Start
-start-2 c = start c.before.before
+start-2 c = start (goal.at.After-struct_told-2-1 c).After-struct_told-1
 
 abbrev start-3 : After-struct_told-3-1 → Start
-start-3 c = start-2 c.before.before
+start-3 c = start-2 (goal.at.After-struct_told-3-1 c).After-struct_told-2-1
 
 -- ---- the answers, in the order of the code
 pub overflow_add-result : goal.overflow_add-result
@@ -46,7 +46,7 @@ overflow_add-result-3 c = let s = start-3 c in plus-fits (second s) (third s) (o
 
 pub returns : goal.returns
 returns c =
-    let s = start-3 c.before in
+    let s = start-3 (goal.at.returns c).After-struct_told-3-1 in
     same-differences
     (plus-sized (value s) (first s) (omega arith)).is
     (plus-sized (first s) (second s) (omega arith)).is

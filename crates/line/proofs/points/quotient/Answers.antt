@@ -12,9 +12,6 @@ use Rattle.sample.specs.Refusal.{max_control}
 use Rattle.line.proofs.points.quotient.Goals.{After-round-rounded, After-struct_told-1, Start}
 use Rattle.line.proofs.points.quotient.Goals as goal
 
-pub round-rounded-requires : goal.round-rounded-requires
-round-rounded-requires c = tt
-
 -- what is asked fits
 fits : (s : Start) → SFits w32 (nearest s.args.sum s.args.divisor)
 fits s = sfits-abs _ (omega (arith, nearest-bounded s.args.sum s.args.divisor max_control s.requires.least s.requires.within))
@@ -22,10 +19,10 @@ fits s = sfits-abs _ (omega (arith, nearest-bounded s.args.sum s.args.divisor ma
 -- and is what was rounded
 module _ (c : After-struct_told-1) where
   abbrev called : After-round-rounded
-  called = c.before.before
+  called = (goal.at.After-struct_told-1 c).After-round-rounded
 
   abbrev start : Start
-  start = called.before
+  start = (goal.at.After-round-rounded called).Start
 
   rounds : to_z w64 (of_z w64 called.round-rounded.result.value) ≡ nearest start.args.sum start.args.divisor
   rounds = read_back w64 c.struct_told-1.given.0.1 (rw (to_z-of_z start.ranges.sum) at called.round-rounded.ensures.0)

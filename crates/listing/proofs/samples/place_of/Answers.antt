@@ -9,18 +9,6 @@ use Rattle.listing.proofs.samples.place_of.Goals as goal
 pub overflow_add-m : goal.overflow_add-m
 overflow_add-m c = omega (arith, c.requires)
 
-pub nonzero_div-row : goal.nonzero_div-row
-nonzero_div-row c = search rules
-
-pub nonzero_div-result : goal.nonzero_div-result
-nonzero_div-result c = search rules
-
-pub nonzero_rem-result : goal.nonzero_rem-result
-nonzero_rem-result c = search rules
-
-pub nonzero_rem-result-2 : goal.nonzero_rem-result-2
-nonzero_rem-result-2 c = search rules
-
 pub returns : goal.returns
 returns c =
     let i = c.args.i in

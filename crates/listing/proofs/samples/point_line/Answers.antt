@@ -16,8 +16,8 @@ as_read l = to_z-of_z (record { sfits = l })
 
 pub returns : goal.returns
 returns c =
-    let w : After-sample_line = c.before.before in
-    let z : After-z-1 = w.before.before in
-    let y : After-y-1 = z.before in
-    let x : After-x-1 = y.before in
+    let w : After-sample_line = (goal.at.returns c).After-sample_line in
+    let z : After-z-1 = (goal.at.After-sample_line w).After-z-1 in
+    let y : After-y-1 = (goal.at.After-z-1 z).After-y-1 in
+    let x : After-x-1 = (goal.at.After-y-1 y).After-x-1 in
     rw (as_read x.x-1.given, as_read y.y-1.given, as_read z.z-1.given) at w.sample_line.ensures

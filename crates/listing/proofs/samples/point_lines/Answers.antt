@@ -24,18 +24,18 @@ use Rattle.listing.proofs.samples.point_lines.Goals as goal
 -- ---- at the loop: what is stored ends within the buffer
 module _ (c : At-loop-a) where
   abbrev start : Start
-  start = c.before.before
+  start = (goal.at.At-loop-a c).Start
 
-  ends : c.loop-a.at ≤ length c.loop-a.out-1
+  ends : c.loop-a.at ≤ length c.loop-a.out
   ends = running-ends c.loop-a.invariant
 
 -- ---- in the loop: a is a place of the row, and its line has room
 module _ (c : Then-out-at-ge-LINE_PLACES) where
   abbrev at-loop : At-loop-a
-  at-loop = c.before.before
+  at-loop = (goal.at.Then-out-at-ge-LINE_PLACES c).At-loop-a
 
   on_row : at-loop.loop-a.a ≤ (start at-loop).args.n
-  on_row = c.before.loop-a-test.true
+  on_row = c.loop-a-test.true
 
   few : at-loop.loop-a.a ≤ max_steps
   few = omega (arith, on_row, (start at-loop).requires.0.steps-few)
@@ -43,7 +43,7 @@ module _ (c : Then-out-at-ge-LINE_PLACES) where
   held : 3 * (at-loop.loop-a.a + 1) ≤ length (start at-loop).args.points.now
   held = omega (arith, on_row, (start at-loop).requires.1)
 
-  room : line_places ≤ length at-loop.loop-a.out-1 - at-loop.loop-a.at
+  room : line_places ≤ length at-loop.loop-a.out - at-loop.loop-a.at
   room = leb-true line_places _ c.if-out-at-ge-LINE_PLACES.true
 
 -- ---- the line is stored
@@ -56,42 +56,42 @@ printed-at points p a {l} {m} {r} on q =
 -- and it ends within the part that was lent
 module _ (c : After-point_line-at) where
   abbrev in-loop : Then-out-at-ge-LINE_PLACES
-  in-loop = c.before.before
+  in-loop = (goal.at.After-point_line-at c).Then-out-at-ge-LINE_PLACES
 
   abbrev here : At-loop-a
   here = at-loop in-loop
 
-  stored-end : here.loop-a.at + c.point_line-at.result ≤ length here.loop-a.out-1
+  stored-end : here.loop-a.at + c.point_line-at.result ≤ length here.loop-a.out
   stored-end =
       omega (arith, ends here, simp (length-take, length-drop) at (printed-within c.point_line-at.auto.out c.point_line-at.ensures))
 
 -- ---- the answers, in the order of the code
 pub loop-a-init : goal.loop-a-init
-loop-a-init c = let s = c.before in running-start _ _ _ _ (omega (arith, s.requires.0.a-within))
+loop-a-init c = let s = c in running-start _ _ _ _ (omega (arith, s.requires.0.a-within))
 
 pub overflow_sub-out : goal.overflow_sub-out
-overflow_sub-out c = ends c.before
+overflow_sub-out c = ends (goal.at.overflow_sub-out c).At-loop-a
 
 pub slice_bounds-point_line-count : goal.slice_bounds-point_line-count
 slice_bounds-point_line-count c = ends (at-loop c)
 
 pub point_line-at-requires : goal.point_line-at-requires
-point_line-at-requires c = let i : Then-out-at-ge-LINE_PLACES = c.before in (few i, held i)
+point_line-at-requires c = let i : Then-out-at-ge-LINE_PLACES = (goal.at.point_line-at-requires c).Then-out-at-ge-LINE_PLACES in (few i, held i)
 
 pub overflow_add-at : goal.overflow_add-at
-overflow_add-at c = let w = c.before.before in omega (arith, stored-end w, stored-length (here w).loop-a.invariant.stored, (start (here w)).good)
+overflow_add-at c = let w = c in omega (arith, stored-end (goal.at.overflow_add-at w).After-point_line-at, stored-length (here (goal.at.overflow_add-at w).After-point_line-at).loop-a.invariant.stored, (start (here (goal.at.overflow_add-at w).After-point_line-at)).well_formed)
 
 pub overflow_add-a : goal.overflow_add-a
-overflow_add-a c = omega (arith, few (in-loop c.before.before))
+overflow_add-a c = omega (arith, few (in-loop (goal.at.overflow_add-a c).After-point_line-at))
 
 pub loop-a-smaller : goal.loop-a-smaller
-loop-a-smaller c = omega (arith, on_row (in-loop c.before.before))
+loop-a-smaller c = omega (arith, on_row (in-loop (goal.at.loop-a-smaller c).After-point_line-at))
 
 pub loop-a-preserved : goal.loop-a-preserved
 loop-a-preserved c =
-    let w = c.before.before in
-    let i = in-loop w in
-    let l = here w in
+    let w = c in
+    let i = in-loop (goal.at.loop-a-preserved w).After-point_line-at in
+    let l = here (goal.at.loop-a-preserved w).After-point_line-at in
     let s = start l in
     running_more l.loop-a.invariant _ _
     (run-one (λ j. line_text s.args.points.now s.args.p (l.loop-a.a - s.args.p.a + j)) 1 (omega arith)
@@ -101,16 +101,16 @@ loop-a-preserved c =
     (omega (arith, on_row i))
 
 pub overflow_sub-result : goal.overflow_sub-result
-overflow_sub-result c = c.before.before.loop-a.invariant.on
+overflow_sub-result c = c.loop-a.invariant.on
 
 pub shape_of-out : goal.shape_of-out
-shape_of-out c = stored-length c.before.before.loop-a.invariant.stored
+shape_of-out c = stored-length c.loop-a.invariant.stored
 
 pub returns : goal.returns
 returns c =
-    let l : At-loop-a = c.before.before in
+    let l : At-loop-a = (goal.at.returns c).At-loop-a in
     running-end l.loop-a.invariant (λ e.
     ⊎_elim
     (λ full. running-stuck l.loop-a.invariant e (start l).requires.2 (leb-false line_places _ full.1.left))
     (λ over. omega (arith, over.left, e, (start l).requires.0.a-within))
-    c.before.loop-a-test.branch)
+    c.loop-a-test.branch)

@@ -19,7 +19,7 @@ use Rattle.listing.proofs.samples.row_lines.Goals as goal
 -- ---- the line call is made
 module _ (c : After-sample_line) where
   abbrev start : Start
-  start = c.before.before.before
+  start = (goal.at.After-sample_line c).Start
 
   -- an answer at the place that is j after p, and its line
   abbrev answer : ℕ → Answer Point
@@ -30,10 +30,10 @@ module _ (c : After-sample_line) where
 
 -- ---- it is done
 abbrev done : After-point_lines → In-Done
-done c = c.before.before.before
+done c = (goal.at.After-point_lines c).In-Done
 
 abbrev sampled : In-Done → After-sample_line
-sampled c = c.before.before.before
+sampled c = (goal.at.In-Done c).After-sample_line
 
 -- ---- it is refused
 -- a line by an answer that is known
@@ -41,14 +41,14 @@ printed-as : (line : Answer Point → List ℕ) {a b : Answer Point} {l m : List
 printed-as line {l = l} {m = m} {r = r} e q = subst (λ (t : Answer Point). Printed (line t) l m r) e q
 
 abbrev refused : After-refusal_line → In-Refused-2
-refused c = c.before.before.before
+refused c = (goal.at.After-refusal_line c).In-Refused-2
 
 abbrev not-sampled : In-Refused-2 → After-sample_line
-not-sampled c = c.before.before.before
+not-sampled c = (goal.at.In-Refused-2 c).After-sample_line
 
 pub returns-in-Done : goal.returns-in-Done
 returns-in-Done c =
-    let w : After-point_lines = c.before.before in
+    let w : After-point_lines = (goal.at.returns-in-Done c).After-point_lines in
     let s : After-sample_line = sampled (done w) in
     let left = s.sample_line.ensures in
     let told = sym (ap outcome (done w).enum_told-1.given.1) ∙ left.answer-is in
@@ -58,7 +58,7 @@ returns-in-Done c =
 
 pub returns-in-Refused : goal.returns-in-Refused
 returns-in-Refused c =
-    let w : After-refusal_line = c.before.before in
+    let w : After-refusal_line = (goal.at.returns-in-Refused c).After-refusal_line in
     let k : In-Refused-2 = refused w in
     let s : After-sample_line = not-sampled k in
     let told = sym (ap outcome k.k-1.given.1) ∙ s.sample_line.ensures.answer-is in

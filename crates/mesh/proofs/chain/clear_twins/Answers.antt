@@ -17,10 +17,10 @@ pub loop-c-smaller : goal.loop-c-smaller
 loop-c-smaller c = add-one-dec _ _ c.loop-c-test.true
 
 pub loop-c-preserved : goal.loop-c-preserved
-loop-c-preserved c = (add-one-le c.loop-c-test.true, search rules, filled_more _ _ _ _ _ (omega arith) c.before.loop-c.invariant.2 refl)
+loop-c-preserved c = (add-one-le c.loop-c-test.true, search rules, filled_more _ _ _ _ _ (omega arith) c.loop-c.invariant.2 refl)
 
 pub shape_of-twins : goal.shape_of-twins
-shape_of-twins c = c.before.loop-c.invariant.1
+shape_of-twins c = c.loop-c.invariant.1
 
 pub returns : goal.returns
 returns c = search (filled-all, rules)

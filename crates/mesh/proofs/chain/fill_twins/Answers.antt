@@ -15,15 +15,15 @@ pub loop-c-init : goal.loop-c-init
 loop-c-init c = search (filled-start, rules)
 
 pub loop-c-smaller : goal.loop-c-smaller
-loop-c-smaller c = add-one-dec _ _ c.before.loop-c-test.true
+loop-c-smaller c = add-one-dec _ _ c.loop-c-test.true
 
 pub loop-c-preserved : goal.loop-c-preserved
 loop-c-preserved c =
-    let i = c.before in
-    (add-one-le i.loop-c-test.true, search rules, filled_more _ _ _ _ _ (omega arith) i.before.loop-c.invariant.2 c.twin_of.ensures)
+    let i = c in
+    (add-one-le i.loop-c-test.true, search rules, filled_more _ _ _ _ _ (omega arith) i.loop-c.invariant.2 c.twin_of.ensures)
 
 pub shape_of-twins : goal.shape_of-twins
-shape_of-twins c = c.before.loop-c.invariant.1
+shape_of-twins c = c.loop-c.invariant.1
 
 pub returns : goal.returns
 returns c = search (filled-all, rules)

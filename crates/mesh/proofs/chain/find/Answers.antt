@@ -24,12 +24,12 @@ module _ (s : Start) where
   links-are = s.requires.1.1
 
 abbrev entry : At-loop-u → Start
-entry c = c.before.before.before
+entry c = (goal.at.At-loop-u c).Start
 
 -- ---- u is read: it names a corner e below c, and the link there holds the corner before e at the same vertex
 module _ (c : After-wide-e) where
   abbrev at-loop : At-loop-u
-  at-loop = c.before.before
+  at-loop = (goal.at.After-wide-e c).At-loop-u
 
   abbrev start : Start
   start = entry at-loop
@@ -57,43 +57,52 @@ module _ (c : After-wide-e) where
 -- ---- the corner after e is read: its vertex is where half-edge e ends
 module _ (c : After-shared_slice_known-in-loop-u-1) where
   abbrev named : After-wide-e
-  named = c.before.before
+  named = (goal.at.After-shared_slice_known-in-loop-u-1 c).After-wide-e
 
-  end_is : vertex (start named) c.before.next_corner.result ≡ vertex (start named) (next (e named))
-  end_is = ap (vertex (start named)) c.before.next_corner.ensures
+  end_is : vertex (start named) c.next_corner.result ≡ vertex (start named) (next (e named))
+  end_is = ap (vertex (start named)) c.next_corner.ensures
 
 -- ---- the answers, in the order of the code
 pub loop-u-init : goal.loop-u-init
-loop-u-init c = walked_start _ _ _ _ _ c.before.before.requires.1.0
+loop-u-init c = walked_start _ _ _ _ _ c.requires.1.0
+
+pub wide-e-requires : goal.wide-e-requires
+wide-e-requires c = tt
+
+pub overflow_sub-e : goal.overflow_sub-e
+overflow_sub-e c = omega arith
+
+pub next_corner-requires : goal.next_corner-requires
+next_corner-requires c = tt
 
 pub offset_bounds-faces-next_corner : goal.offset_bounds-faces-next_corner
-offset_bounds-faces-next_corner c = let h = next-listed c.before in let e = c.next_corner.ensures in omega arith
+offset_bounds-faces-next_corner c = let h = next-listed (goal.at.offset_bounds-faces-next_corner c).After-wide-e in let e = c.next_corner.ensures in omega arith
 
 pub bounds-faces-next_corner : goal.bounds-faces-next_corner
-bounds-faces-next_corner c = rw c.before.next_corner.ensures (next-listed c.before.before)
+bounds-faces-next_corner c = rw c.next_corner.ensures (next-listed (goal.at.bounds-faces-next_corner c).After-wide-e)
 
 pub returns-then-faces-next_corner : goal.returns-then-faces-next_corner
 returns-then-faces-next_corner c =
-    let k = c.before in
-    let w = named k in
-    walked-found _ _ _ _ _ (at-loop w).loop-u.invariant (e w) (u-is w) (sym (end_is k) ∙ c.if-faces-next_corner.true)
+    let k = c in
+    let w = named (goal.at.returns-then-faces-next_corner k).After-shared_slice_known-in-loop-u-1 in
+    walked-found _ _ _ _ _ (at-loop w).loop-u.invariant (e w) (u-is w) (sym (end_is (goal.at.returns-then-faces-next_corner k).After-shared_slice_known-in-loop-u-1) ∙ c.if-faces-next_corner.true)
 
 pub offset_bounds-link-e : goal.offset_bounds-link-e
-offset_bounds-link-e c = let h = e-below (named c.before) in omega arith
+offset_bounds-link-e c = let h = e-below (named (goal.at.offset_bounds-link-e c).After-shared_slice_known-in-loop-u-1) in omega arith
 
 pub bounds-link-e : goal.bounds-link-e
-bounds-link-e c = let h = e-below (named c.before.before) in omega arith
+bounds-link-e c = let h = e-below (named (goal.at.bounds-link-e c).After-shared_slice_known-in-loop-u-1) in omega arith
 
 pub loop-u-smaller : goal.loop-u-smaller
 loop-u-smaller c =
-    let w = named c.before.before in
+    let w = named (goal.at.loop-u-smaller c).After-shared_slice_known-in-loop-u-1 in
     omega (arith, link-is w, u-is w, latest-le (same-vertex w) (e w))
 
 pub loop-u-preserved : goal.loop-u-preserved
 loop-u-preserved c =
-    let k = c.before.before in
-    let w = named k in
-    walked_more _ _ _ _ _ (e w) _ (at-loop w).loop-u.invariant (u-is w) (λ q. c.before.if-faces-next_corner.false (end_is k ∙ q)) (link-is w)
+    let k = c in
+    let w = named (goal.at.loop-u-preserved k).After-shared_slice_known-in-loop-u-1 in
+    walked_more _ _ _ _ _ (e w) _ (at-loop w).loop-u.invariant (u-is w) (λ q. c.if-faces-next_corner.false (end_is (goal.at.loop-u-preserved k).After-shared_slice_known-in-loop-u-1 ∙ q)) (link-is w)
 
 pub returns : goal.returns
-returns c = walked_none _ _ _ _ _ c.before.loop-u.invariant c.loop-u-test.false
+returns c = walked_none _ _ _ _ _ c.loop-u.invariant c.loop-u-test.false

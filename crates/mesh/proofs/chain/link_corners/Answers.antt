@@ -17,16 +17,9 @@ use Rattle.corner.specs.Corner.{next}
 use Rattle.mesh.specs.HalfEdge.{runs}
 use Rattle.mesh.proofs.ChainLaws.{chained-start, chained_more, doubled-earlier}
 use Rattle.mesh.specs.Tables.{vertex_of, latest, Chained}
+use Rattle.mesh.proofs.chain.link_corners.Invariants.{Linking}
 use Rattle.mesh.proofs.chain.link_corners.Goals.{After-occurs_before, After-wide-p, At-loop-c, In-loop-c, Start}
 use Rattle.mesh.proofs.chain.link_corners.Goals as goal
-
--- the corners below c are chained, and no half-edge of theirs runs as an earlier one does
-record Linking (faces : List ℕ) (n : ℕ) (head₀ link₀ head link : List ℕ) (c : ℕ) : Type 0 where
-  within : c ≤ n
-  heads-kept : length head ≡ length head₀
-  links-kept : length link ≡ length link₀
-  chained : Chained (vertex_of faces) c head link
-  apart : any_below (λ d. any_below (runs (vertex_of faces) (vertex_of faces d) (vertex_of faces (next d))) d) c ≡ false
 
 -- ---- at the entry: the vertices of the corners
 module _ (s : Start) where
@@ -34,15 +27,15 @@ module _ (s : Start) where
   vertex = vertex_of s.args.faces.now
 
 abbrev entry : At-loop-c → Start
-entry c = c.before.before.before.before
+entry c = (goal.at.At-loop-c c).Start
 
 -- ---- p is read: it is the vertex of corner c, which has a place in the table of heads
 module _ (c : After-wide-p) where
   abbrev passing : In-loop-c
-  passing = c.before.before
+  passing = (goal.at.After-wide-p c).In-loop-c
 
   abbrev at-loop : At-loop-c
-  at-loop = passing.before
+  at-loop = (goal.at.In-loop-c passing).At-loop-c
 
   abbrev start : Start
   start = entry at-loop
@@ -51,7 +44,7 @@ module _ (c : After-wide-p) where
   p = c.wide-p.result
 
   p-named : p < max_vertices
-  p-named = rw c.wide-p.ensures (start.requires.0.indices.named at-loop.loop-c.c passing.loop-c-test.taken)
+  p-named = rw c.wide-p.ensures (start.requires.0.indices.named at-loop.loop-c.c passing.loop-c-test.true)
 
   -- what the table holds there: the corner before c at its vertex
   head-is : get_or at-loop.loop-c.head p 0 ≡ latest (λ d. eqb (vertex start d) (vertex start at-loop.loop-c.c)) at-loop.loop-c.c
@@ -61,7 +54,7 @@ module _ (c : After-wide-p) where
 
 -- ---- the half-edges before c are looked at
 abbrev read : After-occurs_before → After-wide-p
-read c = c.before.before.before
+read c = (goal.at.After-occurs_before c).After-wide-p
 
 -- ---- the answers, in the order of the code
 pub loop-c-init : goal.loop-c-init
@@ -69,7 +62,7 @@ loop-c-init c = record {
   within = omega arith;
   heads-kept = refl;
   links-kept = refl;
-  chained = chained-start _ _ _ c.before.before.before.requires.1;
+  chained = chained-start _ _ _ c.requires.1;
   apart = any-start _;
 }
 
@@ -77,44 +70,44 @@ pub offset_bounds-head-p : goal.offset_bounds-head-p
 offset_bounds-head-p c = let h = p-named c in omega arith
 
 pub bounds-head-p : goal.bounds-head-p
-bounds-head-p c = let h = p-named c.before in omega arith
+bounds-head-p c = let h = p-named (goal.at.bounds-head-p c).After-wide-p in omega arith
 
 pub occurs_before-requires : goal.occurs_before-requires
 occurs_before-requires c =
-    let w = c.before.before in
-    (((start w).requires.0.indices, omega arith, omega arith), (head-is w, (at-loop w).loop-c.invariant.chained.links))
+    let w = c in
+    (((start (goal.at.occurs_before-requires w).After-wide-p).requires.0.indices, omega arith, omega arith), (head-is (goal.at.occurs_before-requires w).After-wide-p, (at-loop (goal.at.occurs_before-requires w).After-wide-p).loop-c.invariant.chained.links))
 
 pub shape_of-head-then-occurs_before : goal.shape_of-head-then-occurs_before
-shape_of-head-then-occurs_before c = (at-loop (read c.before)).loop-c.invariant.heads-kept
+shape_of-head-then-occurs_before c = (at-loop (read (goal.at.shape_of-head-then-occurs_before c).After-occurs_before)).loop-c.invariant.heads-kept
 
 pub shape_of-link-then-occurs_before : goal.shape_of-link-then-occurs_before
-shape_of-link-then-occurs_before c = (at-loop (read c.before)).loop-c.invariant.links-kept
+shape_of-link-then-occurs_before c = (at-loop (read (goal.at.shape_of-link-then-occurs_before c).After-occurs_before)).loop-c.invariant.links-kept
 
 pub returns-then-occurs_before : goal.returns-then-occurs_before
 returns-then-occurs_before c =
-    let o = c.before in
-    let found = any_found _ _ _ _ (passing (read o)).loop-c-test.taken o.occurs_before.ensures c.if-occurs_before.true in
+    let o = c in
+    let found = any_found _ _ _ _ (passing (read (goal.at.returns-then-occurs_before o).After-occurs_before)).loop-c-test.true o.occurs_before.ensures c.if-occurs_before.true in
     (found ∙ sym (doubled-earlier _ _), λ e. absurd (true≢false e))
 
 pub bounds-link-c : goal.bounds-link-c
 bounds-link-c c = omega arith
 
 pub offset_bounds-head-p-in-loop-c : goal.offset_bounds-head-p-in-loop-c
-offset_bounds-head-p-in-loop-c c = let h = p-named (read c.before) in omega arith
+offset_bounds-head-p-in-loop-c c = let h = p-named (read (goal.at.offset_bounds-head-p-in-loop-c c).After-occurs_before) in omega arith
 
 pub bounds-head-p-in-loop-c : goal.bounds-head-p-in-loop-c
-bounds-head-p-in-loop-c c = let h = p-named (read c.before) in omega arith
+bounds-head-p-in-loop-c c = let h = p-named (read (goal.at.bounds-head-p-in-loop-c c).After-occurs_before) in omega arith
 
 pub loop-c-smaller : goal.loop-c-smaller
-loop-c-smaller c = add-one-dec _ _ (passing (read c.before)).loop-c-test.taken
+loop-c-smaller c = add-one-dec _ _ (passing (read (goal.at.loop-c-smaller c).After-occurs_before)).loop-c-test.true
 
 pub loop-c-preserved : goal.loop-c-preserved
 loop-c-preserved c =
-    let o = c.before in
-    let w = read o in
+    let o = c in
+    let w = read (goal.at.loop-c-preserved o).After-occurs_before in
     let l = (at-loop w).loop-c in
     record {
-      within = add-one-le (passing w).loop-c-test.taken;
+      within = add-one-le (passing w).loop-c-test.true;
       heads-kept = length-set l.head (p w) _ ∙ l.invariant.heads-kept;
       links-kept = length-set l.link l.c _ ∙ l.invariant.links-kept;
       chained =
@@ -123,15 +116,15 @@ loop-c-preserved c =
     }
 
 pub shape_of-head : goal.shape_of-head
-shape_of-head c = c.before.loop-c.invariant.heads-kept
+shape_of-head c = c.loop-c.invariant.heads-kept
 
 pub shape_of-link : goal.shape_of-link
-shape_of-link c = c.before.loop-c.invariant.links-kept
+shape_of-link c = c.loop-c.invariant.links-kept
 
 pub returns : goal.returns
 returns c =
-    let l = c.before.loop-c in
+    let l = c.loop-c in
     let all = le_antisymm l.invariant.within c.loop-c-test.false in (
       any-not _ _ _ l.invariant.apart c.loop-c-test.false ∙ sym (doubled-earlier _ _),
-      λ e. subst (λ (k : ℕ). Chained (vertex (entry c.before)) k l.head l.link) all l.invariant.chained,
+      λ e. subst (λ (k : ℕ). Chained (vertex (entry (goal.at.returns c).At-loop-c)) k l.head l.link) all l.invariant.chained,
     )

@@ -19,6 +19,14 @@ use Rattle.mesh.proofs.ChainLaws.{chained-start, chained_more, doubled-earlier}
 use Rattle.mesh.specs.Tables.{vertex_of, latest, Chained}
 use Rattle.mesh.proofs.chain.link_corners.Given as goal
 
+-- the corners below c are chained, and no half-edge of theirs runs as an earlier one does
+pub record Linking (faces : List ℕ) (n : ℕ) (head₀ link₀ head link : List ℕ) (c : ℕ) : Type 0 where
+  pub within : c ≤ n
+  pub heads-kept : length head ≡ length head₀
+  pub links-kept : length link ≡ length link₀
+  pub chained : Chained (vertex_of faces) c head link
+  pub apart : any_below (λ d. any_below (runs (vertex_of faces) (vertex_of faces d) (vertex_of faces (next d))) d) c ≡ false
+
 abbrev pub invariant-loop-c : goal.invariant-loop-c
 invariant-loop-c l = Linking l.faces l.n l.initial.head l.initial.link l.head l.link l.c
 

@@ -18,25 +18,25 @@ module _ (s : Start) where
   vertex = vertex_of s.args.faces.now
 
 abbrev entry : After-wide-p → Start
-entry c = c.before.before.before.before
+entry c = (goal.at.After-wide-p c).Start
 
 -- ---- the walk is done: it found the last half-edge before c that runs as c does
 module _ (c : After-find) where
   abbrev turned : After-next_corner
-  turned = c.before.before
+  turned = (goal.at.After-find c).After-next_corner
 
   abbrev start : Start
-  start = entry turned.before
+  start = entry (goal.at.After-next_corner turned).After-wide-p
 
   found : c.find.result ≡ latest (runs (vertex start) (vertex start start.args.c) (vertex start (next start.args.c))) start.args.c
   found =
       c.find.ensures
-      ∙ ap₂ (λ (p d : ℕ). latest (runs (vertex start) p (vertex start d)) start.args.c) turned.before.wide-p.ensures turned.next_corner.ensures
+      ∙ ap₂ (λ (p d : ℕ). latest (runs (vertex start) p (vertex start d)) start.args.c) turned.wide-p.ensures turned.next_corner.ensures
 
 pub find-requires : goal.find-requires
 find-requires c =
-    let w = c.before.before in
-    let s = entry w in
+    let w = c in
+    let s = entry (goal.at.find-requires w).After-wide-p in
     let p = s.requires.0 in
     let first = s.requires.1.0 ∙ ap (λ (q : ℕ). latest (λ d. eqb (vertex s d) q) s.args.c) (sym w.wide-p.ensures) in
     ((p.0, le_of_lt p.1, p.2), (first, s.requires.1.1))

@@ -40,14 +40,14 @@ module _ (s : Start) where
 
 -- ---- p is read: it is the end of c, which has a place in the table of heads
 abbrev entry : After-shared_slice_known-3-1 → Start
-entry c = c.before.before.before
+entry c = (goal.at.After-shared_slice_known-3-1 c).Start
 
 module _ (c : After-wide-p) where
   abbrev turned : After-next_corner
-  turned = c.before.before
+  turned = (goal.at.After-wide-p c).After-next_corner
 
   abbrev start : Start
-  start = entry turned.before
+  start = entry (goal.at.After-next_corner turned).After-shared_slice_known-3-1
 
   p-is : c.wide-p.result ≡ end start
   p-is = c.wide-p.ensures ∙ ap (vertex start) turned.next_corner.ensures
@@ -58,7 +58,7 @@ module _ (c : After-wide-p) where
 -- ---- the walk is done: u is the last half-edge that runs the other way
 module _ (c : After-find-u) where
   abbrev read : After-wide-p
-  read = c.before.before.before
+  read = (goal.at.After-find-u c).After-wide-p
 
   abbrev found-start : Start
   found-start = start read
@@ -69,19 +69,19 @@ module _ (c : After-find-u) where
       c.find-u.ensures ∙ ap (λ (p : ℕ). latest (runs (vertex s) p (origin s)) s.args.n) (p-is read)
 
 pub offset_bounds-head-p : goal.offset_bounds-head-p
-offset_bounds-head-p c = omega (arith, p-named c.before)
+offset_bounds-head-p c = omega (arith, p-named (goal.at.offset_bounds-head-p c).After-wide-p)
 
 pub bounds-head-p : goal.bounds-head-p
-bounds-head-p c = omega (arith, p-named c.before.before)
+bounds-head-p c = omega (arith, p-named (goal.at.bounds-head-p c).After-wide-p)
 
 pub find-u-requires : goal.find-u-requires
 find-u-requires c =
-    let w = c.before.before in
-    let s = start w in
-    ((indices s, le_refl s.args.n, s.requires.0.room.links-listed), ((chains s).heads w.wide-p.result (p-named w), (chains s).links))
+    let w = c in
+    let s = start (goal.at.find-u-requires w).After-wide-p in
+    ((indices s, le_refl s.args.n, s.requires.0.room.links-listed), ((chains s).heads w.wide-p.result (p-named (goal.at.find-u-requires w).After-wide-p), (chains s).links))
 
 pub returns-then-u-eq0 : goal.returns-then-u-eq0
-returns-then-u-eq0 c = twin-none _ _ _ _ (u-is c.before) c.if-u-eq0.true
+returns-then-u-eq0 c = twin-none _ _ _ _ (u-is (goal.at.returns-then-u-eq0 c).After-find-u) c.if-u-eq0.true
 
 pub returns : goal.returns
-returns c = twin-found _ _ _ _ (u-is c.before) (found-start c.before).requires.0.simple c.if-u-eq0.false
+returns c = twin-found _ _ _ _ (u-is (goal.at.returns c).After-find-u) (found-start (goal.at.returns c).After-find-u).requires.0.simple c.if-u-eq0.false

@@ -17,25 +17,25 @@ use Rattle.mesh.proofs.count.count_edges.Goals as goal
 -- ---- the twin of half-edge c is read and compared
 module _ (c : After-bit-count) where
   abbrev passing : In-loop-c
-  passing = c.before.before.before
+  passing = (goal.at.After-bit-count c).In-loop-c
 
   abbrev at-loop : At-loop-c
-  at-loop = passing.before
+  at-loop = (goal.at.In-loop-c passing).At-loop-c
 
   abbrev twins : List ℕ
-  twins = at-loop.before.before.args.twins.now
+  twins = at-loop.args.twins.now
 
-  told : ltb at-loop.loop-c.c c.before.wide.result ≡ leads twins at-loop.loop-c.c
-  told = ap (ltb at-loop.loop-c.c) c.before.wide.ensures
+  told : ltb at-loop.loop-c.c c.wide.result ≡ leads twins at-loop.loop-c.c
+  told = ap (ltb at-loop.loop-c.c) c.wide.ensures
 
 -- ---- the answers, in the order of the code
 pub loop-c-init : goal.loop-c-init
-loop-c-init c = (omega arith, count-start (leads c.before.args.twins.now))
+loop-c-init c = (omega arith, count-start (leads c.args.twins.now))
 
 pub overflow_add-count : goal.overflow_add-count
 overflow_add-count c =
     let i = (at-loop c).loop-c.c in
-    omega (arith, c.bit-count.ensures, indicator-le (ltb i c.before.wide.result), count-le (leads (twins c)) i)
+    omega (arith, c.bit-count.ensures, indicator-le (ltb i c.wide.result), count-le (leads (twins c)) i)
 
 pub loop-c-smaller : goal.loop-c-smaller
 loop-c-smaller c = add-one-dec _ _ (passing c).loop-c-test.true

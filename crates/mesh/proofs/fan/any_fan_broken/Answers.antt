@@ -14,12 +14,12 @@ use Rattle.mesh.proofs.fan.any_fan_broken.Goals.{After-shared_slice_known-4-1, I
 use Rattle.mesh.proofs.fan.any_fan_broken.Goals as goal
 
 abbrev entry : After-shared_slice_known-4-1 → Start
-entry c = c.before.before.before.before
+entry c = (goal.at.After-shared_slice_known-4-1 c).Start
 
 -- ---- in the loop
 module _ (i : In-loop-p) where
   abbrev start : Start
-  start = entry i.before.before
+  start = entry (goal.at.In-loop-p i).After-shared_slice_known-4-1
 
 pub loop-p-init : goal.loop-p-init
 loop-p-init c = search (any-start, rules)
@@ -27,14 +27,14 @@ loop-p-init c = search (any-start, rules)
 pub fan_broken-requires : goal.fan_broken-requires
 fan_broken-requires c =
     let s = start c in
-    ((s.requires.0.0, omega arith, s.requires.1.1 c.before.loop-p.p c.loop-p-test.true), s.requires.1.0)
+    ((s.requires.0.0, omega arith, s.requires.1.1 c.loop-p.p c.loop-p-test.true), s.requires.1.0)
 
 pub returns-then-fan_broken : goal.returns-then-fan_broken
 unfolding fan_broken
 returns-then-fan_broken c = search (any_found, rules)
 
 pub loop-p-smaller : goal.loop-p-smaller
-loop-p-smaller c = add-one-dec _ _ c.before.before.loop-p-test.true
+loop-p-smaller c = add-one-dec _ _ c.loop-p-test.true
 
 pub loop-p-preserved : goal.loop-p-preserved
 loop-p-preserved c = search (any-more, add-one-le, rules)

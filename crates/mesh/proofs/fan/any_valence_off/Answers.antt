@@ -16,15 +16,15 @@ use Rattle.mesh.proofs.fan.any_valence_off.Goals.{After-shared_slice_known-4-1, 
 use Rattle.mesh.proofs.fan.any_valence_off.Goals as goal
 
 abbrev entry : After-shared_slice_known-4-1 → Start
-entry c = c.before.before.before.before
+entry c = (goal.at.After-shared_slice_known-4-1 c).Start
 
 -- ---- in the loop, at vertex p
 module _ (i : In-loop-p) where
   abbrev start : Start
-  start = entry i.before.before
+  start = entry (goal.at.In-loop-p i).After-shared_slice_known-4-1
 
   abbrev p : ℕ
-  p = i.before.loop-p.p
+  p = i.loop-p.p
 
   abbrev vertex : ℕ → ℕ
   vertex = vertex_of start.args.faces.now
@@ -35,7 +35,7 @@ module _ (i : In-loop-p) where
 -- ---- the valence of p is read and tested
 module _ (c : After-valence_off) where
   abbrev passing : In-loop-p
-  passing = let w : After-wide = c.before in w.before.before
+  passing = let w : After-wide = (goal.at.After-valence_off c).After-wide in w.before.before
 
   abbrev begun : Start
   begun = start passing
@@ -44,7 +44,7 @@ module _ (c : After-valence_off) where
   told =
       c.valence_off.ensures
       ∙ ap (valence_bad (on_boundary (vertex passing) begun.args.n (p passing)))
-      (c.before.wide.ensures ∙ begun.requires.1.0.are (p passing) (p-named passing))
+      (c.wide.ensures ∙ begun.requires.1.0.are (p passing) (p-named passing))
 
 -- ---- the answers, in the order of the code
 pub loop-p-init : goal.loop-p-init
@@ -52,22 +52,22 @@ loop-p-init c = search (any-start, rules)
 
 pub valence_off-requires : goal.valence_off-requires
 valence_off-requires c =
-    let i = c.before.before in
-    let s = start i in
-    (s.requires.0.0, p-named i, s.requires.1.1 (p i) i.loop-p-test.true)
+    let i = c in
+    let s = start (goal.at.valence_off-requires i).In-loop-p in
+    (s.requires.0.0, p-named (goal.at.valence_off-requires i).In-loop-p, s.requires.1.1 (p (goal.at.valence_off-requires i).In-loop-p) i.loop-p-test.true)
 
 pub returns-then-valence_off : goal.returns-then-valence_off
 unfolding valence_off
-returns-then-valence_off c = let t = c.before in any_found _ _ _ _ (passing t).loop-p-test.true (told t) c.if-valence_off.true
+returns-then-valence_off c = let t = c in any_found _ _ _ _ (passing (goal.at.returns-then-valence_off t).After-valence_off).loop-p-test.true (told (goal.at.returns-then-valence_off t).After-valence_off) c.if-valence_off.true
 
 pub loop-p-smaller : goal.loop-p-smaller
-loop-p-smaller c = add-one-dec _ _ (passing c.before).loop-p-test.taken
+loop-p-smaller c = add-one-dec _ _ (passing (goal.at.loop-p-smaller c).After-valence_off).loop-p-test.true
 
 pub loop-p-preserved : goal.loop-p-preserved
 loop-p-preserved c =
-    let t = c.before in
-    let i = passing t in
-    (add-one-le i.loop-p-test.taken, any-more _ _ _ i.before.loop-p.invariant.1 (told t) c.if-valence_off.false)
+    let t = c in
+    let i = passing (goal.at.loop-p-preserved t).After-valence_off in
+    (add-one-le i.loop-p-test.true, any-more _ _ _ i.loop-p.invariant.1 (told (goal.at.loop-p-preserved t).After-valence_off) c.if-valence_off.false)
 
 pub returns : goal.returns
 unfolding valence_off

@@ -11,7 +11,7 @@ use Rattle.mesh.proofs.fan.corner_at.Goals as goal
 -- ---- the table of heads is read at p
 module _ (c : After-wide) where
   abbrev start : Start
-  start = c.before.before.before.before
+  start = (goal.at.After-wide c).Start
 
   abbrev last : ℕ
   last = c.wide.result - 1
@@ -20,16 +20,6 @@ module _ (c : After-wide) where
   last-is =
       latest-corner (vertex_of start.args.faces.now) start.args.n start.args.p c.wide.result
       (c.wide.ensures ∙ start.requires.0.heads-are start.args.p start.requires.1) start.requires.2
-
--- ---- the answers, in the order of the code
-pub offset_bounds-head-p : goal.offset_bounds-head-p
-offset_bounds-head-p c = search rules
-
-pub bounds-head-p : goal.bounds-head-p
-bounds-head-p c = search rules
-
-pub wide-requires : goal.wide-requires
-wide-requires c = search rules
 
 pub overflow_sub-result : goal.overflow_sub-result
 overflow_sub-result c = let h = (last-is c).0 in omega arith

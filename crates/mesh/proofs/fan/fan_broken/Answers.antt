@@ -10,7 +10,7 @@ use Rattle.mesh.proofs.fan.fan_broken.Goals as goal
 -- ---- a corner at p is found
 module _ (c : After-corner_at-start) where
   abbrev start : Start
-  start = c.before.before.before.before.before
+  start = (goal.at.After-corner_at-start c).Start
 
 pub circulate-met-requires : goal.circulate-met-requires
 circulate-met-requires c =
@@ -19,9 +19,9 @@ circulate-met-requires c =
 
 pub returns : goal.returns
 returns c =
-    let m = c.before.before in
-    let f = m.before in
-    let s = start f in
+    let m = c in
+    let f = m in
+    let s = start (goal.at.returns f).After-corner_at-start in
     let valence-is = c.wide.ensures ∙ s.requires.1.are s.args.p s.requires.0.1 in
     ap not
     (ap (eqb m.circulate-met.result) valence-is

@@ -9,7 +9,7 @@ use Rattle.mesh.proofs.fan.on_boundary.Goals as goal
 -- ---- a corner at p is found
 module _ (c : After-corner_at-start) where
   abbrev start : Start
-  start = c.before.before.before.before
+  start = (goal.at.After-corner_at-start c).Start
 
 -- ---- the answers, in the order of the code
 pub corner_at-start-requires : goal.corner_at-start-requires
@@ -22,9 +22,9 @@ walk_on-on-requires c =
 
 pub returns : goal.returns
 returns c =
-    let w = c.before in
-    let f = w.before in
-    let s = start f in
+    let w = c in
+    let f = w in
+    let s = start (goal.at.returns f).After-corner_at-start in
     let on = w.walk_on-on in
     boundary-told s.requires.0.twinned f.corner_at-start.result s.args.p f.corner_at-start.ensures.1
     on.result.corners on.result.closed on.ensures s.requires.2

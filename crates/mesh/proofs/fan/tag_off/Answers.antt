@@ -15,24 +15,14 @@ no-fault false y r e f = refl
 -- ---- the tag is tested as if inside
 module _ (c : After-inner_tagged) where
   abbrev start : Start
-  start = c.before.before.before.before
-
--- ---- the answers, in the order of the code
-pub inner_tagged-requires : goal.inner_tagged-requires
-inner_tagged-requires c = tt
-
-pub on_boundary-requires : goal.on_boundary-requires
-on_boundary-requires c = search rules
-
-pub inner_tagged-requires-then-inner_tagged : goal.inner_tagged-requires-then-inner_tagged
-inner_tagged-requires-then-inner_tagged c = tt
+  start = (goal.at.After-inner_tagged c).Start
 
 pub returns-then-inner_tagged : goal.returns-then-inner_tagged
 returns-then-inner_tagged c =
-    let s = start c.before.before.before in
-    c.inner_tagged-then-inner_tagged.ensures ∙ ap (λ (b : Bool). eqb s.args.tag corner_tag && not b) c.before.on_boundary.ensures
+    let s = start (goal.at.returns-then-inner_tagged c).After-inner_tagged in
+    c.inner_tagged-then-inner_tagged.ensures ∙ ap (λ (b : Bool). eqb s.args.tag corner_tag && not b) c.on_boundary.ensures
 
 pub returns : goal.returns
 returns c =
-    let k = c.before in
-    no-fault (eqb (start k).args.tag corner_tag) _ _ k.inner_tagged.ensures c.if-inner_tagged.false
+    let k = c in
+    no-fault (eqb (start (goal.at.returns k).After-inner_tagged).args.tag corner_tag) _ _ k.inner_tagged.ensures c.if-inner_tagged.false

@@ -27,16 +27,16 @@ module _ (s : Start) where
 -- ---- the valence is tested as if inside
 module _ (c : After-valence_bad-inner) where
   abbrev start : Start
-  start = c.before.before.before.before
+  start = (goal.at.After-valence_bad-inner c).Start
 
 pub returns-then-inner-valence_bad : goal.returns-then-inner-valence_bad
 returns-then-inner-valence_bad c =
-    let outer = c.before in
-    let inner = outer.before in
-    let s = start inner in
+    let outer = c in
+    let inner = outer in
+    let s = start (goal.at.returns-then-inner-valence_bad inner).After-valence_bad-inner in
     alike (λ b. valence_bad b s.args.valence) (boundary s) _ _ inner.valence_bad-inner.ensures outer.valence_bad.ensures c.if-inner-valence_bad.true
 
 pub returns : goal.returns
 returns c =
-    let s = start c.before.before.before.before in
-    c.valence_bad-2.ensures ∙ ap (λ (b : Bool). valence_bad b s.args.valence) c.before.on_boundary.ensures
+    let s = start (goal.at.returns c).After-valence_bad-inner in
+    c.valence_bad-2.ensures ∙ ap (λ (b : Bool). valence_bad b s.args.valence) c.on_boundary.ensures

@@ -13,7 +13,7 @@ use Rattle.mesh.proofs.phases.accepted.Goals as goal
 -- ---- the edges are counted: the boundary half-edges are what they leave over
 module _ (c : After-count_edges-edges) where
   abbrev start : Start
-  start = c.before.before.before
+  start = (goal.at.After-count_edges-edges c).Start
 
   abbrev n : ℕ
   n = 4 * start.args.f
@@ -23,10 +23,10 @@ module _ (c : After-count_edges-edges) where
 
 -- ---- the answers, in the order of the code
 pub overflow_mul-n : goal.overflow_mul-n
-overflow_mul-n c = let i = c.before.before.requires.twinned.indices in omega arith
+overflow_mul-n c = let i = c.requires.twinned.indices in omega arith
 
 pub count_edges-edges-requires : goal.count_edges-edges-requires
-count_edges-edges-requires c = c.before.before.requires.twinned.twins-listed
+count_edges-edges-requires c = c.requires.twinned.twins-listed
 
 pub overflow_mul-boundary : goal.overflow_mul-boundary
 overflow_mul-boundary c =

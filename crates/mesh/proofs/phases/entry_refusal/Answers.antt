@@ -26,15 +26,15 @@ abbrev row-7 : IndexedMesh → List Row
 row-7 M = row (half_edge_twice M) 7 ∷ []
 
 abbrev entry : After-list_refusal-listed → Start
-entry c = let k : After-slice_known-2-1 = c.before in k.before.before.before.before
+entry c = let k : After-slice_known-2-1 = (goal.at.After-list_refusal-listed c).After-slice_known-2-1 in k.before.before.before.before
 
 -- ---- past 6: no row of the lists is met
 module _ (c : Else-listed-ne0) where
   abbrev start : Start
-  start = entry c.before
+  start = entry (goal.at.Else-listed-ne0 c).After-list_refusal-listed
 
   no-list-row : first_met (list_rows (mesh start)) ≡ none
-  no-list-row = c.before.list_refusal-listed.ensures ∙ ap refusal_of c.if-listed-ne0.false
+  no-list-row = c.list_refusal-listed.ensures ∙ ap refusal_of c.if-listed-ne0.false
 
   only-row-7 : first_met (entry_rows (mesh start)) ≡ first_met (row-7 (mesh start))
   only-row-7 = none-append (list_rows (mesh start)) (row-7 (mesh start)) no-list-row
@@ -44,19 +44,19 @@ module _ (c : Else-listed-ne0) where
 
 -- ---- the corners are chained
 abbrev passed : After-link_corners → Else-listed-ne0
-passed c = c.before.before.before
+passed c = (goal.at.After-link_corners c).Else-listed-ne0
 
 abbrev linked : After-slice_known-4-1 → After-link_corners
-linked c = c.before.before.before.before
+linked c = (goal.at.After-slice_known-4-1 c).After-link_corners
 
 pub returns-then-listed-ne0 : goal.returns-then-listed-ne0
 returns-then-listed-ne0 c =
-    let l = c.before in
+    let l = c in
     let r = l.list_refusal-listed.result in
     let met = c.if-listed-ne0.true in
     record {
       first =
-          some-append (list_rows (mesh (entry l))) (row-7 (mesh (entry l))) (l.list_refusal-listed.ensures ∙ refusal-some r met)
+          some-append (list_rows (mesh (entry (goal.at.returns-then-listed-ne0 l).After-list_refusal-listed))) (row-7 (mesh (entry (goal.at.returns-then-listed-ne0 l).After-list_refusal-listed))) (l.list_refusal-listed.ensures ∙ refusal-some r met)
           ∙ sym (refusal-some r met);
       chained = λ e. absurd (met e);
     }
@@ -66,21 +66,21 @@ overflow_mul-n c = let z = (start c).requires.0 in omega arith
 
 pub link_corners-requires : goal.link_corners-requires
 link_corners-requires c =
-    let e = c.before.before in
-    let room = (start e).requires.1 in
-    let z = (start e).requires.0 in
-    (record { indices = indices e; heads-listed = room.heads-listed; links-listed = omega (arith, room.links-listed) }, room.heads-are)
+    let e = c in
+    let room = (start (goal.at.link_corners-requires e).Else-listed-ne0).requires.1 in
+    let z = (start (goal.at.link_corners-requires e).Else-listed-ne0).requires.0 in
+    (record { indices = indices (goal.at.link_corners-requires e).Else-listed-ne0; heads-listed = room.heads-listed; links-listed = omega (arith, room.links-listed) }, room.heads-are)
 
 pub shape_of-head-then-link_corners : goal.shape_of-head-then-link_corners
-shape_of-head-then-link_corners c = (linked c.before).link_corners.auto.head
+shape_of-head-then-link_corners c = (linked (goal.at.shape_of-head-then-link_corners c).After-slice_known-4-1).link_corners.auto.head
 
 pub shape_of-link-then-link_corners : goal.shape_of-link-then-link_corners
-shape_of-link-then-link_corners c = (linked c.before).link_corners.auto.link
+shape_of-link-then-link_corners c = (linked (goal.at.shape_of-link-then-link_corners c).After-slice_known-4-1).link_corners.auto.link
 
 pub returns-then-link_corners : goal.returns-then-link_corners
 unfolding half_edge_twice
 returns-then-link_corners c =
-    let l = linked c.before in
+    let l = linked (goal.at.returns-then-link_corners c).After-slice_known-4-1 in
     let e = passed l in
     record {
       first = only-row-7 e ∙ met-here 7 none (sym l.link_corners.ensures.0 ∙ c.if-link_corners.true);
@@ -88,15 +88,15 @@ returns-then-link_corners c =
     }
 
 pub shape_of-head : goal.shape_of-head
-shape_of-head c = (linked c.before).link_corners.auto.head
+shape_of-head c = (linked (goal.at.shape_of-head c).After-slice_known-4-1).link_corners.auto.head
 
 pub shape_of-link : goal.shape_of-link
-shape_of-link c = (linked c.before).link_corners.auto.link
+shape_of-link c = (linked (goal.at.shape_of-link c).After-slice_known-4-1).link_corners.auto.link
 
 pub returns : goal.returns
 unfolding half_edge_twice
 returns c =
-    let l = linked c.before in
+    let l = linked (goal.at.returns c).After-slice_known-4-1 in
     let e = passed l in
     record {
       first = only-row-7 e ∙ skipped 7 none (sym l.link_corners.ensures.0 ∙ c.if-link_corners.false);

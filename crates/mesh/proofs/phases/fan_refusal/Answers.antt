@@ -34,18 +34,18 @@ module _ (s : Start) where
   from-9 = row (fan_broken vertex n s.args.v) 9 ∷ from-10
 
 abbrev entry : After-shared_slice_known-3-1 → Start
-entry c = c.before.before.before
+entry c = (goal.at.After-shared_slice_known-3-1 c).Start
 
 -- ---- the corners at each vertex are counted
 module _ (c : After-count_corners) where
   abbrev start : Start
-  start = entry c.before.before
+  start = entry (goal.at.After-count_corners c).After-shared_slice_known-3-1
 
   abbrev valences : List ℕ
   valences = c.count_corners.new.valences
 
 abbrev counted : After-any_unused → After-count_corners
-counted c = c.before.before.before
+counted c = (goal.at.After-any_unused c).After-count_corners
 
 unused : (c : After-any_unused) → (let s = start (counted c) in c.any_unused.result ≡ vertex_unused (vertex s) (n s) s.args.v)
 unfolding vertex_unused
@@ -56,10 +56,10 @@ unused c =
 -- ---- past 8: every vertex has corners
 module _ (c : Else-any_unused) where
   abbrev start₈ : Start
-  start₈ = start (counted c.before)
+  start₈ = start (counted (goal.at.Else-any_unused c).After-any_unused)
 
   used : vertex_unused (vertex start₈) (n start₈) start₈.args.v ≡ false
-  used = sym (unused c.before) ∙ c.if-any_unused.false
+  used = sym (unused (goal.at.Else-any_unused c).After-any_unused) ∙ c.if-any_unused.false
 
   after-8 : From (rows start₈) (from-9 start₈)
   after-8 = row-passed (all-rows (rows start₈)) used
@@ -67,13 +67,13 @@ module _ (c : Else-any_unused) where
 -- ---- past 9: the corners at each vertex form one fan
 module _ (c : Else-any_fan_broken) where
   abbrev passed-8 : Else-any_unused
-  passed-8 = c.before.before.before
+  passed-8 = (goal.at.Else-any_fan_broken c).Else-any_unused
 
   abbrev start₉ : Start
   start₉ = start₈ passed-8
 
   whole : fan_broken (vertex start₉) (n start₉) start₉.args.v ≡ false
-  whole = sym c.before.any_fan_broken.ensures ∙ c.if-any_fan_broken.false
+  whole = sym c.any_fan_broken.ensures ∙ c.if-any_fan_broken.false
 
   after-9 : From (rows start₉) (from-10 start₉)
   after-9 = row-passed (after-8 passed-8) whole
@@ -83,33 +83,33 @@ pub overflow_mul-n : goal.overflow_mul-n
 overflow_mul-n c = let i = (entry c).requires.0.twinned.indices in omega arith
 
 pub count_corners-requires : goal.count_corners-requires
-count_corners-requires c = ((entry c.before).requires.0.twinned.indices, omega arith, λ p l. get_or-replicate max_vertices p 0 0 l)
+count_corners-requires c = ((entry (goal.at.count_corners-requires c).After-shared_slice_known-3-1).requires.0.twinned.indices, omega arith, λ p l. get_or-replicate max_vertices p 0 0 l)
 
 pub any_unused-requires : goal.any_unused-requires
-any_unused-requires c = let s = start c.before.before in omega arith
+any_unused-requires c = let s = start (goal.at.any_unused-requires c).After-count_corners in omega arith
 
 pub returns-then-any_unused : goal.returns-then-any_unused
-returns-then-any_unused c = let s = start (counted c.before) in row-met (all-rows (rows s)) (sym (unused c.before) ∙ c.if-any_unused.true)
+returns-then-any_unused c = let s = start (counted (goal.at.returns-then-any_unused c).After-any_unused) in row-met (all-rows (rows s)) (sym (unused (goal.at.returns-then-any_unused c).After-any_unused) ∙ c.if-any_unused.true)
 
 pub any_fan_broken-requires : goal.any_fan_broken-requires
 any_fan_broken-requires c =
-    let e = c.before in
-    let s = start₈ e in
-    let some = unused-false (vertex s) (n s) s.args.v (used e) in
-    (s.requires, (record { listed = omega arith; are = (counted e.before).count_corners.ensures }, some))
+    let e = c in
+    let s = start₈ (goal.at.any_fan_broken-requires e).Else-any_unused in
+    let some = unused-false (vertex s) (n s) s.args.v (used (goal.at.any_fan_broken-requires e).Else-any_unused) in
+    (s.requires, (record { listed = omega arith; are = (counted (goal.at.any_fan_broken-requires e).After-any_unused).count_corners.ensures }, some))
 
 pub returns-then-any_fan_broken : goal.returns-then-any_fan_broken
-returns-then-any_fan_broken c = row-met (after-8 c.before.before.before) (sym c.before.any_fan_broken.ensures ∙ c.if-any_fan_broken.true)
+returns-then-any_fan_broken c = row-met (after-8 (goal.at.returns-then-any_fan_broken c).Else-any_unused) (sym c.any_fan_broken.ensures ∙ c.if-any_fan_broken.true)
 
 pub any_valence_off-requires : goal.any_valence_off-requires
 any_valence_off-requires c =
-    let e = c.before in
-    let s = start₉ e in
-    let fans = fan-false (vertex s) (n s) s.args.v (whole e) in
-    (s.requires, (record { listed = omega arith; are = (counted (passed-8 e).before).count_corners.ensures }, fans))
+    let e = c in
+    let s = start₉ (goal.at.any_valence_off-requires e).Else-any_fan_broken in
+    let fans = fan-false (vertex s) (n s) s.args.v (whole (goal.at.any_valence_off-requires e).Else-any_fan_broken) in
+    (s.requires, (record { listed = omega arith; are = (counted (goal.at.Else-any_unused (passed-8 (goal.at.any_valence_off-requires e).Else-any_fan_broken)).After-any_unused).count_corners.ensures }, fans))
 
 pub returns-then-any_valence_off : goal.returns-then-any_valence_off
-returns-then-any_valence_off c = let k = c.before in row-met (after-9 k.before.before) (sym k.any_valence_off.ensures ∙ c.if-any_valence_off.true)
+returns-then-any_valence_off c = let k = c in row-met (after-9 (goal.at.returns-then-any_valence_off k).Else-any_fan_broken) (sym k.any_valence_off.ensures ∙ c.if-any_valence_off.true)
 
 pub returns : goal.returns
-returns c = let k = c.before in (row-passed (after-9 k.before.before) (sym k.any_valence_off.ensures ∙ c.if-any_valence_off.false)).same
+returns c = let k = c in (row-passed (after-9 (goal.at.returns k).Else-any_fan_broken) (sym k.any_valence_off.ensures ∙ c.if-any_valence_off.false)).same

@@ -34,24 +34,20 @@ module _ (s : Start) where
   vertex-rows positions = vertex_rows (mesh positions)
 
 abbrev start : After-fan_refusal-fans → Start
-start c = c.before.before.before.before.before
+start c = (goal.at.After-fan_refusal-fans c).Start
 
 -- ---- past 10: no row of the fans is met
 module _ (c : Else-fans-ne0) where
   abbrev start₁₀ : Start
-  start₁₀ = start c.before
+  start₁₀ = start (goal.at.Else-fans-ne0 c).After-fan_refusal-fans
 
   no-fan-row : first_met (fan-rows start₁₀) ≡ none
-  no-fan-row = c.before.fan_refusal-fans.ensures ∙ ap refusal_of c.if-fans-ne0.false
-
--- ---- the answers, in the order of the code
-pub fan_refusal-fans-requires : goal.fan_refusal-fans-requires
-fan_refusal-fans-requires c = search rules
+  no-fan-row = c.fan_refusal-fans.ensures ∙ ap refusal_of c.if-fans-ne0.false
 
 pub returns-then-fans-ne0 : goal.returns-then-fans-ne0
 returns-then-fans-ne0 c positions =
-    let f = c.before in
-    let s = start f in
+    let f = c in
+    let s = start (goal.at.returns-then-fans-ne0 f).After-fan_refusal-fans in
     let r = f.fan_refusal-fans.result in
     let met = c.if-fans-ne0.true in
     some-append (fan-rows s) (vertex-rows s positions) (f.fan_refusal-fans.ensures ∙ refusal-some r met) ∙ sym (refusal-some r met)
@@ -63,6 +59,6 @@ vertex_refusal-requires c =
 
 pub returns : goal.returns
 returns c positions =
-    let e = c.before in
-    let s = start₁₀ e in
-    none-append (fan-rows s) (vertex-rows s positions) (no-fan-row e) ∙ c.vertex_refusal.ensures positions
+    let e = c in
+    let s = start₁₀ (goal.at.returns e).Else-fans-ne0 in
+    none-append (fan-rows s) (vertex-rows s positions) (no-fan-row (goal.at.returns e).Else-fans-ne0) ∙ c.vertex_refusal.ensures positions

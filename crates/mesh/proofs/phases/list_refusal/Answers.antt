@@ -13,13 +13,13 @@ mesh s = indexed s.args.v s.args.f s.args.positions.now s.args.tags.now s.args.f
 
 pub returns : goal.returns
 returns c₆ =
-    let c₅ = c₆.before.before in
-    let c₄ = c₅.before.before in
-    let c₃ = c₄.before.before in
-    let s = c₃.before.before.before.before in
-    let M = mesh s in
-    let m₃ = next_row no_row c₃.first_met-met.ensures (c₃.before.any_coordinate_off.ensures ∙ coordinates-sized M s.requires) refl in
-    let m₄ = next_row m₃ c₄.first_met-met-2.ensures (c₄.before.any_tag_off.ensures ∙ tags-sized M s.requires) refl in
-    let m₅ = next_row m₄ c₅.first_met-met-3.ensures (c₅.before.any_vertex_off.ensures ∙ vertices-sized M s.requires) refl in
-    let m₆ = next_row m₅ c₆.first_met.ensures (c₆.before.any_vertex_twice.ensures ∙ twice-sized M s.requires) refl in
+    let c₅ = c₆ in
+    let c₄ = c₅ in
+    let c₃ = c₄ in
+    let s = c₃ in
+    let M = mesh (goal.at.returns s).Start in
+    let m₃ = next_row no_row c₃.first_met-met.ensures (c₃.any_coordinate_off.ensures ∙ coordinates-sized M s.requires) refl in
+    let m₄ = next_row m₃ c₄.first_met-met-2.ensures (c₄.any_tag_off.ensures ∙ tags-sized M s.requires) refl in
+    let m₅ = next_row m₄ c₅.first_met-met-3.ensures (c₅.any_vertex_off.ensures ∙ vertices-sized M s.requires) refl in
+    let m₆ = next_row m₅ c₆.first_met.ensures (c₆.any_vertex_twice.ensures ∙ twice-sized M s.requires) refl in
     m₆.first

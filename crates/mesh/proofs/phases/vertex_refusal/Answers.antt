@@ -12,7 +12,7 @@ use Rattle.mesh.proofs.phases.vertex_refusal.Goals.{After-shared_slice_known-4-1
 use Rattle.mesh.proofs.phases.vertex_refusal.Goals as goal
 
 abbrev start : After-shared_slice_known-4-1 → Start
-start c = c.before.before.before.before
+start c = (goal.at.After-shared_slice_known-4-1 c).Start
 
 -- ---- the answers, in the order of the code
 pub overflow_mul-n : goal.overflow_mul-n
@@ -21,9 +21,6 @@ overflow_mul-n c = let i = (start c).requires.0.0.twinned.indices in omega arith
 pub any_inner_tagged-requires : goal.any_inner_tagged-requires
 any_inner_tagged-requires c = (start c).requires
 
-pub first_met-requires : goal.first_met-requires
-first_met-requires c = tt
-
 pub returns : goal.returns
 unfolding inner_tagged
-returns c₁₁ positions = (next_row no_row c₁₁.first_met.ensures c₁₁.before.any_inner_tagged.ensures refl).first
+returns c₁₁ positions = (next_row no_row c₁₁.first_met.ensures c₁₁.any_inner_tagged.ensures refl).first

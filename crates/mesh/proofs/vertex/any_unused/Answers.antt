@@ -16,15 +16,15 @@ pub loop-p-init : goal.loop-p-init
 loop-p-init c = search (any-start, rules)
 
 pub returns-then-valences-p-eq0 : goal.returns-then-valences-p-eq0
-returns-then-valences-p-eq0 c = any_found _ _ _ true c.before.before.loop-p-test.true (sym (eq-eqb _ _ c.if-valences-p-eq0.true)) refl
+returns-then-valences-p-eq0 c = any_found _ _ _ true c.loop-p-test.true (sym (eq-eqb _ _ c.if-valences-p-eq0.true)) refl
 
 pub loop-p-smaller : goal.loop-p-smaller
-loop-p-smaller c = add-one-dec _ _ c.before.before.loop-p-test.true
+loop-p-smaller c = add-one-dec _ _ c.loop-p-test.true
 
 pub loop-p-preserved : goal.loop-p-preserved
 loop-p-preserved c =
-    let i = c.before.before in
-    (add-one-le i.loop-p-test.true, any-more _ _ false i.before.loop-p.invariant.1 (sym (ne_eqb _ _ c.if-valences-p-eq0.false)) refl)
+    let i = c in
+    (add-one-le i.loop-p-test.true, any-more _ _ false i.loop-p.invariant.1 (sym (ne_eqb _ _ c.if-valences-p-eq0.false)) refl)
 
 pub returns : goal.returns
 returns c = search (any-not, rules)

@@ -4,18 +4,6 @@ use borrow.Author.Rules.{rules}
 use Rattle.mesh.proofs.CirculationLaws.{back-read-none, back-read-some}
 use Rattle.mesh.proofs.walk.back_around_from.Goals as goal
 
-pub offset_bounds-twins-c : goal.offset_bounds-twins-c
-offset_bounds-twins-c c = omega arith
-
-pub bounds-twins-c : goal.bounds-twins-c
-bounds-twins-c c = omega arith
-
-pub wide-d-requires : goal.wide-d-requires
-wide-d-requires c = tt
-
-pub next_corner-requires : goal.next_corner-requires
-next_corner-requires c = tt
-
 pub returns-then-d-eq-NO_CORNER : goal.returns-then-d-eq-NO_CORNER
 returns-then-d-eq-NO_CORNER c = search (back-read-none, rules)
 

@@ -3,14 +3,8 @@ use borrow.Author.Rules.{rules}
 use Rattle.mesh.proofs.WalkLaws.{run-closed, run-open}
 use Rattle.mesh.proofs.walk.circulate.Goals as goal
 
-pub walk_on-on-requires : goal.walk_on-on-requires
-walk_on-on-requires c = search rules
-
 pub returns-then-on : goal.returns-then-on
 returns-then-on c = search (run-closed, rules)
 
 pub walk_back-requires : goal.walk_back-requires
 walk_back-requires c = search (run-open, rules)
-
-pub returns : goal.returns
-returns c = search rules

@@ -29,7 +29,7 @@ module _ (s : Start) where
 -- ---- the patch list is long enough
 module _ (c : Else-patches-f) where
   abbrev start : Start
-  start = c.before.before.before
+  start = (goal.at.Else-patches-f c).Start
 
   long : patches_short (mesh start) (lent start) ≡ false
   long = le-ltb _ _ c.if-patches-f.false
@@ -37,49 +37,49 @@ module _ (c : Else-patches-f) where
 -- ---- N is in its range: what the patch call meets is what the contract says
 module _ (c : After-patches) where
   abbrev ranged : Else-off_range
-  ranged = let t : After-twins-1 = c.before.before.before in t.before
+  ranged = let t : After-twins-1 = (goal.at.After-patches c).After-twins-1 in t.before
 
   abbrev begin : Start
-  begin = start ranged.before.before
+  begin = start (goal.at.Else-off_range ranged).Else-patches-f
 
   -- the refusal that the patch call meets, with the lists that the code keeps
   abbrev met : Option ℕ
   met = mesh_refusal (mesh begin) (patch_rows (mesh begin) (Lists.lent no-twins (lent begin) no-marks)) []
 
   same : tessellate_refusal (mesh begin) begin.args.n (lent begin) ≡ met
-  same = steps_on (mesh begin) begin.args.n (lent begin) begin.requires.faces-high (sym ranged.before.off_range.ensures ∙ ranged.if-off_range.left)
+  same = steps_on (mesh begin) begin.args.n (lent begin) begin.requires.faces-high (sym ranged.off_range.ensures ∙ ranged.if-off_range.false)
 
 abbrev called : After-marks-2-1 → After-patches
-called c = let patched : After-patches-1 = c.before in patched.before.before
+called c = let patched : After-patches-1 = (goal.at.After-marks-2-1 c).After-patches-1 in patched.before.before
 
 pub overflow_mul-f : goal.overflow_mul-f
-overflow_mul-f c = omega (arith, c.before.before.requires.faces-high)
+overflow_mul-f c = omega (arith, c.requires.faces-high)
 
 pub returns-then-patches-f : goal.returns-then-patches-f
 returns-then-patches-f c =
-    let s = c.before.before.before in
-    refused-mesh (mesh s) s.args.n (lent s) 2 (patches-short (mesh s) s.args.n (lent s) s.requires (lt-ltb _ _ c.if-patches-f.true))
+    let s = c in
+    refused-mesh (mesh (goal.at.returns-then-patches-f s).Start) s.args.n (lent (goal.at.returns-then-patches-f s).Start) 2 (patches-short (mesh (goal.at.returns-then-patches-f s).Start) s.args.n (lent (goal.at.returns-then-patches-f s).Start) s.requires (lt-ltb _ _ c.if-patches-f.true))
 
 pub returns-then-off_range : goal.returns-then-off_range
 returns-then-off_range c =
-    let t = c.before in
-    let k = t.before.before in
-    let s = start k in
+    let t = c in
+    let k = t in
+    let s = start (goal.at.returns-then-off_range k).Else-patches-f in
     refused-mesh (mesh s) s.args.n (lent s) _
-    (steps-off (mesh s) s.args.n (lent s) (long k) (sym t.before.off_range.ensures ∙ t.if-off_range.true) c.steps_refusal.ensures)
+    (steps-off (mesh s) s.args.n (lent s) (long (goal.at.returns-then-off_range k).Else-patches-f) (sym t.off_range.ensures ∙ t.if-off_range.true) c.steps_refusal.ensures)
 
 pub returns-in-Accepted : goal.returns-in-Accepted
 returns-in-Accepted c =
-    let p = called c.before.before.before in
+    let p = called (goal.at.returns-in-Accepted c).After-marks-2-1 in
     let said = p.patches.ensures in
-    let r = result-none (met p) (sym (ap checked c.before.mesh-1.given.1) ∙ said.answer-is) in
+    let r = result-none (met p) (sym (ap checked c.mesh-1.given.1) ∙ said.answer-is) in
     let unmet = same p ∙ r.0 in
     record { answer-is = rw (unmet, r.1); patches-are = said.patches-are ∙ rw (r.0, unmet) }
 
 pub returns-in-Refused : goal.returns-in-Refused
 returns-in-Refused c =
-    let p = called c.before.before.before in
+    let p = called (goal.at.returns-in-Refused c).After-marks-2-1 in
     let said = p.patches.ensures in
-    let r = refusal-met (counts_of (mesh (begin p))) (met p) (sym (ap checked c.before.k-1.given.1) ∙ said.answer-is) in
+    let r = refusal-met (counts_of (mesh (begin p))) (met p) (sym (ap checked c.k-1.given.1) ∙ said.answer-is) in
     let refused = same p ∙ r in
     record { answer-is = rw refused; patches-are = said.patches-are ∙ rw (r, refused) }

@@ -9,19 +9,13 @@ use Rattle.patch.proofs.counts.ends_byte.Goals as goal
 -- ---- both are at most 1
 module _ (c : After-one_if-2) where
   abbrev start : Start
-  start = c.before.before
+  start = (goal.at.After-one_if-2 c).Start
 
-  next-few : c.before.one_if.result ≤ 1
-  next-few = rw c.before.one_if.ensures (indicator-le start.args.next)
+  next-few : c.one_if.result ≤ 1
+  next-few = rw c.one_if.ensures (indicator-le start.args.next)
 
   prev-few : c.one_if-2.result ≤ 1
   prev-few = rw c.one_if-2.ensures (indicator-le start.args.prev)
-
-pub one_if-requires : goal.one_if-requires
-one_if-requires c = tt
-
-pub one_if-requires-2 : goal.one_if-requires-2
-one_if-requires-2 c = tt
 
 pub overflow_mul-result : goal.overflow_mul-result
 overflow_mul-result c = omega (arith, prev-few c)
@@ -34,4 +28,4 @@ overflow_cast-result c = omega (arith, next-few c, prev-few c)
 
 pub returns : goal.returns
 unfolding ends_byte
-returns c = rw (c.before.one_if.ensures, c.one_if-2.ensures)
+returns c = rw (c.one_if.ensures, c.one_if-2.ensures)

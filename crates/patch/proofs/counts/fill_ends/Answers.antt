@@ -13,10 +13,10 @@ use Rattle.patch.proofs.counts.fill_ends.Goals as goal
 -- ---- a turn: half-edge c and the one before it are listed
 module _ (c : In-loop-c) where
   abbrev head : At-loop-c
-  head = c.before
+  head = (goal.at.In-loop-c c).At-loop-c
 
   abbrev start : Start
-  start = head.before.before.before
+  start = (goal.at.At-loop-c head).Start
 
   below : head.loop-c.c < start.args.n
   below = c.loop-c-test.true
@@ -29,25 +29,25 @@ loop-c-init c = filling-none
 
 pub is_boundary-enters-requires : goal.is_boundary-enters-requires
 is_boundary-enters-requires c =
-    let t = c.before in
-    rw c.prev_corner-before.ensures (omega (arith, before-below t, (start t).requires.twins-listed))
+    let t = c in
+    rw c.prev_corner-before.ensures (omega (arith, before-below (goal.at.is_boundary-enters-requires t).In-loop-c, (start (goal.at.is_boundary-enters-requires t).In-loop-c).requires.twins-listed))
 
 pub is_sharp-requires : goal.is_sharp-requires
-is_sharp-requires c = let t = c.before.before in omega (arith, below t, (start t).requires.twins-listed)
+is_sharp-requires c = let t = c in omega (arith, below (goal.at.is_sharp-requires t).In-loop-c, (start (goal.at.is_sharp-requires t).In-loop-c).requires.twins-listed)
 
 -- ---- the end of a turn: the byte
 module _ (c : After-ends_byte) where
   abbrev tested : After-is_boundary-enters
-  tested = c.before.before
+  tested = (goal.at.After-ends_byte c).After-is_boundary-enters
 
   abbrev turn : In-loop-c
-  turn = tested.before.before
+  turn = (goal.at.After-is_boundary-enters tested).In-loop-c
 
   byte : c.ends_byte.result ≡ ends_in (start turn).args.twins.now (head turn).loop-c.c
   byte =
       c.ends_byte.ensures
-      ∙ ap₂ ends_byte c.before.is_sharp.ensures
-      (tested.is_boundary-enters.ensures ∙ ap (boundary_in (start turn).args.twins.now) tested.before.prev_corner-before.ensures)
+      ∙ ap₂ ends_byte c.is_sharp.ensures
+      (tested.is_boundary-enters.ensures ∙ ap (boundary_in (start turn).args.twins.now) tested.prev_corner-before.ensures)
 
 pub bounds-ends-c : goal.bounds-ends-c
 bounds-ends-c c = let t = turn c in filling-room (start t).requires.room (head t).loop-c.invariant (below t)
@@ -62,7 +62,7 @@ pub loop-c-preserved : goal.loop-c-preserved
 loop-c-preserved c = let t = turn c in filling-more (start t).requires.room (head t).loop-c.invariant (below t) (byte c)
 
 pub shape_of-ends : goal.shape_of-ends
-shape_of-ends c = c.before.loop-c.invariant.long
+shape_of-ends c = c.loop-c.invariant.long
 
 pub returns : goal.returns
-returns c = filling-all c.before.loop-c.invariant c.loop-c-test.false
+returns c = filling-all c.loop-c.invariant c.loop-c-test.false

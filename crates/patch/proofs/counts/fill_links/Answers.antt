@@ -12,10 +12,10 @@ use Rattle.patch.proofs.counts.fill_links.Goals as goal
 -- ---- a turn: half-edge c is listed
 module _ (c : In-loop-c) where
   abbrev head : At-loop-c
-  head = c.before
+  head = (goal.at.In-loop-c c).At-loop-c
 
   abbrev start : Start
-  start = head.before
+  start = (goal.at.At-loop-c head).Start
 
   below : head.loop-c.c < start.args.n
   below = c.loop-c-test.true
@@ -28,7 +28,7 @@ offset_bounds-twins-c c = omega (arith, below c, (start c).requires.0)
 
 -- ---- its twin is read and stored
 abbrev turn : After-shared_slice_known-1 → In-loop-c
-turn c = c.before
+turn c = (goal.at.After-shared_slice_known-1 c).In-loop-c
 
 pub bounds-twins-c : goal.bounds-twins-c
 bounds-twins-c c = omega (arith, below (turn c), (start (turn c)).requires.0)
@@ -46,7 +46,7 @@ pub loop-c-preserved : goal.loop-c-preserved
 loop-c-preserved c = let t = turn c in filling-more (start t).requires.1 (head t).loop-c.invariant (below t) refl
 
 pub shape_of-links : goal.shape_of-links
-shape_of-links c = c.before.loop-c.invariant.long
+shape_of-links c = c.loop-c.invariant.long
 
 pub returns : goal.returns
-returns c = filling-all c.before.loop-c.invariant c.loop-c-test.false
+returns c = filling-all c.loop-c.invariant c.loop-c-test.false

@@ -13,10 +13,10 @@ use Rattle.patch.proofs.counts.fill_rules.Goals as goal
 -- ---- a turn: the function's entry
 module _ (c : In-loop-p) where
   abbrev head : At-loop-p
-  head = c.before
+  head = (goal.at.In-loop-p c).At-loop-p
 
   abbrev start : Start
-  start = let known = head.before in known.before.before.before.before
+  start = let known = head in known.before.before.before.before
 
   below : head.loop-p.p < length start.args.tags.now
   below = c.loop-p-test.true
@@ -26,7 +26,7 @@ loop-p-init c = filling-none
 
 -- ---- the end of a turn
 abbrev turn : After-corner_rule → In-loop-p
-turn c = c.before.before.before.before
+turn c = (goal.at.After-corner_rule c).In-loop-p
 
 -- a rule is at most 16 more than a valence
 pub overflow_cast-rules : goal.overflow_cast-rules
@@ -51,7 +51,7 @@ pub loop-p-preserved : goal.loop-p-preserved
 loop-p-preserved c = let t = turn c in filling-more (start t).requires.room (head t).loop-p.invariant (below t) c.corner_rule.ensures
 
 pub shape_of-rules : goal.shape_of-rules
-shape_of-rules c = c.before.loop-p.invariant.long
+shape_of-rules c = c.loop-p.invariant.long
 
 pub returns : goal.returns
-returns c = filling-all c.before.loop-p.invariant c.loop-p-test.false
+returns c = filling-all c.loop-p.invariant c.loop-p-test.false

@@ -17,21 +17,21 @@ use Rattle.patch.proofs.counts.fill_weights.Goals.{After-corner_weight, After-sl
 use Rattle.patch.proofs.counts.fill_weights.Goals as goal
 
 abbrev entry : After-slice_known-1 → Start
-entry c = c.before.before.before.before
+entry c = (goal.at.After-slice_known-1 c).Start
 
 -- the vertex of corner c has a place in the tables
 module _ (w : After-wide-p) where
   abbrev head : At-loop-c
-  head = w.before.before.before
+  head = (goal.at.After-wide-p w).At-loop-c
 
   abbrev start : Start
-  start = entry head.before
+  start = entry (goal.at.At-loop-c head).After-slice_known-1
 
   abbrev p : ℕ
   p = w.wide-p.result
 
   below : head.loop-c.c < length start.args.faces.now
-  below = w.before.before.loop-c-test.taken
+  below = w.loop-c-test.true
 
   named : p < max_vertices
   named = rw w.wide-p.ensures (start.requires.indices.named head.loop-c.c below)
@@ -43,17 +43,17 @@ pub offset_bounds-leaving-p : goal.offset_bounds-leaving-p
 offset_bounds-leaving-p c = omega (arith, named c)
 
 pub bounds-leaving-p : goal.bounds-leaving-p
-bounds-leaving-p c = omega (arith, named c.before, (start c.before).requires.counts.leaving-listed)
+bounds-leaving-p c = omega (arith, named (goal.at.bounds-leaving-p c).After-wide-p, (start (goal.at.bounds-leaving-p c).After-wide-p).requires.counts.leaving-listed)
 
 pub offset_bounds-valences-p : goal.offset_bounds-valences-p
-offset_bounds-valences-p c = omega (arith, named c.before)
+offset_bounds-valences-p c = omega (arith, named (goal.at.offset_bounds-valences-p c).After-wide-p)
 
 pub bounds-valences-p : goal.bounds-valences-p
-bounds-valences-p c = let w = c.before.before in omega (arith, named w, (start w).requires.counts.valences-listed)
+bounds-valences-p c = let w = c in omega (arith, named (goal.at.bounds-valences-p w).After-wide-p, (start (goal.at.bounds-valences-p w).After-wide-p).requires.counts.valences-listed)
 
 -- the end of a turn
 abbrev placed : After-corner_weight → After-wide-p
-placed c = c.before.before.before
+placed c = (goal.at.After-corner_weight c).After-wide-p
 
 -- a weight is 4, or at most twice as many as there are corners
 pub overflow_cast-weights : goal.overflow_cast-weights
@@ -89,7 +89,7 @@ loop-c-preserved c =
     (c.corner_weight.ensures ∙ weight-entries (shape_of s.args.faces.now) l.c (p w) _ _ w.wide-p.ensures inner faces)
 
 pub shape_of-weights : goal.shape_of-weights
-shape_of-weights c = c.before.loop-c.invariant.long
+shape_of-weights c = c.loop-c.invariant.long
 
 pub returns : goal.returns
-returns c = filling-all c.before.loop-c.invariant c.loop-c-test.false
+returns c = filling-all c.loop-c.invariant c.loop-c-test.false

@@ -13,7 +13,7 @@ use Rattle.patch.proofs.counts.render.Goals as goal
 
 -- ---- the counts: the function's entry, from their tables
 abbrev made : After-leaving-1 → Start
-made c = let k = c.before.before.before.before in k.before.before.before.before
+made c = let k = c in k.before.before.before.before
 
 pub count_faces-requires : goal.count_faces-requires
 count_faces-requires c =
@@ -23,10 +23,10 @@ count_faces-requires c =
 -- ---- the weights
 module _ (c : After-fill_weights-arg-1) where
   abbrev counted : After-count_faces
-  counted = let lent = c.before.before.before in lent.before.before
+  counted = let lent = c in lent.before.before
 
   abbrev start : Start
-  start = made counted.before
+  start = made (goal.at.After-count_faces counted).After-leaving-1
 
   abbrev valences : List ℕ
   valences = counted.count_faces.last.1.1.0
@@ -42,33 +42,33 @@ fill_weights-requires c =
 -- ---- the rules
 module _ (c : After-fill_rules-arg-1) where
   abbrev weighed : After-fill_weights
-  weighed = let lent = c.before.before in lent.before.before.before
+  weighed = let lent = c in lent.before.before.before
 
   abbrev weights : List ℕ
   weights = weighed.fill_weights.last.1.1.1.0
 
 pub fill_rules-requires : goal.fill_rules-requires
 fill_rules-requires c =
-    let b = (weighed c).before in
-    let t = (start b).requires.source in
-    let counts = (counted b).count_faces.ensures in
+    let b = (weighed c) in
+    let t = (start (goal.at.After-fill_weights b).After-fill_weights-arg-1).requires.source in
+    let counts = (counted (goal.at.After-fill_weights b).After-fill_weights-arg-1).count_faces.ensures in
     record {
       valences-listed = omega (arith, t.few, counts.valences-listed);
       leaving-listed = omega (arith, t.few, counts.leaving-listed);
       few = λ p h. rw (counts.valences-are p (lt_of_lt_of_le h t.few)) (t.valences-few p h);
-      room = (start b).requires.room.rules-listed;
+      room = (start (goal.at.After-fill_weights b).After-fill_weights-arg-1).requires.room.rules-listed;
     }
 
 -- ---- the far ends of sharp edges
 module _ (c : After-fill_ends-arg-1) where
   abbrev ruled : After-fill_rules
-  ruled = c.before.before.before
+  ruled = (goal.at.After-fill_ends-arg-1 c).After-fill_rules
 
   abbrev rules : List ℕ
   rules = ruled.fill_rules.last.1.1.1.0
 
   abbrev begun : After-fill_weights-arg-1
-  begun = (weighed ruled.before).before
+  begun = (weighed (goal.at.After-fill_rules ruled).After-fill_rules-arg-1).before
 
 pub fill_ends-requires : goal.fill_ends-requires
 fill_ends-requires c =
@@ -77,15 +77,15 @@ fill_ends-requires c =
 
 pub returns : goal.returns
 returns c =
-    let e : After-fill_ends = c.before.before in
-    let r = ruled e.before in
-    let w = weighed r.before in
-    let b = w.before in
-    let s = start b in
+    let e : After-fill_ends = (goal.at.returns c).After-fill_ends in
+    let r = ruled (goal.at.After-fill_ends e).After-fill_ends-arg-1 in
+    let w = weighed (goal.at.After-fill_rules r).After-fill_rules-arg-1 in
+    let b = w in
+    let s = start (goal.at.After-fill_weights b).After-fill_weights-arg-1 in
     record {
       rules-are =
-          rendered-rules s.requires.source (valences b) (leaving b) s.args.rules-1.now (rules e.before)
-          (counted b).count_faces.ensures r.fill_rules.ensures;
-      weights-are = rendered-weights s.requires.source s.args.weights-1.now (weights r.before) w.fill_weights.ensures;
-      ends-are = rendered-ends s.requires.source s.args.ends-1.now e.fill_ends.new.ends e.fill_ends.ensures;
+          rendered-rules s.requires.source (valences (goal.at.After-fill_weights b).After-fill_weights-arg-1) (leaving (goal.at.After-fill_weights b).After-fill_weights-arg-1) s.args.rules.now (rules (goal.at.After-fill_ends e).After-fill_ends-arg-1)
+          (counted (goal.at.After-fill_weights b).After-fill_weights-arg-1).count_faces.ensures r.fill_rules.ensures;
+      weights-are = rendered-weights s.requires.source s.args.weights.now (weights (goal.at.After-fill_rules r).After-fill_rules-arg-1) w.fill_weights.ensures;
+      ends-are = rendered-ends s.requires.source s.args.ends.now e.fill_ends.new.ends e.fill_ends.ensures;
     }

@@ -24,7 +24,7 @@ use Rattle.patch.proofs.fill.fill_patches.Goals as goal
 
 -- ---- the three tables of the pass are made: the function's entry, and the mesh
 abbrev made : After-ends-1 → Start
-made c = let k = c.before.before.before in k.before.before.before.before
+made c = let k = c in k.before.before.before.before
 
 module _ (s : Start) where
   abbrev mesh : IndexedMesh
@@ -61,7 +61,7 @@ render-requires c =
 
 -- ---- the table of values
 abbrev rendering : After-values-1 → After-render
-rendering c = c.before.before.before.before
+rendering c = (goal.at.After-values-1 c).After-render
 
 pub slice_bounds-fill_values-end : goal.slice_bounds-fill_values-end
 slice_bounds-fill_values-end c = refl
@@ -69,10 +69,10 @@ slice_bounds-fill_values-end c = refl
 -- ---- the table of links
 module _ (c : After-links-1) where
   abbrev valuing : After-fill_values
-  valuing = c.before.before
+  valuing = (goal.at.After-links-1 c).After-fill_values
 
   abbrev entry : Start
-  entry = made (rendering valuing.before).before
+  entry = made (goal.at.After-render (rendering (goal.at.After-fill_values valuing).After-values-1)).After-ends-1
 
 pub slice_bounds-fill_links-end : goal.slice_bounds-fill_links-end
 slice_bounds-fill_links-end c = refl
@@ -83,16 +83,16 @@ fill_links-requires c = ((entry c).requires.twinned.listed, corners-few (entry c
 -- ---- before the corner points are written: what the passes gave
 module _ (c : After-flags-1) where
   abbrev linking : After-fill_links
-  linking = let k = c.before.before.before in k.before.before.before
+  linking = let k = c in k.before.before.before
 
   abbrev valued : After-fill_values
-  valued = valuing linking.before
+  valued = valuing (goal.at.After-fill_links linking).After-links-1
 
   abbrev read : After-render
-  read = rendering valued.before
+  read = rendering (goal.at.After-fill_values valued).After-values-1
 
   abbrev start : Start
-  start = made read.before
+  start = made (goal.at.After-render read).After-ends-1
 
   abbrev rules : List ℕ
   rules = read.render.last.1.1.1.0
@@ -151,10 +151,10 @@ fill_corners-requires c =
 -- ---- before the patches are written: all tables
 module _ (c : After-write_patches-arg-2-1) where
   abbrev cornered : After-fill_corners
-  cornered = let k = c.before.before.before in let l = k.before.before.before in l.before.before.before
+  cornered = let k = c in let l = k in l.before.before.before
 
   abbrev begun : After-flags-1
-  begun = cornered.before
+  begun = (goal.at.After-fill_corners cornered).After-flags-1
 
   abbrev points : List ℤ
   points = cornered.fill_corners.last.1.1.1.1.1.1.0
@@ -188,7 +188,7 @@ write_patches-requires c =
 
 -- ---- the end
 abbrev written : After-slice_known-2-1 → After-write_patches
-written c = c.before.before.before
+written c = (goal.at.After-slice_known-2-1 c).After-write_patches
 
 pub shape_of-patches : goal.shape_of-patches
 shape_of-patches c = (written c).write_patches.auto.patches
@@ -199,8 +199,8 @@ shape_of-marks c = (written c).write_patches.auto.marks
 pub returns : goal.returns
 returns c =
     let w = written c in
-    let b = w.before in
-    let s = start (begun b) in (
-      w.write_patches.ensures.numbers-are ∙ filled-ext _ _ (number-written s.requires.accepted (tables b)),
-      w.write_patches.ensures.marks-are ∙ filled-ext _ _ (mark-written s.requires.accepted (tables b)),
+    let b = w in
+    let s = start (begun (goal.at.After-write_patches b).After-write_patches-arg-2-1) in (
+      w.write_patches.ensures.numbers-are ∙ filled-ext _ _ (number-written s.requires.accepted (tables (goal.at.After-write_patches b).After-write_patches-arg-2-1)),
+      w.write_patches.ensures.marks-are ∙ filled-ext _ _ (mark-written s.requires.accepted (tables (goal.at.After-write_patches b).After-write_patches-arg-2-1)),
     )

@@ -12,6 +12,14 @@ use Rattle.patch.specs.Written.{PatchLists, patch_lists, written_number, written
 use Rattle.patch.proofs.SourceLaws.{number-placed, mark-placed}
 use Rattle.patch.proofs.fill.write_patches.Given as goal
 
+-- what is written after g patches
+pub record Written (D : PatchLists) (f : ℕ) (patches₀ : List ℤ) (marks₀ : List ℕ) (patches : List ℤ) (marks : List ℕ) (g : ℕ) : Type 0 where
+  pub most : g ≤ f
+  pub patches-long : length patches ≡ length patches₀
+  pub patches-are : patches ≡ filled (written_number D) (48 * g) patches₀
+  pub marks-long : length marks ≡ length marks₀
+  pub marks-are : marks ≡ filled (written_mark D) (16 * g) marks₀
+
 abbrev pub invariant-loop-g : goal.invariant-loop-g
 invariant-loop-g l =
     Written (patch_lists l.faces l.values l.links l.weights l.points l.flags) l.f l.initial.patches l.initial.marks l.patches l.marks l.g

@@ -11,6 +11,6 @@ use Rattle.patch.proofs.sums.add_at.Goals as goal
 
 pub returns : goal.returns
 returns c =
-    let s = c.before.before in
-    let f : SFits w64 (get_or s.args.sums.now s.args.p (pos 0)) = record { sfits = c.before.plus-arg-1.given } in
+    let s = c in
+    let f : SFits w64 (get_or s.args.sums.now s.args.p (pos 0)) = record { sfits = c.plus-arg-1.given } in
     ap (λ (z : ℤ). set s.args.sums.now s.args.p z) (read_back w64 c.plus.type_inv (simp (to_z-of_z f, to_z-of_z s.ranges.x) at c.plus.ensures))

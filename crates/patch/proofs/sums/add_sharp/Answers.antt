@@ -17,7 +17,7 @@ use Rattle.patch.proofs.sums.add_sharp.Goals as goal
 
 -- ---- the function's entry, from the test, and the term
 abbrev entry : After-shared_slice_known-2-1 → Start
-entry c = c.before.before
+entry c = (goal.at.After-shared_slice_known-2-1 c).Start
 
 module _ (s : Start) where
   abbrev term : ℤ
@@ -26,23 +26,20 @@ module _ (s : Start) where
   term-small : nat_abs term ≤ 5 * max_coordinate
   term-small = sharp-by-size s.requires.source.bounded s.args.k s.args.c s.args.ends.now
 
-pub bounds-ends-c : goal.bounds-ends-c
-bounds-ends-c c = search rules
-
 -- ---- nothing is added
 pub returns-then-ends-c-eq0 : goal.returns-then-ends-c-eq0
 returns-then-ends-c-eq0 c =
-    let s = entry c.before in
-    let sums = s.args.sharp-1.now in
+    let s = entry (goal.at.returns-then-ends-c-eq0 c).After-shared_slice_known-2-1 in
+    let sums = s.args.sharp.now in
     let old = get_or sums s.args.p (pos 0) in
     sym (ap (λ (z : ℤ). set sums s.args.p (old +ℤ z)) (term-none s.args.values.now s.args.ends.now s.args.k s.args.c c.if-ends-c-eq0.true)
     ∙ ap (set sums s.args.p) (+ℤ_idr old) ∙ set-get_or sums s.args.p (pos 0))
 
 -- ---- the term is added
 abbrev tested : After-add_at-arg-1 → Start
-tested c = entry c.before.before
+tested c = entry (goal.at.After-add_at-arg-1 c).After-shared_slice_known-2-1
 
-term-read : (c : After-sharp_term) → to_z w64 (of_z w64 c.sharp_term.result) ≡ term (tested c.before)
+term-read : (c : After-sharp_term) → to_z w64 (of_z w64 c.sharp_term.result) ≡ term (tested (goal.at.After-sharp_term c).After-add_at-arg-1)
 term-read c = read_back w64 c.sharp_term.type_inv c.sharp_term.ensures
 
 pub sharp_term-requires : goal.sharp_term-requires
@@ -50,15 +47,12 @@ sharp_term-requires c = (tested c).requires.source
 
 pub add_at-requires : goal.add_at-requires
 add_at-requires c =
-    let s = tested c.before in
+    let s = tested (goal.at.add_at-requires c).After-add_at-arg-1 in
     (s.requires.place, rw (term-read c) (omega (arith, term-small s, s.requires.small)))
-
-pub shape_of-sharp : goal.shape_of-sharp
-shape_of-sharp c = search rules
 
 pub returns : goal.returns
 returns c =
-    let t = c.before.before in
-    let s = tested t.before in
-    let sums = s.args.sharp-1.now in
-    c.before.add_at.ensures ∙ ap (λ (z : ℤ). set sums s.args.p (get_or sums s.args.p (pos 0) +ℤ z)) (term-read t)
+    let t = c in
+    let s = tested (goal.at.returns t).After-add_at-arg-1 in
+    let sums = s.args.sharp.now in
+    c.add_at.ensures ∙ ap (λ (z : ℤ). set sums s.args.p (get_or sums s.args.p (pos 0) +ℤ z)) (term-read (goal.at.returns t).After-sharp_term)

@@ -35,16 +35,16 @@ module _ (s : Start) where
 -- ---- the vertex of corner c has a place in the tables, and the sums so far are small
 module _ (w : After-wide-p) where
   abbrev head : At-loop-c
-  head = w.before.before.before
+  head = (goal.at.After-wide-p w).At-loop-c
 
   abbrev start : Start
-  start = head.before.before.before
+  start = (goal.at.At-loop-c head).Start
 
   abbrev p : ℕ
   p = w.wide-p.result
 
   below : head.loop-c.c < length start.args.faces.now
-  below = w.before.before.loop-c-test.taken
+  below = w.loop-c-test.true
 
   few : head.loop-c.c < 1024
   few = omega (arith, below, start.requires.indices.few)
@@ -52,24 +52,24 @@ module _ (w : After-wide-p) where
   named : p < max_vertices
   named = rw w.wide-p.ensures (start.requires.indices.named head.loop-c.c below)
 
-  ring-small : nat_abs (get_or head.loop-c.ring-1 p (pos 0)) ≤ 5 * max_coordinate * head.loop-c.c
+  ring-small : nat_abs (get_or head.loop-c.ring p (pos 0)) ≤ 5 * max_coordinate * head.loop-c.c
   ring-small =
       scattered-bound (vertex_of start.args.faces.now) p (ring_of start) head.loop-c.c head.loop-c.invariant.first-is named
       (λ d _. ring-term-small start d)
 
-  sharp-small : nat_abs (get_or head.loop-c.sharp-1 p (pos 0)) ≤ 5 * max_coordinate * head.loop-c.c
+  sharp-small : nat_abs (get_or head.loop-c.sharp p (pos 0)) ≤ 5 * max_coordinate * head.loop-c.c
   sharp-small =
       scattered-bound (vertex_of start.args.faces.now) p (sharp-of start) head.loop-c.c
       head.loop-c.invariant.second_is named (λ d _. sharp-term-small start d)
 
 pub loop-c-init : goal.loop-c-init
 loop-c-init c =
-    let s = c.before.before in
+    let s = c in
     record { most = omega arith; first-is = scattered-none s.requires.ring-blank; second_is = scattered-none s.requires.sharp-blank }
 
 module _ (c : After-ring_term) where
   abbrev placed : After-wide-p
-  placed = c.before.before
+  placed = (goal.at.After-ring_term c).After-wide-p
 
   ring-read : to_z w64 (of_z w64 c.ring_term.result) ≡ ring_of (start placed) (head placed).loop-c.c
   ring-read = read_back w64 c.ring_term.type_inv c.ring_term.ensures
@@ -84,10 +84,10 @@ add_at-requires c =
 -- ---- the sharp sum
 module _ (c : After-add_sharp-arg-1) where
   abbrev added : After-add_at
-  added = c.before.before
+  added = (goal.at.After-add_sharp-arg-1 c).After-add_at
 
   abbrev turn : After-wide-p
-  turn = placed added.before
+  turn = placed (goal.at.After-add_at added).After-ring_term
 
 pub add_sharp-requires : goal.add_sharp-requires
 add_sharp-requires c =
@@ -101,7 +101,7 @@ add_sharp-requires c =
 
 -- ---- the end of a turn
 abbrev lent : After-sharp-1 → After-add_sharp-arg-1
-lent c = c.before.before
+lent c = (goal.at.After-sharp-1 c).After-add_sharp-arg-1
 
 pub overflow_step-c : goal.overflow_step-c
 overflow_step-c c = omega (arith, few (turn (lent c)))
@@ -119,20 +119,20 @@ loop-c-preserved c =
       most = add-one-le (below w);
       first-is =
           scattered-more sum_ℤ-monoid s.requires.ring-blank l.invariant.first-is (named w) w.wide-p.ensures
-          (ap (λ (z : ℤ). get_or l.ring-1 (p w) (pos 0) +ℤ z) (ring-read a.before)) a.add_at.ensures;
-      second_is = scattered-more sum_ℤ-monoid s.requires.sharp-blank l.invariant.second_is (named w) w.wide-p.ensures refl c.before.add_sharp.ensures;
+          (ap (λ (z : ℤ). get_or l.ring (p w) (pos 0) +ℤ z) (ring-read (goal.at.After-add_at a).After-ring_term)) a.add_at.ensures;
+      second_is = scattered-more sum_ℤ-monoid s.requires.sharp-blank l.invariant.second_is (named w) w.wide-p.ensures refl c.add_sharp.ensures;
     }
 
 pub shape_of-ring : goal.shape_of-ring
-shape_of-ring c = c.before.loop-c.invariant.first-is.long
+shape_of-ring c = c.loop-c.invariant.first-is.long
 
 pub shape_of-sharp : goal.shape_of-sharp
-shape_of-sharp c = c.before.loop-c.invariant.second_is.long
+shape_of-sharp c = c.loop-c.invariant.second_is.long
 
 pub returns : goal.returns
 unfolding ring_sum_by sharp_sum_by
 returns c =
-    let inv = c.before.loop-c.invariant in
+    let inv = c.loop-c.invariant in
     record {
       ring-are = scattered-all inv.most c.loop-c-test.false inv.first-is;
       sharp-are = scattered-all inv.most c.loop-c-test.false inv.second_is;

@@ -8,13 +8,7 @@ use Rattle.patch.proofs.sums.ring_term.Goals.{After-face_values, After-ring_of}
 use Rattle.patch.proofs.sums.ring_term.Goals as goal
 
 abbrev viewed : After-ring_of → After-face_values
-viewed c = c.before
-
-pub face_values-requires : goal.face_values-requires
-face_values-requires c = tt
-
-pub ring_of-requires : goal.ring_of-requires
-ring_of-requires c = tt
+viewed c = (goal.at.After-ring_of c).After-face_values
 
 pub returns : goal.returns
 returns c =

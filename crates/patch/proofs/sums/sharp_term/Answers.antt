@@ -23,13 +23,13 @@ use Rattle.patch.proofs.sums.sharp_term.Goals as goal
 -- ---- the two values
 module _ (c : After-value_if-prev) where
   abbrev first : After-value_if-next
-  first = c.before.before.before
+  first = (goal.at.After-value_if-prev c).After-value_if-next
 
   abbrev viewed : After-face_values-a
-  viewed = first.before.before.before
+  viewed = (goal.at.After-value_if-next first).After-face_values-a
 
   abbrev start : Start
-  start = viewed.before.before
+  start = (goal.at.After-face_values-a viewed).Start
 
   abbrev corner : ℕ
   corner = start.args.c
@@ -67,4 +67,4 @@ plus-requires c =
     ))
 
 pub returns : goal.returns
-returns c = read_back w64 c.plus.type_inv (rw (next-is c.before, prev-is c.before) at c.plus.ensures)
+returns c = read_back w64 c.plus.type_inv (rw (next-is (goal.at.returns c).After-value_if-prev, prev-is (goal.at.returns c).After-value_if-prev) at c.plus.ensures)

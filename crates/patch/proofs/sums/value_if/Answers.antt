@@ -3,10 +3,10 @@ use mir.Facts.{to_z-of_z, sfits_widen}
 use Rattle.patch.proofs.sums.value_if.Goals as goal
 
 pub overflow_cast-result : goal.overflow_cast-result
-overflow_cast-result c = let f = c.before.ranges.x in rw (to_z-of_z f) (sfits_widen tt f)
+overflow_cast-result c = let f = c.ranges.x in rw (to_z-of_z f) (sfits_widen tt f)
 
 pub returns-then-b : goal.returns-then-b
-returns-then-b c = let f = c.before.ranges.x in rw (c.if-b.true, to_z-of_z f, to_z-of_z (sfits_widen tt f))
+returns-then-b c = let f = c.ranges.x in rw (c.if-b.true, to_z-of_z f, to_z-of_z (sfits_widen tt f))
 
 pub returns : goal.returns
 returns c = rw c.if-b.false

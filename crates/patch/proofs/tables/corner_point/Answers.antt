@@ -35,16 +35,13 @@ overflow_cast-ring s = rw (to_z-of_z s.ranges.ring) (ring-fits s)
 pub overflow_cast-sharp : goal.overflow_cast-sharp
 overflow_cast-sharp s = rw (to_z-of_z s.ranges.sharp) (sharp-fits s)
 
-pub corner_value-value-requires : goal.corner_value-value-requires
-corner_value-value-requires s = tt
-
 -- ---- what the call gave
 module _ (c : After-struct_told-1) where
   abbrev called : After-corner_value-value
-  called = c.before.before
+  called = (goal.at.After-struct_told-1 c).After-corner_value-value
 
   abbrev start : Start
-  start = called.before
+  start = (goal.at.After-corner_value-value called).Start
 
   value-is : called.corner_value-value.result ≡ value_of (point start)
   value-is =

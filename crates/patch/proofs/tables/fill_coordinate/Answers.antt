@@ -19,19 +19,13 @@ use Rattle.patch.specs.PatchTables.{CornerLists, corner_lists, Coordinate, store
 use Rattle.patch.specs.declared.tables.Stored.{Stored}
 use Rattle.patch.proofs.TableLaws.{blank}
 use Rattle.patch.proofs.CornerTableLaws.{ruled-entries, coordinate-none, coordinate-more}
+use Rattle.patch.proofs.tables.fill_coordinate.Invariants.{Passed}
 use Rattle.patch.proofs.tables.fill_coordinate.Goals.{After-add_sums, After-corner_point-arg-in-loop-p-1, After-kept, After-position-x, After-ring-1, After-struct_told-1, At-loop-p, In-loop-p, Start}
 use Rattle.patch.proofs.tables.fill_coordinate.Goals as goal
 
--- what is written after p vertices
-record Passed (q : ℕ → Fraction) (v k : ℕ) (points₀ : List ℤ) (flags₀ : List ℕ) (points : List ℤ) (flags : List ℕ) (p : ℕ) : Type 0 where
-  most : p ≤ v
-  points-long : length points ≡ length points₀
-  marks-long : length flags ≡ length flags₀
-  written : Coordinate q p k points₀ points flags₀ flags
-
 -- ---- the sums are made: the function's entry, from the first of their tables
 abbrev made : After-ring-1 → Start
-made c = let k = c.before.before in k.before.before.before
+made c = let k = c in k.before.before.before
 
 pub slice_bounds-add_sums-end : goal.slice_bounds-add_sums-end
 slice_bounds-add_sums-end c = refl
@@ -41,7 +35,7 @@ slice_bounds-add_sums-end-2 c = refl
 
 pub add_sums-requires : goal.add_sums-requires
 add_sums-requires c =
-    let s = made c.before in
+    let s = made (goal.at.add_sums-requires c).After-ring-1 in
     let t = s.requires.source in
     record {
       indices = t.indices;
@@ -54,10 +48,10 @@ add_sums-requires c =
 -- ---- at the loop's head: the function's entry, the sums, and the corner points
 module _ (l : At-loop-p) where
   abbrev summed : After-add_sums
-  summed = l.before.before.before
+  summed = (goal.at.At-loop-p l).After-add_sums
 
   abbrev start : Start
-  start = made summed.before.before
+  start = made (goal.at.After-add_sums summed).After-ring-1
 
   abbrev ring : List ℤ
   ring = summed.add_sums.last.1.1.1.1.0
@@ -82,12 +76,12 @@ loop-p-init c = record { most = omega arith; points-long = refl; marks-long = re
 -- ---- a turn: its vertex has a place in the tables
 module _ (c : In-loop-p) where
   abbrev entry : Start
-  entry = start c.before
+  entry = start (goal.at.In-loop-p c).At-loop-p
 
-  below : p c.before < entry.args.v
+  below : p (goal.at.In-loop-p c).At-loop-p < entry.args.v
   below = c.loop-p-test.true
 
-  few : p c.before < max_vertices
+  few : p (goal.at.In-loop-p c).At-loop-p < max_vertices
   few = lt_of_lt_of_le below entry.requires.source.few
 
 pub overflow_mul-i : goal.overflow_mul-i
@@ -97,36 +91,36 @@ pub overflow_add-i : goal.overflow_add-i
 overflow_add-i c = omega (arith, few c, (entry c).requires.axis)
 
 pub bounds-rules-p : goal.bounds-rules-p
-bounds-rules-p c = let t = c.before.before in lt_of_lt_of_le (below t) (entry t).requires.source.rules-listed
+bounds-rules-p c = let t = c in lt_of_lt_of_le (below (goal.at.bounds-rules-p t).In-loop-p) (entry (goal.at.bounds-rules-p t).In-loop-p).requires.source.rules-listed
 
 pub offset_bounds-ring-p : goal.offset_bounds-ring-p
-offset_bounds-ring-p c = omega (arith, few c.before.before)
+offset_bounds-ring-p c = omega (arith, few (goal.at.offset_bounds-ring-p c).In-loop-p)
 
 pub bounds-ring-p : goal.bounds-ring-p
-bounds-ring-p c = few c.before.before
+bounds-ring-p c = few (goal.at.bounds-ring-p c).In-loop-p
 
 pub offset_bounds-sharp-p : goal.offset_bounds-sharp-p
-offset_bounds-sharp-p c = omega (arith, few c.before.before.before)
+offset_bounds-sharp-p c = omega (arith, few (goal.at.offset_bounds-sharp-p c).In-loop-p)
 
 pub bounds-sharp-p : goal.bounds-sharp-p
-bounds-sharp-p c = few c.before.before.before
+bounds-sharp-p c = few (goal.at.bounds-sharp-p c).In-loop-p
 
 -- ---- at the call of `corner_point`: what was read for vertex p
 module _ (c : After-corner_point-arg-in-loop-p-1) where
   abbrev valued : After-position-x
-  valued = c.before.before.before
+  valued = (goal.at.After-corner_point-arg-in-loop-p-1 c).After-position-x
 
   abbrev turn : In-loop-p
-  turn = valued.before
+  turn = (goal.at.After-position-x valued).In-loop-p
 
   abbrev head : At-loop-p
-  head = turn.before
+  head = (goal.at.In-loop-p turn).At-loop-p
 
   value_read : to_z w32 (of_z w32 valued.position-x.result) ≡ get_or (lists head).positions (3 * p head + (start head).args.k) (pos 0)
   value_read = read_back w32 valued.position-x.ok valued.position-x.ensures
 
   ring-read : to_z w64 (of_z w64 (get_or (ring head) (p head) (pos 0))) ≡ ring_sum_by (lists head).faces (lists head).values (start head).args.k (p head)
-  ring-read = read_back w64 c.before.corner_point-arg-1.given ((summed head).add_sums.ensures.ring-are (p head) (few turn))
+  ring-read = read_back w64 c.corner_point-arg-1.given ((summed head).add_sums.ensures.ring-are (p head) (few turn))
 
   sharp-read : to_z w64 (of_z w64 (get_or (sharp head) (p head) (pos 0)))
       ≡ sharp_sum_by (lists head).faces (lists head).values (lists head).ends (start head).args.k (p head)
@@ -140,17 +134,17 @@ corner_point-value-requires c =
 -- ---- what is stored for vertex p
 module _ (c : After-struct_told-1) where
   abbrev asked : After-corner_point-arg-in-loop-p-1
-  asked = c.before.before
+  asked = (goal.at.After-struct_told-1 c).After-corner_point-arg-in-loop-p-1
 
   abbrev at : At-loop-p
   at = head asked
 
-  value-is : c.before.corner_point-value.result ≡ stored_of (point at (p at))
+  value-is : c.corner_point-value.result ≡ stored_of (point at (p at))
   value-is =
-      c.before.corner_point-value.ensures
+      c.corner_point-value.ensures
       ∙ ap stored_of (ruled-entries (lists at) (start at).args.k (p at) _ _ _ (value_read asked) (ring-read asked) (sharp-read asked))
 
-  units-is : to_z w32 (of_z w32 c.before.corner_point-value.result.units) ≡ units (point at (p at))
+  units-is : to_z w32 (of_z w32 c.corner_point-value.result.units) ≡ units (point at (p at))
   units-is = read_back w32 c.struct_told-1.given.0.1 (ap (λ (v : Stored). v.units) value-is)
 
   placed : 3 * p at + (start at).args.k < length at.loop-p.points
@@ -166,11 +160,11 @@ pub bounds-points-i : goal.bounds-points-i
 bounds-points-i c = placed c
 
 pub bounds-flags-p : goal.bounds-flags-p
-bounds-flags-p c = marked c.before
+bounds-flags-p c = marked (goal.at.bounds-flags-p c).After-struct_told-1
 
 -- ---- the end of a turn
 abbrev told : After-kept → After-struct_told-1
-told c = c.before.before
+told c = (goal.at.After-kept c).After-struct_told-1
 
 pub bounds-flags-p-in-loop-p : goal.bounds-flags-p-in-loop-p
 bounds-flags-p-in-loop-p c = marked (told c)
@@ -197,13 +191,13 @@ loop-p-preserved c =
     }
 
 pub shape_of-points : goal.shape_of-points
-shape_of-points c = c.before.loop-p.invariant.points-long
+shape_of-points c = c.loop-p.invariant.points-long
 
 pub shape_of-flags : goal.shape_of-flags
-shape_of-flags c = c.before.loop-p.invariant.marks-long
+shape_of-flags c = c.loop-p.invariant.marks-long
 
 pub returns : goal.returns
 returns c =
-    let l = c.before in
-    let all : p l ≡ (start l).args.v = le_antisymm l.loop-p.invariant.most c.loop-p-test.false in
+    let l = c in
+    let all : p (goal.at.returns l).At-loop-p ≡ (start (goal.at.returns l).At-loop-p).args.v = le_antisymm l.loop-p.invariant.most c.loop-p-test.false in
     rw all at l.loop-p.invariant.written

@@ -21,6 +21,13 @@ use Rattle.patch.proofs.TableLaws.{blank}
 use Rattle.patch.proofs.CornerTableLaws.{ruled-entries, coordinate-none, coordinate-more}
 use Rattle.patch.proofs.tables.fill_coordinate.Given as goal
 
+-- what is written after p vertices
+pub record Passed (q : ℕ → Fraction) (v k : ℕ) (points₀ : List ℤ) (flags₀ : List ℕ) (points : List ℤ) (flags : List ℕ) (p : ℕ) : Type 0 where
+  pub most : p ≤ v
+  pub points-long : length points ≡ length points₀
+  pub marks-long : length flags ≡ length flags₀
+  pub written : Coordinate q p k points₀ points flags₀ flags
+
 abbrev pub invariant-loop-p : goal.invariant-loop-p
 invariant-loop-p l =
     Passed (ruled_point (corner_lists l.positions l.faces l.values l.ends l.rules) l.k) l.v l.k l.initial.points l.initial.flags l.points l.flags l.p

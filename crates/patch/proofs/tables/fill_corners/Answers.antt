@@ -11,20 +11,14 @@ use Rattle.finite.specs.Fold.{fold_below}
 use Rattle.mask.specs.Mask.{Fraction}
 use Rattle.patch.specs.PatchTables.{CornerLists, corner_lists, CornerPoints, ruled_point}
 use Rattle.patch.proofs.CornerTableLaws.{corners-more}
+use Rattle.patch.proofs.tables.fill_corners.Invariants.{Passed}
 use Rattle.patch.proofs.tables.fill_corners.Goals.{After-fill_coordinate, After-slice_known-in-loop-k-1, At-loop-k, In-loop-k, Start}
 use Rattle.patch.proofs.tables.fill_corners.Goals as goal
-
--- what is written after k coordinates
-record Passed (q : ℕ → ℕ → Fraction) (v : ℕ) (points₀ : List ℤ) (flags₀ : List ℕ) (points : List ℤ) (flags : List ℕ) (k : ℕ) : Type 0 where
-  most : k ≤ 3
-  points-long : length points ≡ length points₀
-  marks-long : length flags ≡ length flags₀
-  written : CornerPoints q v k points flags
 
 pub loop-k-init : goal.loop-k-init
 unfolding fold_below
 loop-k-init c =
-    let s = c.before.before.before.before in
+    let s = c in
     record {
       most = omega arith;
       points-long = refl;
@@ -40,17 +34,17 @@ lists s =
 -- ---- a turn: the loop's head and the function's entry
 module _ (c : In-loop-k) where
   abbrev head : At-loop-k
-  head = c.before
+  head = (goal.at.In-loop-k c).At-loop-k
 
   abbrev start : Start
-  start = let k = head.before.before.before in k.before.before
+  start = let k = head in k.before.before
 
   below : head.loop-k.k < 3
   below = c.loop-k-test.true
 
 pub fill_coordinate-requires : goal.fill_coordinate-requires
 fill_coordinate-requires c =
-    let t : In-loop-k = c.before.before in
+    let t : In-loop-k = (goal.at.fill_coordinate-requires c).In-loop-k in
     let s = start t in
     let inv = (head t).loop-k.invariant in
     record {
@@ -63,10 +57,10 @@ fill_coordinate-requires c =
 -- ---- the end of a turn
 module _ (c : After-slice_known-in-loop-k-1) where
   abbrev written : After-fill_coordinate
-  written = c.before.before.before
+  written = (goal.at.After-slice_known-in-loop-k-1 c).After-fill_coordinate
 
   abbrev turn : In-loop-k
-  turn = written.before.before.before
+  turn = (goal.at.After-fill_coordinate written).In-loop-k
 
 pub overflow_step-k : goal.overflow_step-k
 overflow_step-k c = omega (arith, below (turn c))
@@ -90,13 +84,13 @@ loop-k-preserved c =
     }
 
 pub shape_of-points : goal.shape_of-points
-shape_of-points c = c.before.loop-k.invariant.points-long
+shape_of-points c = c.loop-k.invariant.points-long
 
 pub shape_of-flags : goal.shape_of-flags
-shape_of-flags c = c.before.loop-k.invariant.marks-long
+shape_of-flags c = c.loop-k.invariant.marks-long
 
 pub returns : goal.returns
 returns c =
-    let l = c.before.loop-k in
+    let l = c.loop-k in
     let all : l.k ≡ 3 = le_antisymm l.invariant.most c.loop-k-test.false in
     rw all at l.invariant.written

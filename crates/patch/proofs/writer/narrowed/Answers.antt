@@ -25,13 +25,13 @@ module _ (z : ℤ) (l : nat_abs z ≤ 256 * max_coordinate) where
 
 -- ---- the function's entry
 abbrev start : After-struct_told-1 → Start
-start c = c.before.before
+start c = (goal.at.After-struct_told-1 c).Start
 
 abbrev start₂ : After-struct_told-2-1 → Start
-start₂ c = start c.before.before
+start₂ c = start (goal.at.After-struct_told-2-1 c).After-struct_told-1
 
 abbrev start₃ : After-struct_told-3-1 → Start
-start₃ c = start₂ c.before.before
+start₃ c = start₂ (goal.at.After-struct_told-3-1 c).After-struct_told-2-1
 
 pub overflow_cast-result : goal.overflow_cast-result
 overflow_cast-result c = let s = start c in rw (wide s.args.p.x s.requires.x-small) (narrow-fits s.args.p.x s.requires.x-small)

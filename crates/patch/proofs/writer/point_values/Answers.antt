@@ -15,31 +15,31 @@ lists s =
     patch_lists a.faces.now a.values.now a.links.now a.weights.now a.points.now a.flags.now
 
 abbrev start : After-shared_slice_known-2-1 → Start
-start c = c.before.before
+start c = (goal.at.After-shared_slice_known-2-1 c).Start
 
 pub vertex_points-requires : goal.vertex_points-requires
 vertex_points-requires c =
-    let s = start c.before.before in
+    let s = start (goal.at.vertex_points-requires c).After-shared_slice_known-2-1 in
     let l = s.requires.corner in
     record { corner = l; pointed = λ k. s.requires.source.pointed s.args.c k l; marked = s.requires.source.marked s.args.c l }
 
 pub narrowed-requires : goal.narrowed-requires
 narrowed-requires c =
-    let s = start c.before.before.before in
+    let s = start (goal.at.narrowed-requires c).After-shared_slice_known-2-1 in
     let D = lists s in
     point-narrow (λ k. along_at D.values D.links D.weights k s.args.c)
     (λ k. along-at-sized s.requires.source.bounded k D.links D.weights s.args.c) c.along_point.ensures
 
 pub narrowed-requires-in-Before : goal.narrowed-requires-in-Before
 narrowed-requires-in-Before c =
-    let s = start c.before.before.before in
+    let s = start (goal.at.narrowed-requires-in-Before c).After-shared_slice_known-2-1 in
     let D = lists s in
     point-narrow (λ k. before_at D.values D.links D.weights k s.args.c)
     (λ k. before-at-sized s.requires.source.bounded k D.links D.weights s.args.c) c.before_point.ensures
 
 pub narrowed-requires-in-Inner : goal.narrowed-requires-in-Inner
 narrowed-requires-in-Inner c =
-    let s = start c.before.before.before in
+    let s = start (goal.at.narrowed-requires-in-Inner c).After-shared_slice_known-2-1 in
     let D = lists s in
     let w = weight_at D.weights s.args.c in
     point-narrow (λ k. inner_at D.values w k s.args.c)
@@ -47,16 +47,16 @@ narrowed-requires-in-Inner c =
 
 pub returns-in-Corner : goal.returns-in-Corner
 unfolding point_from exact_from
-returns-in-Corner c = rw c.before.enum_told-1.given.1 c.vertex_points.ensures
+returns-in-Corner c = rw c.enum_told-1.given.1 c.vertex_points.ensures
 
 pub returns-in-Along : goal.returns-in-Along
 unfolding point_from exact_from fold_below
-returns-in-Along c = rw c.before.before.enum_told-in-Along-1.given.1 (c.narrowed.ensures ∙ ap stored c.before.along_point.ensures)
+returns-in-Along c = rw c.enum_told-in-Along-1.given.1 (c.narrowed.ensures ∙ ap stored c.along_point.ensures)
 
 pub returns-in-Before : goal.returns-in-Before
 unfolding point_from exact_from fold_below
-returns-in-Before c = rw c.before.before.enum_told-in-Before-1.given.1 (c.narrowed-in-Before.ensures ∙ ap stored c.before.before_point.ensures)
+returns-in-Before c = rw c.enum_told-in-Before-1.given.1 (c.narrowed-in-Before.ensures ∙ ap stored c.before_point.ensures)
 
 pub returns-in-Inner : goal.returns-in-Inner
 unfolding point_from exact_from fold_below
-returns-in-Inner c = rw c.before.before.enum_told-in-Inner-1.given.1 (c.narrowed-in-Inner.ensures ∙ ap stored c.before.inner_point.ensures)
+returns-in-Inner c = rw c.enum_told-in-Inner-1.given.1 (c.narrowed-in-Inner.ensures ∙ ap stored c.inner_point.ensures)

@@ -10,6 +10,6 @@ use Rattle.patch.proofs.writer.vertex_point.Goals as goal
 
 pub returns : goal.returns
 returns c =
-    let w = c.before in
-    let a = w.before.before.before.args in
+    let w = c in
+    let a = w.args in
     read_back w32 c.result-1.given (ap (λ (p : ℕ). get_or a.points.now (3 * p + a.k) (pos 0)) w.wide.ensures)

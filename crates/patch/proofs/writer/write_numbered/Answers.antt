@@ -19,26 +19,26 @@ lists s =
 
 -- ---- the way back from the table's entry and from the call
 abbrev start : After-kind-1 → Start
-start c = c.before.before.before
+start c = (goal.at.After-kind-1 c).Start
 
 abbrev called : After-write_point → After-turned-c
-called c = c.before.before
+called c = (goal.at.After-write_point c).After-turned-c
 
 pub overflow_cast-m : goal.overflow_cast-m
 unfolding owner
-overflow_cast-m c = omega (arith, owner-below (start c).args.m (omega arith))
+overflow_cast-m c = omega (arith, owner-below (start (goal.at.overflow_cast-m c).After-kind-1).args.m (omega arith))
 
 pub turned-c-requires : goal.turned-c-requires
 unfolding owner
-turned-c-requires c = owner-below (start c).args.m (omega arith)
+turned-c-requires c = owner-below (start (goal.at.turned-c-requires c).After-kind-1).args.m (omega arith)
 
 pub write_point-requires : goal.write_point-requires
 write_point-requires c =
-    let s = start c.before.before in
+    let s = start (goal.at.write_point-requires c).After-kind-1 in
     record {
       values = record {
         source = s.requires.source;
-        corner = owner-listed s.requires.source s.args.g _ _ s.requires.face c.before.turned-c.ensures;
+        corner = owner-listed s.requires.source s.args.g _ _ s.requires.face c.turned-c.ensures;
       };
       room = s.requires.room;
     }
@@ -47,13 +47,13 @@ write_point-requires c =
 pub returns : goal.returns
 unfolding owner kind mark_from
 returns c =
-    let t = called c.before in
-    let s = start t.before in
+    let t = called (goal.at.returns c).After-write_point in
+    let s = start (goal.at.After-turned-c t).After-kind-1 in
     let l : s.args.m < 16 = s.requires.sixteen in
-    let w = c.before.write_point.ensures in
+    let w = c.write_point.ensures in
     record {
       numbers-are =
           (rw (t.turned-c.ensures, table_at kind_of inner) at w.numbers-are)
-          ∙ sym (filled-ext 3 s.args.point-1.now (number-point (lists s) s.args.g s.args.m));
+          ∙ sym (filled-ext 3 s.args.point.now (number-point (lists s) s.args.g s.args.m));
       mark-is = rw (t.turned-c.ensures, table_at kind_of inner) at w.mark-is;
     }

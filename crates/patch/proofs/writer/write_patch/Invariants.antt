@@ -10,6 +10,14 @@ use Rattle.finite.proofs.FilledLaws.{filled-start, filled_more, filled-all, stre
 use Rattle.patch.specs.Written.{PatchLists, patch_lists, number_from, mark_from}
 use Rattle.patch.proofs.writer.write_patch.Given as goal
 
+-- what is written after m points: three numbers and a mark of each
+pub record Written (D : PatchLists) (g : ℕ) (patch₀ : List ℤ) (marks₀ : List ℕ) (patch : List ℤ) (marks : List ℕ) (m : ℕ) : Type 0 where
+  pub most : m ≤ 16
+  pub patch-long : length patch ≡ length patch₀
+  pub patch-is : patch ≡ filled (number_from D g) (3 * m) patch₀
+  pub marks-long : length marks ≡ length marks₀
+  pub marks-are : marks ≡ filled (mark_from D g) m marks₀
+
 abbrev pub invariant-loop-m : goal.invariant-loop-m
 invariant-loop-m l =
     Written (patch_lists l.faces l.values l.links l.weights l.points l.flags) l.g l.initial.patch l.initial.marks l.patch l.marks l.m

@@ -22,10 +22,10 @@ lists s =
 
 -- ---- the call that gave the point, and the function's entry
 abbrev made : After-struct_told-1 → After-point_values-p
-made c = c.before
+made c = (goal.at.After-struct_told-1 c).After-point_values-p
 
 abbrev start : After-shared_slice_known-2-1 → Start
-start c = c.before.before
+start c = (goal.at.After-shared_slice_known-2-1 c).Start
 
 pub point_values-p-requires : goal.point_values-p-requires
 point_values-p-requires c = (start c).requires.values
@@ -35,9 +35,9 @@ bounds-point-1 c = simp (length-set) (omega arith)
 
 pub returns : goal.returns
 returns c =
-    let told = c.before.before.before in
-    let v = made told in
-    let s = start v.before in
+    let told = c in
+    let v = made (goal.at.returns told).After-struct_told-1 in
+    let s = start (goal.at.After-point_values-p v).After-shared_slice_known-2-1 in
     let f : ℕ → ℤ = λ k. point_from (lists s) k s.args.c (kind_of s.args.kind) in
     record {
       numbers-are =

@@ -18,9 +18,6 @@ module _ (c : Start) where
       ≡ c.args.sum +ℤ pos c.args.weight *ℤ c.args.value
   sum = ap₂ ◌+ℤ◌ (to_z-of_z c.ranges.sum) (ap (λ (z : ℤ). to_z w64 (of_z w64 z)) product ∙ to_z-of_z c.requires.product)
 
-pub overflow_cast-result : goal.overflow_cast-result
-overflow_cast-result c = omega arith
-
 pub overflow_mul-result : goal.overflow_mul-result
 overflow_mul-result c = rw (product c) c.requires.product
 

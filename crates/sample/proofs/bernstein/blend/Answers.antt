@@ -21,32 +21,32 @@ loop-i-init c = (omega arith, ap (of_z w64) (sym (fold-zero (pos 0) ◌+ℤ◌ _
 abbrev terms : Start → ℕ → ℤ
 terms s = term s.args.t1 (λ j. get_or s.args.t2 j (pos 0))
 
-sum_is : (c : At-loop-i) → to_z w64 c.loop-i.sum ≡ sum_below_ℤ (terms c.before) c.loop-i.i
+sum_is : (c : At-loop-i) → to_z w64 c.loop-i.sum ≡ sum_below_ℤ (terms (goal.at.At-loop-i c).Start) c.loop-i.i
 sum_is c =
-    let s = c.before in
+    let s = c in
     ap (to_z w64) c.loop-i.invariant.1 ∙ to_z-of_z (partial-fits s.requires c.loop-i.i c.loop-i.invariant.0)
 
 pub add_product-sum-requires : goal.add_product-sum-requires
 add_product-sum-requires c =
-    let l = c.before.before in
-    let s = l.before in
+    let l = c in
+    let s = l in
     let e = to_z-of_z (value-fits s.requires l.loop-i.i (omega arith)) in
     record {
       product = rw e (term_fits s.requires l.loop-i.i (omega arith));
-      total = rw (e, sum_is l, ← fold_step (pos 0) ◌+ℤ◌ (terms s) l.loop-i.i) (partial-fits s.requires (l.loop-i.i + 1) (omega arith));
+      total = rw (e, sum_is (goal.at.add_product-sum-requires l).At-loop-i, ← fold_step (pos 0) ◌+ℤ◌ (terms (goal.at.add_product-sum-requires s).Start) l.loop-i.i) (partial-fits s.requires (l.loop-i.i + 1) (omega arith));
     }
 
 pub loop-i-preserved : goal.loop-i-preserved
 loop-i-preserved c =
-    let l = c.before.before.before in
-    let s = l.before in
+    let l = c in
+    let s = l in
     let e = to_z-of_z (value-fits s.requires l.loop-i.i (omega arith)) in (
       omega arith,
       ap (of_z w64)
           (c.add_product-sum.ensures
-          ∙ ap₂ (λ (x y : ℤ). x +ℤ pos (get_or s.args.t1 l.loop-i.i 0) *ℤ y) (sum_is l) e
-          ∙ sym (fold_step (pos 0) ◌+ℤ◌ (terms s) l.loop-i.i)),
+          ∙ ap₂ (λ (x y : ℤ). x +ℤ pos (get_or s.args.t1 l.loop-i.i 0) *ℤ y) (sum_is (goal.at.loop-i-preserved l).At-loop-i) e
+          ∙ sym (fold_step (pos 0) ◌+ℤ◌ (terms (goal.at.loop-i-preserved s).Start) l.loop-i.i)),
     )
 
 pub returns : goal.returns
-returns c = sum_is c.before ∙ ap (sum_below_ℤ (terms c.before.before)) (le_antisymm c.before.loop-i.invariant.0 c.loop-i-test.false)
+returns c = sum_is (goal.at.returns c).At-loop-i ∙ ap (sum_below_ℤ (terms (goal.at.returns c).Start)) (le_antisymm c.loop-i.invariant.0 c.loop-i-test.false)

@@ -10,10 +10,10 @@ use Rattle.sample.proofs.bernstein.column.Goals as goal
 
 pub returns : goal.returns
 returns c =
-    let p = c.before in
-    let q = p.before in
-    let r = q.before in
-    let s = r.before.args in
+    let p = c in
+    let q = p in
+    let r = q in
+    let s = r.args in
     list-of-four _
     (read_back w64 r.control.type_inv (r.control.ensures ∙ ap (control_of s.patch.now s.k) (sym (add-zero s.i))))
     (read_back w64 q.control-2.type_inv q.control-2.ensures)

@@ -10,20 +10,8 @@ use mir.Facts.{to_z-of_z, sfits_widen}
 use Rattle.sample.proofs.bernstein.control.Goals.{After-result-1}
 use Rattle.sample.proofs.bernstein.control.Goals as goal
 
-pub overflow_mul-result : goal.overflow_mul-result
-overflow_mul-result c = omega arith
-
-pub overflow_add-result : goal.overflow_add-result
-overflow_add-result c = omega arith
-
-pub offset_bounds-patch-m : goal.offset_bounds-patch-m
-offset_bounds-patch-m c = omega arith
-
-pub bounds-patch-m : goal.bounds-patch-m
-bounds-patch-m c = omega arith
-
 -- the number that is read fits 32 bits
-read_fits : (c : After-result-1) → SFits w32 (get_or c.before.args.patch.now (3 * c.before.args.m + c.before.args.k) (pos 0))
+read_fits : (c : After-result-1) → SFits w32 (get_or c.args.patch.now (3 * c.args.m + c.args.k) (pos 0))
 read_fits c = record { sfits = c.result-1.given }
 
 pub overflow_cast-result : goal.overflow_cast-result

@@ -11,10 +11,10 @@ curve-requires c = c.requires.1
 
 pub blend-requires : goal.blend-requires
 blend-requires c =
-    let s = c.before in
+    let s = c in
     record { light = s.requires.0; fine = subst Fine (sym c.curve.ensures) (curve-fine s.requires.1) }
 
 pub returns : goal.returns
 returns c =
-    let s = c.before.before in
-    read_back w64 c.blend.type_inv (blended-list s.args.u _ c.before.curve.ensures c.blend.ensures)
+    let s = c in
+    read_back w64 c.blend.type_inv (blended-list s.args.u _ c.curve.ensures c.blend.ensures)

@@ -19,34 +19,34 @@ asked s i l e = record { light = s.requires.light; fine = subst Fine (sym e) (co
 
 -- ---- the way back from each blend
 abbrev start : After-blend → Start
-start c = c.before.before
+start c = (goal.at.After-blend c).Start
 
 abbrev start-2 : After-blend-2 → Start
-start-2 c = start c.before.before
+start-2 c = start (goal.at.After-blend-2 c).After-blend
 
 abbrev start-3 : After-blend-3 → Start
-start-3 c = start-2 c.before.before
+start-3 c = start-2 (goal.at.After-blend-3 c).After-blend-2
 
 pub blend-requires : goal.blend-requires
 blend-requires c = asked c.before 0 (omega arith) c.column.ensures
 
 pub blend-requires-2 : goal.blend-requires-2
-blend-requires-2 c = asked (start c.before) 1 (omega arith) c.column-2.ensures
+blend-requires-2 c = asked (start (goal.at.blend-requires-2 c).After-blend) 1 (omega arith) c.column-2.ensures
 
 pub blend-requires-3 : goal.blend-requires-3
-blend-requires-3 c = asked (start-2 c.before) 2 (omega arith) c.column-3.ensures
+blend-requires-3 c = asked (start-2 (goal.at.blend-requires-3 c).After-blend-2) 2 (omega arith) c.column-3.ensures
 
 pub blend-requires-4 : goal.blend-requires-4
-blend-requires-4 c = asked (start-3 c.before) 3 (omega arith) c.column-4.ensures
+blend-requires-4 c = asked (start-3 (goal.at.blend-requires-4 c).After-blend-3) 3 (omega arith) c.column-4.ensures
 
 pub returns : goal.returns
 returns c =
-    let p = c.before.before in
-    let q = p.before.before in
-    let r = q.before.before in
-    let v = r.before.before.args.v in
+    let p = c in
+    let q = p in
+    let r = q in
+    let v = r.args.v in
     list-of-four _
-    (read_back w64 r.blend.type_inv (blended-list v _ r.before.column.ensures r.blend.ensures))
-    (read_back w64 q.blend-2.type_inv (blended-list v _ q.before.column-2.ensures q.blend-2.ensures))
-    (read_back w64 p.blend-3.type_inv (blended-list v _ p.before.column-3.ensures p.blend-3.ensures))
-    (read_back w64 c.blend-4.type_inv (blended-list v _ c.before.column-4.ensures c.blend-4.ensures))
+    (read_back w64 r.blend.type_inv (blended-list v _ r.column.ensures r.blend.ensures))
+    (read_back w64 q.blend-2.type_inv (blended-list v _ q.column-2.ensures q.blend-2.ensures))
+    (read_back w64 p.blend-3.type_inv (blended-list v _ p.column-3.ensures p.blend-3.ensures))
+    (read_back w64 c.blend-4.type_inv (blended-list v _ c.column-4.ensures c.blend-4.ensures))

@@ -14,9 +14,6 @@ module _ (c : Start) where
   cube : c.args.n * c.args.n * c.args.n ≤ 32 * 32 * 32
   cube = mul-le-mul square c.requires
 
-pub overflow_cast-m : goal.overflow_cast-m
-overflow_cast-m c = omega arith
-
 pub overflow_mul-cube : goal.overflow_mul-cube
 overflow_mul-cube c = omega (arith, square c)
 

@@ -11,7 +11,7 @@ use Rattle.sample.proofs.bernstein.patch_curves.Goals as goal
 -- ---- the weights are there: what the curve of coordinate k asks
 module _ (c : After-weights-v) where
   abbrev start : Start
-  start = c.before
+  start = (goal.at.After-weights-v c).Start
 
   asked : (k : ℕ) → k < 3 → ForCurve start.args.patch.now k c.weights-v.result
   asked k l = record {
@@ -27,20 +27,20 @@ pub curve-x-requires : goal.curve-x-requires
 curve-x-requires c = asked c 0 (omega arith)
 
 pub curve-y-requires : goal.curve-y-requires
-curve-y-requires c = asked c.before 1 (omega arith)
+curve-y-requires c = asked (goal.at.curve-y-requires c).After-weights-v 1 (omega arith)
 
 pub curve-z-requires : goal.curve-z-requires
-curve-z-requires c = asked c.before.before 2 (omega arith)
+curve-z-requires c = asked (goal.at.curve-z-requires c).After-weights-v 2 (omega arith)
 
 pub divisor-requires : goal.divisor-requires
-divisor-requires c = (start c.before.before.before).requires.across.most
+divisor-requires c = (start (goal.at.divisor-requires c).After-weights-v).requires.across.most
 
 pub returns : goal.returns
 returns c =
-    let y : After-curve-y = c.before.before in
-    let w : After-weights-v = y.before.before in
+    let y : After-curve-y = (goal.at.returns c).After-curve-y in
+    let w : After-weights-v = (goal.at.After-curve-y y).After-weights-v in
     let s = (start w).args in
     same-curves c.divisor.ensures
-    (curve-list s.patch.now _ _ 0 w.weights-v.ensures y.before.curve-x.ensures)
+    (curve-list s.patch.now _ _ 0 w.weights-v.ensures y.curve-x.ensures)
     (curve-list s.patch.now _ _ 1 w.weights-v.ensures y.curve-y.ensures)
-    (curve-list s.patch.now _ _ 2 w.weights-v.ensures c.before.curve-z.ensures)
+    (curve-list s.patch.now _ _ 2 w.weights-v.ensures c.curve-z.ensures)

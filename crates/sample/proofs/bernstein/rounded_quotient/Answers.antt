@@ -13,9 +13,6 @@ use Rattle.sample.proofs.BlendLaws.{same-coordinate}
 use Rattle.sample.proofs.bernstein.rounded_quotient.Goals.{After-round-quotient, After-struct_told-1, Start}
 use Rattle.sample.proofs.bernstein.rounded_quotient.Goals as goal
 
-pub round-quotient-requires : goal.round-quotient-requires
-round-quotient-requires c = tt
-
 -- what is asked fits
 fits : (s : Start) → SFits w32 (nearest s.args.sum s.args.divisor)
 fits s = sfits-abs _ (omega (arith, nearest-bounded s.args.sum s.args.divisor max_control s.requires.least s.requires.within))
@@ -23,10 +20,10 @@ fits s = sfits-abs _ (omega (arith, nearest-bounded s.args.sum s.args.divisor ma
 -- and is what was rounded
 module _ (c : After-struct_told-1) where
   abbrev called : After-round-quotient
-  called = c.before.before
+  called = (goal.at.After-struct_told-1 c).After-round-quotient
 
   abbrev start : Start
-  start = called.before
+  start = (goal.at.After-round-quotient called).Start
 
   rounds : to_z w64 (of_z w64 called.round-quotient.result.value) ≡ nearest start.args.sum start.args.divisor
   rounds = read_back w64 c.struct_told-1.given.0.1 (rw (to_z-of_z start.ranges.sum) at called.round-quotient.ensures.0)

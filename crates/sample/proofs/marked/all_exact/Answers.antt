@@ -20,8 +20,8 @@ loop-i-init c = (sym (fold-zero true ◌&&◌ (set c)), omega arith)
 
 pub loop-i-preserved : goal.loop-i-preserved
 loop-i-preserved c =
-    let l = c.before.before in
-    (ap (λ (b : Bool). b && set l.before l.loop-i.i) l.loop-i.invariant.0 ∙ sym (fold_step true ◌&&◌ (set l.before) l.loop-i.i), omega arith)
+    let l = c in
+    (ap (λ (b : Bool). b && set (goal.at.loop-i-preserved l).Start l.loop-i.i) l.loop-i.invariant.0 ∙ sym (fold_step true ◌&&◌ (set (goal.at.loop-i-preserved l).Start) l.loop-i.i), omega arith)
 
 pub returns : goal.returns
-returns c = c.before.loop-i.invariant.0 ∙ ap (all_below (set c.before.before)) (le_antisymm c.before.loop-i.invariant.1 c.loop-i-test.false)
+returns c = c.loop-i.invariant.0 ∙ ap (all_below (set (goal.at.returns c).Start)) (le_antisymm c.loop-i.invariant.1 c.loop-i-test.false)

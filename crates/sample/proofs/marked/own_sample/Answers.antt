@@ -13,16 +13,16 @@ use Rattle.sample.proofs.marked.own_sample.Goals as goal
 -- ---- no cause is met
 module _ (c : Else-k-ne0) where
   abbrev start : Start
-  start = c.before.before
+  start = (goal.at.Else-k-ne0 c).Start
 
   nothing-met : (let s = start.args in first_met (sample_rows s.patches.now s.f s.n s.a s.b) ≡ none)
-  nothing-met = sym c.before.sample_refusal-k.ensures ∙ ap refusal_of c.if-k-ne0.false
+  nothing-met = sym c.sample_refusal-k.ensures ∙ ap refusal_of c.if-k-ne0.false
 
   holds : (let s = start.args in SampleAllowed s.patches.now s.f s.n s.a s.b)
   holds = allowed _ _ _ _ _ nothing-met
 
 pub returns-then-k-ne0 : goal.returns-then-k-ne0
-returns-then-k-ne0 c = refused _ _ _ _ _ (sym c.before.sample_refusal-k.ensures ∙ refusal-some _ c.if-k-ne0.true)
+returns-then-k-ne0 c = refused _ _ _ _ _ (sym c.sample_refusal-k.ensures ∙ refusal-some _ c.if-k-ne0.true)
 
 pub overflow_mul-at : goal.overflow_mul-at
 overflow_mul-at c = omega (arith, (holds c).listed)
@@ -38,7 +38,7 @@ slice_bounds-point-count c = omega (arith, (holds c).listed)
 
 pub point-requires : goal.point-requires
 point-requires c =
-    let h = (holds c.before).samplable in
+    let h = (holds (goal.at.point-requires c).Else-k-ne0).samplable in
     record {
       small = h.small;
       at = step-at h.at _ (omega (arith, h.at.within, h.across.within));
@@ -47,5 +47,5 @@ point-requires c =
 
 pub returns : goal.returns
 returns c =
-    let e : Else-k-ne0 = c.before.before in
+    let e : Else-k-ne0 = (goal.at.returns c).Else-k-ne0 in
     answered _ _ _ _ _ (nothing-met e) (holds e).listed c.point.ensures

@@ -24,16 +24,16 @@ pub loop-i-init : goal.loop-i-init
 loop-i-init c = (sym (fold-zero false ◌||◌ (off c)), omega arith)
 
 -- what the call said of the number at i
-told : (c : After-beyond-off) → c.beyond-off.result ≡ off c.before.before.before.before c.before.before.before.loop-i.i
+told : (c : After-beyond-off) → c.beyond-off.result ≡ off (goal.at.After-beyond-off c).Start c.loop-i.i
 told c =
-    let x = get_or c.before.before.before.before.args.patch.now c.before.before.before.loop-i.i (pos 0) in
-    let f : SFits w32 x = record { sfits = c.before.beyond-arg-1.given } in
+    let x = get_or c.args.patch.now c.loop-i.i (pos 0) in
+    let f : SFits w32 x = record { sfits = c.beyond-arg-1.given } in
     c.beyond-off.ensures ∙ ap (λ (z : ℤ). ltb max_control (nat_abs z)) (to_z-of_z f)
 
 pub loop-i-preserved : goal.loop-i-preserved
 loop-i-preserved c =
-    let l = c.before.before.before in
-    (ap₂ ◌||◌ l.loop-i.invariant.0 (told c) ∙ sym (fold_step false ◌||◌ (off l.before) l.loop-i.i), omega arith)
+    let l = c in
+    (ap₂ ◌||◌ l.loop-i.invariant.0 (told c) ∙ sym (fold_step false ◌||◌ (off (goal.at.loop-i-preserved l).Start) l.loop-i.i), omega arith)
 
 pub returns : goal.returns
-returns c = c.before.loop-i.invariant.0 ∙ ap (any_below (off c.before.before)) (le_antisymm c.before.loop-i.invariant.1 c.loop-i-test.false)
+returns c = c.loop-i.invariant.0 ∙ ap (any_below (off (goal.at.returns c).Start)) (le_antisymm c.loop-i.invariant.1 c.loop-i-test.false)

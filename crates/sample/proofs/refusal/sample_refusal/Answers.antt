@@ -24,37 +24,37 @@ module _ (s : Start) where
   place = place_off s.args.n s.args.a s.args.b
 
 -- ---- the face is listed: 12 is passed
-past-12 : (c : Else-patches-f) → From (rows c.before) (row (controls c.before) 13 ∷ (row (place c.before) 14 ∷ []))
-past-12 c = let s = c.before in row-passed (all-rows (rows s)) (face-on s.args.patches.now s.args.f c.if-patches-f.false)
+past-12 : (c : Else-patches-f) → From (rows (goal.at.Else-patches-f c).Start) (row (controls (goal.at.Else-patches-f c).Start) 13 ∷ (row (place (goal.at.Else-patches-f c).Start) 14 ∷ []))
+past-12 c = let s = c in row-passed (all-rows (rows (goal.at.Else-patches-f s).Start)) (face-on s.args.patches.now s.args.f c.if-patches-f.false)
 
 -- ---- the control values are tested: what the test said of 13
 module _ (c : After-any_control_off) where
   abbrev listed : Else-patches-f
-  listed = c.before.before
+  listed = (goal.at.After-any_control_off c).Else-patches-f
 
-  told : controls listed.before ≡ c.any_control_off.result
-  told = sym (patch-off _ _ listed.if-patches-f.left) ∙ sym c.any_control_off.ensures
+  told : controls (goal.at.Else-patches-f listed).Start ≡ c.any_control_off.result
+  told = sym (patch-off _ _ listed.if-patches-f.false) ∙ sym c.any_control_off.ensures
 
 -- ---- they are within their limit: 13 is passed
 module _ (c : Else-any_control_off) where
   abbrev start : Start
-  start = (listed c.before).before
+  start = (listed (goal.at.Else-any_control_off c).After-any_control_off).before
 
   controls-on : controls start ≡ false
-  controls-on = told c.before ∙ c.if-any_control_off.false
+  controls-on = told (goal.at.Else-any_control_off c).After-any_control_off ∙ c.if-any_control_off.false
 
   past-13 : From (rows start) (row (place start) 14 ∷ [])
-  past-13 = row-passed (past-12 (listed c.before)) controls-on
+  past-13 = row-passed (past-12 (listed (goal.at.Else-any_control_off c).After-any_control_off)) controls-on
 
 -- ---- the answers, in the order of the code
 pub returns-then-patches-f : goal.returns-then-patches-f
-returns-then-patches-f c = let s = c.before in sym (row-met (all-rows (rows s)) (face-off s.args.patches.now s.args.f c.if-patches-f.true))
+returns-then-patches-f c = let s = c in sym (row-met (all-rows (rows (goal.at.returns-then-patches-f s).Start)) (face-off s.args.patches.now s.args.f c.if-patches-f.true))
 
 pub returns-then-any_control_off : goal.returns-then-any_control_off
-returns-then-any_control_off c = sym (row-met (past-12 (listed c.before)) (told c.before ∙ c.if-any_control_off.true))
+returns-then-any_control_off c = sym (row-met (past-12 (listed (goal.at.returns-then-any_control_off c).After-any_control_off)) (told (goal.at.returns-then-any_control_off c).After-any_control_off ∙ c.if-any_control_off.true))
 
 pub returns-then-place_off : goal.returns-then-place_off
-returns-then-place_off c = sym (row-met (past-13 c.before.before) (sym c.before.place_off.ensures ∙ c.if-place_off.true))
+returns-then-place_off c = sym (row-met (past-13 (goal.at.returns-then-place_off c).Else-any_control_off) (sym c.place_off.ensures ∙ c.if-place_off.true))
 
 pub returns : goal.returns
-returns c = sym (row-passed (past-13 c.before.before) (sym c.before.place_off.ensures ∙ c.if-place_off.false)).same
+returns c = sym (row-passed (past-13 (goal.at.returns c).Else-any_control_off) (sym c.place_off.ensures ∙ c.if-place_off.false)).same

@@ -9,16 +9,16 @@ use Rattle.tangent.proofs.corners.cosines_of.Goals as goal
 
 -- ---- the function's entry, from each corner's place
 abbrev start₁ : After-shared_slice_known-2-1 → Start
-start₁ c = c.before.before
+start₁ c = (goal.at.After-shared_slice_known-2-1 c).Start
 
 abbrev start₂ : After-shared_slice_known-3-1 → Start
-start₂ c = start₁ c.before.before
+start₂ c = start₁ (goal.at.After-shared_slice_known-3-1 c).After-shared_slice_known-2-1
 
 abbrev start₃ : After-shared_slice_known-4-1 → Start
-start₃ c = start₂ c.before.before
+start₃ c = start₂ (goal.at.After-shared_slice_known-4-1 c).After-shared_slice_known-3-1
 
 abbrev start₄ : After-shared_slice_known-5-1 → Start
-start₄ c = start₃ c.before.before
+start₄ c = start₃ (goal.at.After-shared_slice_known-5-1 c).After-shared_slice_known-4-1
 
 -- ---- the answers, in the order of the code
 pub bounds-valences-0 : goal.bounds-valences-0
@@ -35,9 +35,9 @@ bounds-valences-3 c = omega (arith, (start₄ c).requires)
 
 pub returns : goal.returns
 returns c =
-    let third = c.before.before in
-    let second = third.before.before in
-    let first = second.before.before in
+    let third = c in
+    let second = third in
+    let first = second in
     list-of-four _
     (read_back w32 first.cosine.type_inv (entry-is _ _ first.cosine.ensures))
     (read_back w32 second.cosine-2.type_inv (entry-is _ _ second.cosine-2.ensures))

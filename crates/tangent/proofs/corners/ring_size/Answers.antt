@@ -10,23 +10,23 @@ use Rattle.tangent.proofs.corners.ring_size.Goals as goal
 
 -- ---- at the loop's head
 abbrev start : At-loop-on → Start
-start h = h.before.before.before
+start h = (goal.at.At-loop-on h).Start
 
 -- ---- past both tests: the corner met is neither the first nor none
 module _ (e : Else-on-eq-NO_CORNER) where
   abbrev passing : In-loop-on
-  passing = e.before
+  passing = (goal.at.Else-on-eq-NO_CORNER e).In-loop-on
 
   abbrev head : At-loop-on
-  head = passing.before
+  head = (goal.at.In-loop-on passing).At-loop-on
 
 pub loop-on-init : goal.loop-on-init
-loop-on-init c = let s = c.before.before in met-first s.requires.0 s.args.c s.requires.1 _ c.around-on.ensures
+loop-on-init c = let s = c in met-first s.requires.0 s.args.c s.requires.1 _ c.around-on.ensures
 
 pub returns-then-on-eq-NO_CORNER : goal.returns-then-on-eq-NO_CORNER
 returns-then-on-eq-NO_CORNER c =
-    let h = c.before.before in
-    let s = start h in
+    let h = c in
+    let s = start (goal.at.returns-then-on-eq-NO_CORNER h).At-loop-on in
     met-none s.requires.0 s.args.c s.requires.1 _ _ h.loop-on.invariant c.if-on-eq-NO_CORNER.true
 
 pub overflow_add-met : goal.overflow_add-met
@@ -34,20 +34,20 @@ overflow_add-met c = omega (arith, (head c).loop-on.invariant.short, (start (hea
 
 pub loop-on-smaller : goal.loop-on-smaller
 loop-on-smaller c =
-    let e = c.before in
-    let h = head e in
+    let e = c in
+    let h = head (goal.at.loop-on-smaller e).Else-on-eq-NO_CORNER in
     let s = start h in
-    met_less s.requires.0 s.args.c s.requires.1 _ _ h.loop-on.invariant e.if-on-eq-NO_CORNER.false (passing e).loop-on-test.true
+    met_less s.requires.0 s.args.c s.requires.1 _ _ h.loop-on.invariant e.if-on-eq-NO_CORNER.false (passing (goal.at.loop-on-smaller e).Else-on-eq-NO_CORNER).loop-on-test.true
 
 pub loop-on-preserved : goal.loop-on-preserved
 loop-on-preserved c =
-    let e = c.before in
-    let h = head e in
+    let e = c in
+    let h = head (goal.at.loop-on-preserved e).Else-on-eq-NO_CORNER in
     let s = start h in
-    met-more s.requires.0 s.args.c s.requires.1 _ _ _ h.loop-on.invariant e.if-on-eq-NO_CORNER.false (passing e).loop-on-test.true c.around-on-in-loop-on.ensures
+    met-more s.requires.0 s.args.c s.requires.1 _ _ _ h.loop-on.invariant e.if-on-eq-NO_CORNER.false (passing (goal.at.loop-on-preserved e).Else-on-eq-NO_CORNER).loop-on-test.true c.around-on-in-loop-on.ensures
 
 pub returns : goal.returns
 returns c =
-    let h = c.before in
-    let s = start h in
+    let h = c in
+    let s = start (goal.at.returns h).At-loop-on in
     met-back s.requires.0 s.args.c s.requires.1 _ _ h.loop-on.invariant c.loop-on-test.false

@@ -18,16 +18,16 @@ use Rattle.tangent.proofs.fill.fill_tangents.Goals as goal
 -- ---- the values, the counts, the cosines and the weights are known
 module _ (w : After-weights-weights) where
   abbrev cosines-at : After-cosines_of-cosines
-  cosines-at = w.before
+  cosines-at = (goal.at.After-weights-weights w).After-cosines_of-cosines
 
   abbrev counts-at : After-face_valences-valences
-  counts-at = cosines-at.before.before
+  counts-at = (goal.at.After-cosines_of-cosines cosines-at).After-face_valences-valences
 
   abbrev values-at : After-fill_values
-  values-at = counts-at.before.before
+  values-at = (goal.at.After-face_valences-valences counts-at).After-fill_values
 
   abbrev start : Start
-  start = values-at.before.before.before
+  start = (goal.at.After-fill_values values-at).Start
 
   abbrev table : List ℤ
   table = values_of start.args.positions.now start.args.faces.now
@@ -40,12 +40,12 @@ module _ (w : After-weights-weights) where
 
 -- ---- the way back from the list of parts
 abbrev weighed : After-parts-1 → After-weights-weights
-weighed c = let lent : After-values-3-1 = c.before.before.before.before in lent.before.before.before
+weighed c = let lent : After-values-3-1 = (goal.at.After-parts-1 c).After-values-3-1 in lent.before.before.before
 
 -- ---- the parts are filled
 module _ (p : After-fill_parts) where
   abbrev w : After-weights-weights
-  w = weighed p.before
+  w = weighed (goal.at.After-fill_parts p).After-parts-1
 
   parts_are : {l : List ℤ}
       → l ≡ filled (parts_told (values-at w).fill_values.last.1.1.0 (start w).args.twins.now (counts-at w).face_valences-valences.result (start w).args.g) 72
@@ -61,10 +61,10 @@ module _ (p : After-fill_parts) where
   cosines-are = (cosines-at w).cosines_of-cosines.ensures ∙ ap cosines_from (counts-at w).face_valences-valences.ensures
 
 pub face_valences-valences-requires : goal.face_valences-valences-requires
-face_valences-valences-requires c = let v : After-fill_values = c.before in v.before.before.before.requires.face-1
+face_valences-valences-requires c = let v : After-fill_values = (goal.at.face_valences-valences-requires c).After-fill_values in v.requires.face
 
 pub cosines_of-cosines-requires : goal.cosines_of-cosines-requires
-cosines_of-cosines-requires c = ap length c.before.face_valences-valences.ensures ∙ length-list_below _ 4
+cosines_of-cosines-requires c = ap length c.face_valences-valences.ensures ∙ length-list_below _ 4
 
 pub fill_parts-requires : goal.fill_parts-requires
 fill_parts-requires c =
@@ -73,14 +73,14 @@ fill_parts-requires c =
 
 pub write_numbers-requires : goal.write_numbers-requires
 write_numbers-requires c =
-    let p : After-fill_parts = c.before.before.before.before in
+    let p : After-fill_parts = (goal.at.write_numbers-requires c).After-fill_parts in
     let s = start (w p) in
     (known s.requires (parts_are p p.fill_parts.ensures) (cosines-are p), s.requires.places)
 
 pub returns : goal.returns
 returns c =
-    let n = c.before in
-    let lent = n.before in
-    let p : After-fill_parts = lent.before.before.before.before in
+    let n = c in
+    let lent = n in
+    let p : After-fill_parts = (goal.at.returns lent).After-fill_parts in
     n.write_numbers.ensures
-    ∙ ap₂ (λ (x y : List ℤ). filled (number_from_parts x y) 72 (start (w p)).args.tangents-1.now) (parts_are p p.fill_parts.ensures) (cosines-are p)
+    ∙ ap₂ (λ (x y : List ℤ). filled (number_from_parts x y) 72 (start (w p)).args.tangents.now) (parts_are p p.fill_parts.ensures) (cosines-are p)

@@ -14,13 +14,13 @@ use Rattle.tangent.proofs.parts.listed_part.Goals as goal
 -- ---- both counts and the part are read
 module _ (p : After-p-1) where
   abbrev start : Start
-  start = p.before.before.before
+  start = (goal.at.After-p-1 p).Start
 
   abbrev side : ℕ
   side = start.args.j % 12 / 3
 
 pub bounds-j-j : goal.bounds-j-j
-bounds-j-j a = omega (arith, a.before.before.requires.1)
+bounds-j-j a = omega (arith, a.requires.1)
 
 pub overflow_mul-g : goal.overflow_mul-g
 overflow_mul-g p = omega (arith, (start p).requires.0.few)
@@ -34,10 +34,10 @@ part_of-requires p =
 
 pub returns : goal.returns
 returns r =
-    let p = r.before in
-    let s = start p in
+    let p = r in
+    let s = start (goal.at.returns p).After-p-1 in
     let count : ℕ → ℕ = λ t. get_or s.args.valences.now t 0 in
     read_back w64 r.part_of.type_inv
     (r.part_of.ensures
-    ∙ ap (part_told s.args.values.now s.args.twins.now (count (side p)) (count ((side p + 1) % 4)) (s.args.j % 3) (4 * s.args.g + side p))
+    ∙ ap (part_told s.args.values.now s.args.twins.now (count (side (goal.at.returns p).After-p-1)) (count ((side (goal.at.returns p).After-p-1 + 1) % 4)) (s.args.j % 3) (4 * s.args.g + side (goal.at.returns p).After-p-1))
     (part-is _ (s.args.j / 12) (omega (arith, s.requires.1))))

@@ -21,7 +21,7 @@ told e = ap (λ (v : Value). v.units) e
 -- ---- the twin is known
 module _ (t : After-wide-d) where
   abbrev start : Start
-  start = t.before.before
+  start = (goal.at.After-wide-d t).Start
 
   abbrev values : List ℤ
   values = start.args.values.now
@@ -43,71 +43,71 @@ module _ (t : After-wide-d) where
   end_is e = e ∙ ap (vector_at values twins start.args.m k) twin-is
 
 pub corner_vector-requires : goal.corner_vector-requires
-corner_vector-requires a = (start a.before.before).requires.at-start
+corner_vector-requires a = (start (goal.at.corner_vector-requires a).After-wide-d).requires.at-start
 
 pub corner_vector-requires-in-AtEnd : goal.corner_vector-requires-in-AtEnd
-corner_vector-requires-in-AtEnd a = (start a.before.before).requires.at-end
+corner_vector-requires-in-AtEnd a = (start (goal.at.corner_vector-requires-in-AtEnd a).After-wide-d).requires.at-end
 
 pub negated-requires : goal.negated-requires
 negated-requires v =
-    let t = v.before.before.before in
-    let far = (start t).requires.at-end in
-    rw (read_back w64 v.corner_vector-in-AtEnd.type_inv (end_is t v.corner_vector-in-AtEnd.ensures))
-    (vector-size far.small (twins t) (start t).args.m (k t) (link_at (twins t) (c t)) far.most)
+    let t = v in
+    let far = (start (goal.at.negated-requires t).After-wide-d).requires.at-end in
+    rw (read_back w64 v.corner_vector-in-AtEnd.type_inv (end_is (goal.at.negated-requires t).After-wide-d v.corner_vector-in-AtEnd.ensures))
+    (vector-size far.small (twins (goal.at.negated-requires t).After-wide-d) (start (goal.at.negated-requires t).After-wide-d).args.m (k (goal.at.negated-requires t).After-wide-d) (link_at (twins (goal.at.negated-requires t).After-wide-d) (c t)) far.most)
 
 pub overflow_cast-n : goal.overflow_cast-n
-overflow_cast-n a = omega (arith, (start a.before.before).requires.at-start.most)
+overflow_cast-n a = omega (arith, (start (goal.at.overflow_cast-n a).After-wide-d).requires.at-start.most)
 
 pub overflow_cast-m : goal.overflow_cast-m
-overflow_cast-m a = omega (arith, (start a.before.before).requires.at-end.most)
+overflow_cast-m a = omega (arith, (start (goal.at.overflow_cast-m a).After-wide-d).requires.at-end.most)
 
 pub overflow_cast-n-in-InnerNear : goal.overflow_cast-n-in-InnerNear
-overflow_cast-n-in-InnerNear a = omega (arith, (start a.before.before).requires.at-start.most)
+overflow_cast-n-in-InnerNear a = omega (arith, (start (goal.at.overflow_cast-n-in-InnerNear a).After-wide-d).requires.at-start.most)
 
 pub overflow_cast-m-in-InnerFar : goal.overflow_cast-m-in-InnerFar
-overflow_cast-m-in-InnerFar a = omega (arith, (start a.before.before).requires.at-end.most)
+overflow_cast-m-in-InnerFar a = omega (arith, (start (goal.at.overflow_cast-m-in-InnerFar a).After-wide-d).requires.at-end.most)
 
 pub returns-in-AtStart : goal.returns-in-AtStart
 unfolding part_told
-returns-in-AtStart v = rw v.before.enum_told-1.given.1 (read_back w64 v.corner_vector.type_inv v.corner_vector.ensures)
+returns-in-AtStart v = rw v.enum_told-1.given.1 (read_back w64 v.corner_vector.type_inv v.corner_vector.ensures)
 
 pub returns-in-AtEnd : goal.returns-in-AtEnd
 unfolding part_told
 returns-in-AtEnd g =
-    let v = g.before in
-    let t = v.before.before.before in
-    rw v.before.enum_told-in-AtEnd-1.given.1
+    let v = g in
+    let t = v in
+    rw v.enum_told-in-AtEnd-1.given.1
     (read_back w64 g.negated.ok
-    (g.negated.ensures ∙ ap neg_ℤ (read_back w64 v.corner_vector-in-AtEnd.ok (end_is t v.corner_vector-in-AtEnd.ensures))))
+    (g.negated.ensures ∙ ap neg_ℤ (read_back w64 v.corner_vector-in-AtEnd.ok (end_is (goal.at.returns-in-AtEnd t).After-wide-d v.corner_vector-in-AtEnd.ensures))))
 
 pub returns-in-Near : goal.returns-in-Near
 unfolding part_told
 returns-in-Near a =
-    let v = a.before in
-    let t = v.before.before.before in
-    let at : ℕ → ℤ = λ d. units (edge_at (values t) (start t).args.n (k t) (c t) d) in
-    rw v.before.enum_told-in-Near-1.given.1 (read_back w64 a.struct_told-1.given.0.1 (told v.edge_value.ensures ∙ ap at (twin-is t)))
+    let v = a in
+    let t = v in
+    let at : ℕ → ℤ = λ d. units (edge_at (values (goal.at.returns-in-Near t).After-wide-d) (start (goal.at.returns-in-Near t).After-wide-d).args.n (k (goal.at.returns-in-Near t).After-wide-d) (c t) d) in
+    rw v.enum_told-in-Near-1.given.1 (read_back w64 a.struct_told-1.given.0.1 (told v.edge_value.ensures ∙ ap at (twin-is (goal.at.returns-in-Near t).After-wide-d)))
 
 pub returns-in-Far : goal.returns-in-Far
 unfolding part_told
 returns-in-Far a =
-    let v = a.before in
-    let t = v.before.before.before in
-    let at : ℕ → ℤ = λ d. units (edge_at (values t) (start t).args.m (k t) d (c t)) in
-    rw v.before.enum_told-in-Far-1.given.1 (read_back w64 a.struct_told-in-Far-1.given.0.1 (told v.edge_value-in-Far.ensures ∙ ap at (twin-is t)))
+    let v = a in
+    let t = v in
+    let at : ℕ → ℤ = λ d. units (edge_at (values (goal.at.returns-in-Far t).After-wide-d) (start (goal.at.returns-in-Far t).After-wide-d).args.m (k (goal.at.returns-in-Far t).After-wide-d) d (c t)) in
+    rw v.enum_told-in-Far-1.given.1 (read_back w64 a.struct_told-in-Far-1.given.0.1 (told v.edge_value-in-Far.ensures ∙ ap at (twin-is (goal.at.returns-in-Far t).After-wide-d)))
 
 pub returns-in-InnerNear : goal.returns-in-InnerNear
 unfolding part_told
 returns-in-InnerNear a =
-    let v = a.before in
-    rw v.before.enum_told-in-InnerNear-1.given.1 (read_back w64 a.struct_told-in-InnerNear-1.given.0.1 (told v.inner_value.ensures))
+    let v = a in
+    rw v.enum_told-in-InnerNear-1.given.1 (read_back w64 a.struct_told-in-InnerNear-1.given.0.1 (told v.inner_value.ensures))
 
 pub returns-in-InnerFar : goal.returns-in-InnerFar
 unfolding part_told
 returns-in-InnerFar a =
-    let v = a.before in
-    let n = v.before in
-    let t = n.before.before.before in
-    let at : ℕ → ℤ = λ d. units (inner_at (values t) (start t).args.m (k t) d) in
-    rw n.before.enum_told-in-InnerFar-1.given.1
+    let v = a in
+    let n = v in
+    let t = n in
+    let at : ℕ → ℤ = λ d. units (inner_at (values (goal.at.returns-in-InnerFar t).After-wide-d) (start (goal.at.returns-in-InnerFar t).After-wide-d).args.m (k (goal.at.returns-in-InnerFar t).After-wide-d) d) in
+    rw n.enum_told-in-InnerFar-1.given.1
     (read_back w64 a.struct_told-in-InnerFar-1.given.0.1 (told v.inner_value-in-InnerFar.ensures ∙ ap at n.next_corner.ensures))

@@ -16,7 +16,7 @@ use Rattle.tangent.proofs.refusal.face_refusal.Goals as goal
 -- ---- the first row is checked
 module _ (m : After-first_met-there) where
   abbrev start : Start
-  start = m.before.before
+  start = (goal.at.After-first_met-there m).Start
 
   abbrev first : List Row
   first = row (leb start.args.f start.args.g) 12 ∷ []
@@ -30,34 +30,27 @@ module _ (m : After-first_met-there) where
 -- ---- it is not met: the face is there
 module _ (e : Else-there-ne0) where
   abbrev asked : After-first_met-there
-  asked = e.before
+  asked = (goal.at.Else-there-ne0 e).After-first_met-there
 
   unmet : first_met (first asked) ≡ none
-  unmet = (first-met asked).first ∙ ap refusal_of e.if-there-ne0.left
+  unmet = (first-met asked).first ∙ ap refusal_of e.if-there-ne0.false
 
   there : (start asked).args.g < (start asked).args.f
   there = leb-false (start asked).args.f (start asked).args.g (none-met (leb (start asked).args.f (start asked).args.g) 12 none unmet).0
 
--- ---- the answers, in the order of the code
-pub first_met-there-requires : goal.first_met-there-requires
-first_met-there-requires c = tt
-
 pub returns-then-there-ne0 : goal.returns-then-there-ne0
 returns-then-there-ne0 c =
-    let m = c.before in
+    let m = c in
     let met = refusal-some m.first_met-there.result c.if-there-ne0.true in
-    some-append (first m) (second m) ((first-met m).first ∙ met) ∙ sym met
+    some-append (first (goal.at.returns-then-there-ne0 m).After-first_met-there) (second (goal.at.returns-then-there-ne0 m).After-first_met-there) ((first-met (goal.at.returns-then-there-ne0 m).After-first_met-there).first ∙ met) ∙ sym met
 
 pub face_open-requires : goal.face_open-requires
 face_open-requires c = let s = start (asked c) in (s.requires.0, omega (arith, there c, s.requires.1))
 
-pub first_met-requires : goal.first_met-requires
-first_met-requires c = tt
-
 pub returns : goal.returns
 returns c =
-    let o = c.before in
-    let e = o.before in
-    let s = start (asked e) in
-    none-append (first (asked e)) (second (asked e)) (unmet e)
+    let o = c in
+    let e = o in
+    let s = start (asked (goal.at.returns e).Else-there-ne0) in
+    none-append (first (asked (goal.at.returns e).Else-there-ne0)) (second (asked (goal.at.returns e).Else-there-ne0)) (unmet (goal.at.returns e).Else-there-ne0)
     ∙ (next_row no_row c.first_met.ensures (ap (λ (x : Bool). x || not (eqb s.args.places 72)) o.face_open.ensures) refl).first

@@ -26,14 +26,11 @@ ring_sum-sum-requires c = c.requires
 pub overflow_mul-sum : goal.overflow_mul-sum
 overflow_mul-sum c = fits (product c) (ranged c) refl
 
-pub round-requires : goal.round-requires
-round-requires c = tt
-
 pub returns : goal.returns
 unfolding vector_at
 returns c =
-    let divided : After-round = c.before in
-    let d = divided.before in
+    let divided : After-round = (goal.at.returns c).After-round in
+    let d = divided in
     read_back w64 c.struct_told-1.given.0.1
     (divided.round.ensures.0
-    ∙ ap (λ (z : ℤ). nearest z scale) (result (product d) (ranged d) refl ∙ ap (λ (z : ℤ). pos 256 *ℤ z) d.ring_sum-sum.ensures.0))
+    ∙ ap (λ (z : ℤ). nearest z scale) (result (product (goal.at.After-round d).After-ring_sum-sum) (ranged (goal.at.After-round d).After-ring_sum-sum) refl ∙ ap (λ (z : ℤ). pos 256 *ℤ z) d.ring_sum-sum.ensures.0))

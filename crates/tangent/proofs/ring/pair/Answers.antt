@@ -15,16 +15,16 @@ use Rattle.tangent.proofs.ring.pair.Goals as goal
 -- ---- the two coordinates are known
 module _ (c : After-value-2) where
   abbrev across-at : After-across_corner
-  across-at = c.before
+  across-at = (goal.at.After-value-2 c).After-across_corner
 
   abbrev value-at : After-value
-  value-at = across-at.before
+  value-at = (goal.at.After-across_corner across-at).After-value
 
   abbrev next-at : After-next_corner
-  next-at = value-at.before
+  next-at = (goal.at.After-value value-at).After-next_corner
 
   abbrev start : Start
-  start = next-at.before
+  start = (goal.at.After-next_corner next-at).Start
 
   abbrev at : ℕ → ℤ
   at = value_at start.args.values.now start.args.k
@@ -41,6 +41,19 @@ module _ (c : After-value-2) where
   y-is : to_z w32 (of_z w32 c.value-2.result) ≡ at (across start.args.e)
   y-is = read_back w32 c.value-2.type_inv (c.value-2.ensures ∙ ap at across-at.across_corner.ensures)
 
+-- ---- the answers, in the order of the code
+pub next_corner-requires : goal.next_corner-requires
+next_corner-requires c = tt
+
+pub value-requires : goal.value-requires
+value-requires c = tt
+
+pub across_corner-requires : goal.across_corner-requires
+across_corner-requires c = tt
+
+pub value-requires-2 : goal.value-requires-2
+value-requires-2 c = tt
+
 pub weighted-requires : goal.weighted-requires
 weighted-requires c =
     let s = start c in
@@ -54,7 +67,7 @@ weighted-requires c =
 
 pub returns : goal.returns
 returns c =
-    let v = c.before in (
-      read_back w64 c.weighted.type_inv (c.weighted.ensures.0 ∙ ap₂ ◌+ℤ◌ (ap₂ ◌*ℤ◌ (a-is v) (x-is v)) (ap₂ ◌*ℤ◌ (b-is v) (y-is v))),
+    let v = c in (
+      read_back w64 c.weighted.type_inv (c.weighted.ensures.0 ∙ ap₂ ◌+ℤ◌ (ap₂ ◌*ℤ◌ (a-is (goal.at.returns v).After-value-2) (x-is (goal.at.returns v).After-value-2)) (ap₂ ◌*ℤ◌ (b-is (goal.at.returns v).After-value-2) (y-is (goal.at.returns v).After-value-2))),
       rw (read_back w64 c.weighted.type_inv refl) c.weighted.ensures.1,
     )

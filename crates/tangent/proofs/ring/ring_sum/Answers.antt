@@ -15,19 +15,14 @@ use Rattle.corner.specs.Corner.{prev}
 use Rattle.control.specs.Control.{link_at}
 use Rattle.tangent.specs.Told.{turned_at, term_at}
 use Rattle.tangent.proofs.RingLaws.{partial-size, next-turned, turned-start}
+use Rattle.tangent.proofs.ring.ring_sum.Invariants.{Passed}
 use Rattle.tangent.proofs.ring.ring_sum.Goals.{After-term, At-loop-i, Start}
 use Rattle.tangent.proofs.ring.ring_sum.Goals as goal
-
--- after i turns: e is the corner that they lead to, and the sum has the terms below i
-record Passed (values : List ℤ) (twins : List ℕ) (n k c e sum i : ℕ) : Type 0 where
-  most : i ≤ n
-  here : e ≡ turned_at twins c i
-  sums : sum ≡ of_z w64 (sum_below_ℤ (term_at values twins n k c) i)
 
 -- ---- at the loop's head: what the function was given, and the sum so far
 module _ (l : At-loop-i) where
   abbrev given : Start
-  given = l.before
+  given = (goal.at.At-loop-i l).Start
 
   abbrev twins : List ℕ
   twins = given.args.twins.now
@@ -53,7 +48,7 @@ module _ (l : At-loop-i) where
 -- ---- the term is known
 module _ (d : After-term) where
   abbrev head : At-loop-i
-  head = d.before.before
+  head = (goal.at.After-term d).At-loop-i
 
   added : to_z w64 (of_z w64 d.term.result) ≡ term head (i head)
   added = read_back w64 d.term.ok (rw head.loop-i.invariant.here at d.term.ensures.0)
@@ -67,23 +62,23 @@ loop-i-init s = record {
 }
 
 pub term-requires : goal.term-requires
-term-requires d = ((given d.before).requires, d.loop-i-test.true)
+term-requires d = ((given (goal.at.term-requires d).At-loop-i).requires, d.loop-i-test.true)
 
 pub plus-sum-requires : goal.plus-sum-requires
 plus-sum-requires d = (rw (sum_is (head d)) (size (head d)), rw (read_back w64 d.term.type_inv refl) (omega (arith, d.term.ensures.1)))
 
 pub loop-i-preserved : goal.loop-i-preserved
 loop-i-preserved a =
-    let d = a.before.before in
-    let h = head d in
+    let d = a in
+    let h = head (goal.at.loop-i-preserved d).After-term in
     record {
       most = omega arith;
       here = a.around-e.ensures ∙ ap (λ (e : ℕ). link_at (twins h) (prev e)) h.loop-i.invariant.here ∙ next-turned (twins h) (c h) (i h);
-      sums = ap (of_z w64) (a.before.plus-sum.ensures ∙ ap₂ ◌+ℤ◌ (sum_is h) (added d) ∙ sym (fold_step (pos 0) ◌+ℤ◌ (term h) (i h)));
+      sums = ap (of_z w64) (a.plus-sum.ensures ∙ ap₂ ◌+ℤ◌ (sum_is h) (added (goal.at.loop-i-preserved d).After-term) ∙ sym (fold_step (pos 0) ◌+ℤ◌ (term h) (i h)));
     }
 
 pub returns : goal.returns
 returns d =
-    let h = d.before in
+    let h = d in
     let all = le_antisymm h.loop-i.invariant.most d.loop-i-test.false in
-    (sum_is h ∙ ap (sum_below_ℤ (term h)) all, rw (sum_is h) (size h))
+    (sum_is (goal.at.returns h).At-loop-i ∙ ap (sum_below_ℤ (term (goal.at.returns h).At-loop-i)) all, rw (sum_is (goal.at.returns h).At-loop-i) (size (goal.at.returns h).At-loop-i))

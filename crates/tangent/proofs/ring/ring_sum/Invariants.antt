@@ -17,6 +17,12 @@ use Rattle.tangent.specs.Told.{turned_at, term_at}
 use Rattle.tangent.proofs.RingLaws.{partial-size, next-turned, turned-start}
 use Rattle.tangent.proofs.ring.ring_sum.Given as goal
 
+-- after i turns: e is the corner that they lead to, and the sum has the terms below i
+pub record Passed (values : List ℤ) (twins : List ℕ) (n k c e sum i : ℕ) : Type 0 where
+  pub most : i ≤ n
+  pub here : e ≡ turned_at twins c i
+  pub sums : sum ≡ of_z w64 (sum_below_ℤ (term_at values twins n k c) i)
+
 abbrev pub invariant-loop-i : goal.invariant-loop-i
 invariant-loop-i l = Passed l.values l.twins l.n l.k l.c l.e l.sum l.i
 

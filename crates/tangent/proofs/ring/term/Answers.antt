@@ -42,10 +42,10 @@ module _ (s : Start) where
 -- ---- both weights are read
 module _ (c : After-pair-arg-2-1) where
   abbrev start : Start
-  start = c.before.before
+  start = (goal.at.After-pair-arg-2-1 c).Start
 
   a-is : to_z w32 (of_z w32 (get_or start.args.edge.now (place start) (pos 0))) ≡ edge_weight start.args.n start.args.i
-  a-is = to_z-of_z (record { sfits = c.before.pair-arg-1.given }) ∙ edge-is start
+  a-is = to_z-of_z (record { sfits = c.pair-arg-1.given }) ∙ edge-is start
 
   b-is : to_z w32 (of_z w32 (get_or start.args.face.now (place start) (pos 0))) ≡ face_weight start.args.n start.args.i
   b-is = to_z-of_z (record { sfits = c.pair-arg-2-1.given }) ∙ face-is start
@@ -67,10 +67,10 @@ pub bounds-edge-at : goal.bounds-edge-at
 bounds-edge-at c = omega (arith, below c, edge-long c)
 
 pub offset_bounds-face-at : goal.offset_bounds-face-at
-offset_bounds-face-at c = omega (arith, below c.before)
+offset_bounds-face-at c = omega (arith, below (goal.at.offset_bounds-face-at c).Start)
 
 pub bounds-face-at : goal.bounds-face-at
-bounds-face-at c = omega (arith, below c.before, face-long c.before)
+bounds-face-at c = omega (arith, below (goal.at.bounds-face-at c).Start, face-long (goal.at.bounds-face-at c).Start)
 
 pub pair-requires : goal.pair-requires
 pair-requires c =
@@ -79,11 +79,11 @@ pair-requires c =
 
 pub returns : goal.returns
 returns c =
-    let d = c.before in
-    let s = start d in
+    let d = c in
+    let s = start (goal.at.returns d).After-pair-arg-2-1 in
     let at = value_at s.args.values.now s.args.k in (
       read_back w64 c.pair.type_inv
           (c.pair.ensures.0
-          ∙ ap₂ (λ (a b : ℤ). a *ℤ at (next s.args.e) +ℤ b *ℤ at (across s.args.e)) (a-is d) (b-is d)),
+          ∙ ap₂ (λ (a b : ℤ). a *ℤ at (next s.args.e) +ℤ b *ℤ at (across s.args.e)) (a-is (goal.at.returns d).After-pair-arg-2-1) (b-is (goal.at.returns d).After-pair-arg-2-1)),
       rw (read_back w64 c.pair.type_inv refl) c.pair.ensures.1,
     )

@@ -32,14 +32,11 @@ overflow_mul-x s = fits (multiple s) (ranged s).1 refl
 pub overflow_add-term : goal.overflow_add-term
 overflow_add-term s = fits (num s) (ranged s) refl
 
-pub round-requires : goal.round-requires
-round-requires c = search rules
-
 pub returns : goal.returns
 returns c =
-    let divided : After-round = c.before in
-    let s = divided.before in
+    let divided : After-round = (goal.at.returns c).After-round in
+    let s = divided in
     let is =
     read_back w64 c.struct_told-1.given.0.1
-    (divided.round.ensures.0 ∙ ap (λ (z : ℤ). nearest z corrected_divisor) (result (num s) (ranged s) refl)) in
-    (is, rw is (rounded-size s))
+    (divided.round.ensures.0 ∙ ap (λ (z : ℤ). nearest z corrected_divisor) (result (num (goal.at.After-round s).Start) (ranged (goal.at.After-round s).Start) refl)) in
+    (is, rw is (rounded-size (goal.at.After-round s).Start))

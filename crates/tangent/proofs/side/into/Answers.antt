@@ -11,41 +11,28 @@ use Rattle.tangent.proofs.side.into.Goals.{After-cosine_term-term, After-triple_
 use Rattle.tangent.proofs.side.into.Goals as goal
 
 -- ---- the vector along the side is known
-along-is : (c : After-triple_difference) → to_z w64 (of_z w64 c.triple_difference.result) ≡ pos 3 *ℤ (c.before.args.far -ℤ c.before.args.near)
+along-is : (c : After-triple_difference) → to_z w64 (of_z w64 c.triple_difference.result) ≡ pos 3 *ℤ (c.args.far -ℤ c.args.near)
 along-is c =
-    let s = c.before in
+    let s = c in
     read_back w64 c.triple_difference.type_inv (rw (to_z-of_z s.ranges.far, to_z-of_z s.ranges.near) at c.triple_difference.ensures.0)
 
 -- ---- the cosine term is known
 module _ (c : After-cosine_term-term) where
   abbrev start : Start
-  start = c.before.before
+  start = (goal.at.After-cosine_term-term c).Start
 
   term_is : to_z w64 (of_z w64 c.cosine_term-term.result)
       ≡ first_term start.args.k0 start.args.k1 start.args.u0 (pos 3 *ℤ (start.args.far -ℤ start.args.near))
   term_is =
       read_back w64 c.cosine_term-term.type_inv
-      (rw (to_z-of_z start.ranges.k0, to_z-of_z start.ranges.k1, to_z-of_z start.ranges.u0, along-is c.before) at c.cosine_term-term.ensures.0)
-
--- ---- the answers, in the order of the code
-pub triple_difference-requires : goal.triple_difference-requires
-triple_difference-requires c = search rules
-
-pub cosine_term-term-requires : goal.cosine_term-term-requires
-cosine_term-term-requires c = search rules
-
-pub triple_difference-requires-2 : goal.triple_difference-requires-2
-triple_difference-requires-2 c = search rules
-
-pub corrected-requires : goal.corrected-requires
-corrected-requires c = search rules
+      (rw (to_z-of_z start.ranges.k0, to_z-of_z start.ranges.k1, to_z-of_z start.ranges.u0, along-is (goal.at.After-cosine_term-term c).After-triple_difference) at c.cosine_term-term.ensures.0)
 
 pub returns : goal.returns
 returns c =
-    let d = c.before in
-    let t = d.before in
-    let s = start t in
+    let d = c in
+    let t = d in
+    let s = start (goal.at.returns t).After-cosine_term-term in
     let x-is = read_back w64 d.triple_difference-2.type_inv (rw (to_z-of_z s.ranges.inner, to_z-of_z s.ranges.near) at d.triple_difference-2.ensures.0) in (
-      read_back w64 c.corrected.type_inv (c.corrected.ensures.0 ∙ ap₂ corrected (term_is t) x-is),
+      read_back w64 c.corrected.type_inv (c.corrected.ensures.0 ∙ ap₂ corrected (term_is (goal.at.returns t).After-cosine_term-term) x-is),
       rw (read_back w64 c.corrected.type_inv refl) c.corrected.ensures.1,
     )

@@ -18,8 +18,8 @@ use Rattle.tangent.proofs.side.vector.Goals as goal
 -- ---- at the start: the numbers of the side fit
 whole : (s : Start) → Fitting s.args.a
 whole s =
-    fitting s.args.a (omega (arith, s.well-formed)) (omega (arith, s.well-formed)) (omega (arith, s.well-formed)) (omega (arith, s.well-formed))
-    (omega (arith, s.well-formed)) (omega (arith, s.well-formed)) (omega (arith, s.well-formed)) (omega (arith, s.well-formed))
+    fitting s.args.a (omega (arith, s.well_formed)) (omega (arith, s.well_formed)) (omega (arith, s.well_formed)) (omega (arith, s.well_formed))
+    (omega (arith, s.well_formed)) (omega (arith, s.well_formed)) (omega (arith, s.well_formed)) (omega (arith, s.well_formed))
 
 -- ---- from its other end, the first formula gives the second
 from-the-end : (k0 k1 near far end : ℤ)
@@ -29,28 +29,28 @@ from-the-end k0 k1 near far end =
     ∙ ap₂ (second_term k0 k1) (triple-difference-back near far) (prove-eq (~ (~ (int end))) (int end) (omega arith))
 
 -- ---- the end vector, reversed
-reversed-is : (c : After-negated) → to_z w64 (of_z w64 c.negated.result) ≡ neg_ℤ c.before.before.before.before.args.a.end
+reversed-is : (c : After-negated) → to_z w64 (of_z w64 c.negated.result) ≡ neg_ℤ c.args.a.end
 reversed-is c =
-    let s = c.before.before.before.before in
-    read_back w64 c.negated.type_inv (rw (to_z-of_z (whole s).end) at c.negated.ensures)
+    let s = c in
+    read_back w64 c.negated.type_inv (rw (to_z-of_z (whole (goal.at.After-negated s).Start).end) at c.negated.ensures)
 
 abbrev turned : After-struct_told-in-EndIn-6-1 → After-negated
-turned c = let told : After-struct_told-in-EndIn-3-1 = c.before.before.before in told.before.before
+turned c = let told : After-struct_told-in-EndIn-3-1 = (goal.at.After-struct_told-in-EndIn-6-1 c).After-struct_told-in-EndIn-3-1 in told.before.before
 
 abbrev entry : After-struct_told-in-EndIn-6-1 → Start
-entry c = let told = (turned c).before in told.before.before.before
+entry c = let told = (turned c) in told.before.before.before
 
 pub triple_difference-requires : goal.triple_difference-requires
 triple_difference-requires c =
-    let s = c.before.before.before.before in (rw (to_z-of_z (whole s).far) s.requires.far, rw (to_z-of_z (whole s).near) s.requires.near)
+    let s = c in (rw (to_z-of_z (whole (goal.at.triple_difference-requires s).Start).far) s.requires.far, rw (to_z-of_z (whole (goal.at.triple_difference-requires s).Start).near) s.requires.near)
 
 pub triple_difference-requires-in-Inner : goal.triple_difference-requires-in-Inner
 triple_difference-requires-in-Inner c =
-    let s = c.before.before.before.before in
-    (rw (to_z-of_z (whole s).inner-far) s.requires.inner-far, rw (to_z-of_z (whole s).inner-near) s.requires.inner-near)
+    let s = c in
+    (rw (to_z-of_z (whole (goal.at.triple_difference-requires-in-Inner s).Start).inner-far) s.requires.inner-far, rw (to_z-of_z (whole (goal.at.triple_difference-requires-in-Inner s).Start).inner-near) s.requires.inner-near)
 
 pub negated-requires : goal.negated-requires
-negated-requires c = let s = c.before.before.before in rw (to_z-of_z (whole s).end) s.requires.end
+negated-requires c = let s = c in rw (to_z-of_z (whole (goal.at.negated-requires s).Start).end) s.requires.end
 
 pub into-requires-in-EndIn : goal.into-requires-in-EndIn
 into-requires-in-EndIn c =
@@ -67,43 +67,43 @@ into-requires-in-EndIn c =
 pub returns-in-Start : goal.returns-in-Start
 unfolding vector_of
 returns-in-Start c =
-    let s = c.before.before.before in
-    let is = to_z-of_z (whole s).start in
-    rw c.before.enum_told-1.given.1 (is, rw is (omega (arith, s.requires.start)))
+    let s = c in
+    let is = to_z-of_z (whole (goal.at.returns-in-Start s).Start).start in
+    rw c.enum_told-1.given.1 (is, rw is (omega (arith, s.requires.start)))
 
 pub returns-in-Middle : goal.returns-in-Middle
 unfolding vector_of
 returns-in-Middle c =
-    let told = c.before.before.before in
-    let s = told.before.before in
+    let told = c in
+    let s = told in
     rw told.enum_told-in-Middle-1.given.1 (
-      read_back w64 c.triple_difference.type_inv (rw (to_z-of_z (whole s).far, to_z-of_z (whole s).near) at c.triple_difference.ensures.0),
+      read_back w64 c.triple_difference.type_inv (rw (to_z-of_z (whole (goal.at.returns-in-Middle s).Start).far, to_z-of_z (whole (goal.at.returns-in-Middle s).Start).near) at c.triple_difference.ensures.0),
       rw (read_back w64 c.triple_difference.type_inv refl) (omega (arith, c.triple_difference.ensures.1)),
     )
 
 pub returns-in-End : goal.returns-in-End
 unfolding vector_of
 returns-in-End c =
-    let s = c.before.before.before in
-    let is = to_z-of_z (whole s).end in
-    rw c.before.enum_told-in-End-1.given.1 (is, rw is (omega (arith, s.requires.end)))
+    let s = c in
+    let is = to_z-of_z (whole (goal.at.returns-in-End s).Start).end in
+    rw c.enum_told-in-End-1.given.1 (is, rw is (omega (arith, s.requires.end)))
 
 pub returns-in-Inner : goal.returns-in-Inner
 unfolding vector_of
 returns-in-Inner c =
-    let told = c.before.before.before in
-    let s = told.before.before in
+    let told = c in
+    let s = told in
     rw told.enum_told-in-Inner-1.given.1 (
-      read_back w64 c.triple_difference-in-Inner.type_inv (rw (to_z-of_z (whole s).inner-far, to_z-of_z (whole s).inner-near) at c.triple_difference-in-Inner.ensures.0),
+      read_back w64 c.triple_difference-in-Inner.type_inv (rw (to_z-of_z (whole (goal.at.returns-in-Inner s).Start).inner-far, to_z-of_z (whole (goal.at.returns-in-Inner s).Start).inner-near) at c.triple_difference-in-Inner.ensures.0),
       rw (read_back w64 c.triple_difference-in-Inner.type_inv refl) (omega (arith, c.triple_difference-in-Inner.ensures.1)),
     )
 
 pub returns-in-StartIn : goal.returns-in-StartIn
 unfolding vector_of
 returns-in-StartIn c =
-    let told : After-struct_told-in-StartIn-3-1 = c.before.before.before.before in
-    let t = told.before.before.before in
-    let w = whole t.before.before in
+    let told : After-struct_told-in-StartIn-3-1 = (goal.at.returns-in-StartIn c).After-struct_told-in-StartIn-3-1 in
+    let t = told in
+    let w = whole (goal.at.After-struct_told-in-StartIn-3-1 t).Start in
     rw t.enum_told-in-StartIn-1.given.1 (
       read_back w64 c.into.type_inv
           (rw (to_z-of_z w.start-cosine, to_z-of_z w.end-cosine, to_z-of_z w.start, to_z-of_z w.near, to_z-of_z w.far, to_z-of_z w.inner-near)
@@ -114,13 +114,13 @@ returns-in-StartIn c =
 pub returns-in-EndIn : goal.returns-in-EndIn
 unfolding vector_of
 returns-in-EndIn c =
-    let d = c.before in
-    let s = entry d in
+    let d = c in
+    let s = entry (goal.at.returns-in-EndIn d).After-struct_told-in-EndIn-6-1 in
     let w = whole s in
     let a = s.args.a in
-    rw (turned d).before.before.enum_told-in-EndIn-1.given.1 (
+    rw (turned (goal.at.returns-in-EndIn d).After-struct_told-in-EndIn-6-1).enum_told-in-EndIn-1.given.1 (
       read_back w64 c.into-in-EndIn.type_inv
-          (rw (to_z-of_z w.end-cosine, to_z-of_z w.start-cosine, reversed-is (turned d), to_z-of_z w.far, to_z-of_z w.near, to_z-of_z w.inner-far)
+          (rw (to_z-of_z w.end-cosine, to_z-of_z w.start-cosine, reversed-is (turned (goal.at.returns-in-EndIn d).After-struct_told-in-EndIn-6-1), to_z-of_z w.far, to_z-of_z w.near, to_z-of_z w.inner-far)
           at c.into-in-EndIn.ensures.0
           ∙ ap (λ (t : ℤ). corrected t (pos 3 *ℤ (a.inner_far -ℤ a.far)))
           (from-the-end a.start_cosine a.end_cosine a.near a.far a.end)),

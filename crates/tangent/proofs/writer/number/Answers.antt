@@ -12,13 +12,13 @@ use borrow.Author.Rules.{rules}
 use Rattle.tangent.proofs.writer.number.Goals as goal
 
 pub overflow_cast-sense : goal.overflow_cast-sense
-overflow_cast-sense c = let s = c.before in omega (arith, side-below (s.args.i / 3) (omega (arith, s.requires.1)))
+overflow_cast-sense c = let s = c in omega (arith, side-below (s.args.i / 3) (omega (arith, s.requires.1)))
 
 pub side_of-side-requires : goal.side_of-side-requires
-side_of-side-requires c = let s = c.before in (s.requires.0, omega arith, omega arith)
+side_of-side-requires c = let s = c in (s.requires.0, omega arith, omega arith)
 
 pub vector-requires : goal.vector-requires
-vector-requires c = let s = c.before.before in rw c.side_of-side.ensures (side-sized s.requires.0 _ _ (omega arith) (omega arith))
+vector-requires c = let s = c in rw c.side_of-side.ensures (side-sized s.requires.0 _ _ (omega arith) (omega arith))
 
 pub signed-requires : goal.signed-requires
 signed-requires c = rw (read_back w64 c.vector.type_inv refl) c.vector.ensures.1
@@ -26,9 +26,9 @@ signed-requires c = rw (read_back w64 c.vector.type_inv refl) c.vector.ensures.1
 pub returns : goal.returns
 unfolding number_from_parts
 returns c =
-    let v = c.before in
-    let d = v.before in
-    let s = d.before.before in
+    let v = c in
+    let d = v in
+    let s = d in
     let m = s.args.i / 3 in
     let l : m < 24 = omega (arith, s.requires.1) in
     read_back w64 c.signed.type_inv

@@ -15,32 +15,32 @@ module _ (s : Start) where
   asked l = record { listed = s.requires.0.parts-listed; part = l; side = s.requires.1; axis = s.requires.2 }
 
 abbrev start₂ : After-listed-2 → Start
-start₂ c = c.before.before
+start₂ c = (goal.at.After-listed-2 c).Start
 
 abbrev start₄ : After-listed-4 → Start
-start₄ c = start₂ c.before.before
+start₄ c = start₂ (goal.at.After-listed-4 c).After-listed-2
 
 abbrev start₆ : After-listed-6 → Start
-start₆ c = start₄ c.before.before
+start₆ c = start₄ (goal.at.After-listed-6 c).After-listed-4
 
 -- ---- the answers, in the order of the code
 pub listed-requires : goal.listed-requires
 listed-requires c = asked c (omega arith)
 
 pub listed-requires-2 : goal.listed-requires-2
-listed-requires-2 c = asked c.before (omega arith)
+listed-requires-2 c = asked (goal.at.listed-requires-2 c).Start (omega arith)
 
 pub listed-requires-3 : goal.listed-requires-3
 listed-requires-3 c = asked (start₂ c) (omega arith)
 
 pub listed-requires-4 : goal.listed-requires-4
-listed-requires-4 c = asked (start₂ c.before) (omega arith)
+listed-requires-4 c = asked (start₂ (goal.at.listed-requires-4 c).After-listed-2) (omega arith)
 
 pub listed-requires-5 : goal.listed-requires-5
 listed-requires-5 c = asked (start₄ c) (omega arith)
 
 pub listed-requires-6 : goal.listed-requires-6
-listed-requires-6 c = asked (start₄ c.before) (omega arith)
+listed-requires-6 c = asked (start₄ (goal.at.listed-requires-6 c).After-listed-4) (omega arith)
 
 pub offset_bounds-cosines-s : goal.offset_bounds-cosines-s
 offset_bounds-cosines-s c = omega (arith, (start₆ c).requires.1)
@@ -49,20 +49,20 @@ pub bounds-cosines-s : goal.bounds-cosines-s
 bounds-cosines-s c = let s = start₆ c in omega (arith, s.requires.1, s.requires.0.cosines-listed)
 
 pub overflow_add-result : goal.overflow_add-result
-overflow_add-result c = omega (arith, (start₆ c.before).requires.1)
+overflow_add-result c = omega (arith, (start₆ (goal.at.overflow_add-result c).After-listed-6).requires.1)
 
 pub bounds-cosines-s-2 : goal.bounds-cosines-s-2
-bounds-cosines-s-2 c = let s = start₆ c.before in omega (arith, s.requires.0.cosines-listed)
+bounds-cosines-s-2 c = let s = start₆ (goal.at.bounds-cosines-s-2 c).After-listed-6 in omega (arith, s.requires.0.cosines-listed)
 
 pub returns : goal.returns
 returns c =
-    let last = c.before.before in
-    let fifth = last.before in
-    let fourth = fifth.before in
-    let third = fourth.before in
-    let second = third.before in
-    let first = second.before in
-    let s = first.before in
+    let last = c in
+    let fifth = last in
+    let fourth = fifth in
+    let third = fourth in
+    let second = third in
+    let first = second in
+    let s = first in
     side-told s.args.parts.now s.args.cosines.now s.args.s s.args.k
     (read_back w64 first.listed.type_inv first.listed.ensures)
     (read_back w64 second.listed-2.type_inv second.listed-2.ensures)
@@ -70,5 +70,5 @@ returns c =
     (read_back w64 fourth.listed-4.type_inv fourth.listed-4.ensures)
     (read_back w64 fifth.listed-5.type_inv fifth.listed-5.ensures)
     (read_back w64 last.listed-6.type_inv last.listed-6.ensures)
-    (to_z-of_z (record { sfits = c.before.result-1.given }))
+    (to_z-of_z (record { sfits = c.result-1.given }))
     (to_z-of_z (record { sfits = c.result-2-1.given }))

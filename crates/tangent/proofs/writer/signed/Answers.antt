@@ -17,11 +17,11 @@ module _ (s : Start) where
   negated = ap (λ (z : ℤ). pos 0 -ℤ z) (to_z-of_z s.ranges.z) ∙ negation s.args.z
 
 pub overflow_sub-result : goal.overflow_sub-result
-overflow_sub-result c = rw (negated c.before) (negated_fits c.before)
+overflow_sub-result c = rw (negated (goal.at.overflow_sub-result c).Start) (negated_fits (goal.at.overflow_sub-result c).Start)
 
 pub returns-then-reversed : goal.returns-then-reversed
 returns-then-reversed c =
-    rw c.if-reversed.true (ap (λ (z : ℤ). to_z w64 (of_z w64 z)) (negated c.before) ∙ to_z-of_z (negated_fits c.before))
+    rw c.if-reversed.true (ap (λ (z : ℤ). to_z w64 (of_z w64 z)) (negated (goal.at.returns-then-reversed c).Start) ∙ to_z-of_z (negated_fits (goal.at.returns-then-reversed c).Start))
 
 pub returns-else-reversed : goal.returns-else-reversed
-returns-else-reversed c = rw c.if-reversed.false (to_z-of_z c.before.ranges.z)
+returns-else-reversed c = rw c.if-reversed.false (to_z-of_z c.ranges.z)

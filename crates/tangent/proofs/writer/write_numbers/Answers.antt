@@ -10,23 +10,23 @@ use Rattle.tangent.proofs.writer.write_numbers.Goals as goal
 
 -- the loop's head, from past the call
 abbrev head : After-number → At-loop-i
-head c = c.before.before
+head c = (goal.at.After-number c).At-loop-i
 
 pub loop-i-init : goal.loop-i-init
 loop-i-init c = filling-none
 
 pub number-requires : goal.number-requires
-number-requires c = (c.before.before.requires.0, omega arith)
+number-requires c = (c.requires.0, omega arith)
 
 pub bounds-tangents-i : goal.bounds-tangents-i
-bounds-tangents-i c = filling-room (head c).before.requires.1 (head c).loop-i.invariant c.before.loop-i-test.true
+bounds-tangents-i c = filling-room (head c).requires.1 (head c).loop-i.invariant c.loop-i-test.true
 
 pub loop-i-preserved : goal.loop-i-preserved
 loop-i-preserved c =
-    filling-more (head c).before.requires.1 (head c).loop-i.invariant c.before.loop-i-test.true (read_back w64 c.number.type_inv c.number.ensures)
+    filling-more (head c).requires.1 (head c).loop-i.invariant c.loop-i-test.true (read_back w64 c.number.type_inv c.number.ensures)
 
 pub shape_of-tangents : goal.shape_of-tangents
-shape_of-tangents c = c.before.loop-i.invariant.long
+shape_of-tangents c = c.loop-i.invariant.long
 
 pub returns : goal.returns
-returns c = filling-all c.before.loop-i.invariant c.loop-i-test.false
+returns c = filling-all c.loop-i.invariant c.loop-i-test.false

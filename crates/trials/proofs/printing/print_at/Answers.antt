@@ -3,4 +3,4 @@ use Rattle.std.proofs.Common.{arith, rules}
 use Rattle.trials.proofs.printing.print_at.Goals as goal
 
 pub overflow_cast-list : goal.overflow_cast-list
-overflow_cast-list c = omega (arith, c.shared_slice_known-then-at-list-1.given c.before.before.before.args.at)
+overflow_cast-list c = omega (arith, c.shared_slice_known-then-at-list-1.given c.args.at)

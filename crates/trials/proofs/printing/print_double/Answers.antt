@@ -10,4 +10,4 @@ number (inf s) e = tt
 number (fin s m k) e = tt
 
 pub float_to_bits-x : goal.float_to_bits-x
-float_to_bits-x c = number c.before.before.before.args.x c.before.before.if-x.true
+float_to_bits-x c = number c.args.x c.if-x.true

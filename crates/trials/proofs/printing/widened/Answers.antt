@@ -7,6 +7,3 @@ overflow_cast-result c =
     let narrow : SFits w32 c.args.n = c.ranges.n in
     let wide : SFits w64 c.args.n = record { sfits = omega (arith, narrow.sfits) } in
     simp (to_z-of_z narrow) wide
-
-pub returns : goal.returns
-returns c = search rules

@@ -1,12 +1,15 @@
--- `print_near` is safe and ends: the measure is the number of places left.
+-- `main` is safe and ends: the measure is the number of arguments left.
 use Rattle.std.proofs.Common.{◌-◌, rules}
-use Rattle.trials.proofs.weight_trial.print_near.Goals as goal
+use Rattle.trials.proofs.main.Goals as goal
+
+pub arg_count-n-requires : goal.arg_count-n-requires
+arg_count-n-requires c = search rules
 
 pub loop-i-init : goal.loop-i-init
 loop-i-init c = search rules
 
-pub print_weight-requires : goal.print_weight-requires
-print_weight-requires c = search rules
+pub trial-requires : goal.trial-requires
+trial-requires c = search rules
 
 pub overflow_step-i : goal.overflow_step-i
 overflow_step-i c = search rules

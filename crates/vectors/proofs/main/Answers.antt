@@ -1,12 +1,16 @@
--- `print_every` is safe and ends: the measure is the number of places left.
-use Rattle.std.proofs.Common.{◌-◌, rules}
-use Rattle.trials.proofs.printing.print_every.Goals as goal
+-- `main` is safe and ends: the measure is the number of arguments left.
+use borrow.Author.Rules.{rules}
+use Prim.Native.Nat.{◌-◌}
+use Rattle.vectors.proofs.main.Goals as goal
+
+pub arg_count-n-requires : goal.arg_count-n-requires
+arg_count-n-requires c = search rules
 
 pub loop-i-init : goal.loop-i-init
 loop-i-init c = search rules
 
-pub print_at-requires : goal.print_at-requires
-print_at-requires c = search rules
+pub vector-requires : goal.vector-requires
+vector-requires c = search rules
 
 pub overflow_step-i : goal.overflow_step-i
 overflow_step-i c = search rules
