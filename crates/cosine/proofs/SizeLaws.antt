@@ -5,7 +5,7 @@ use Prim.Native.Nat.{ℕ, ◌+◌, ◌-◌, ◌*◌, ◌^◌, ◌≤◌, ◌<◌
 use native.Mathlib.Nat.{mul-le-mul}
 use native.Mathlib.Omega.{arith}
 use lib.Dec.{leb, ltb}
-use lib.IntN.{ℤ, pos, nat_abs, ◌+ℤ◌}
+use lib.IntN.{pos, nat_abs, ◌+ℤ◌}
 use borrow.Author.Tests.{leb-true, ltb-true}
 use Rattle.integer.proofs.Laws.{abs-+}
 use Rattle.finite.specs.Fold.{fold_below, all_below}

@@ -1,5 +1,6 @@
 //! The cosines c(m), and the weights of the tangents at an inner vertex.
 #![tactic(auto)]
+
 mod cosine_table;
 mod edge_table;
 mod face_table;

@@ -6,9 +6,11 @@ use native.Mathlib.Omega.{arith}
 use lib.IntN.{ℤ, pos}
 use lib.ListN.{get_or}
 use mir.Syntax.{w32}
+use mir.Val.{to_z, of_z}
 use mir.Facts.{to_z-of_z}
+use Rattle.integer.proofs.Laws.{sfits-abs}
 use Rattle.cosine.specs.Cosine.{cosines, cosine, Entry}
-use Rattle.cosine.proofs.CosineLaws.{cosine-entry, cosine-past}
+use Rattle.cosine.proofs.CosineLaws.{cosine-entry, cosine-past, cosine-size}
 use Rattle.cosine.proofs.cosine.Goals as goal
 
 -- what stands at place m of a list that is the table
@@ -20,7 +22,10 @@ pub returns-then-m-lt33 : goal.returns-then-m-lt33
 unfolding cosines
 returns-then-m-lt33 c =
     let m = c.args.m in
-    subst (λ (z : ℤ). Entry m z) (sym (to_z-of_z {w = w32} (record { sfits = c.result-1.given }) ∙ at _ refl m)) (cosine-entry m)
+    let size = cosine-size m (omega arith) in
+    subst (λ (z : ℤ). Entry m z)
+    (sym (ap (λ (z : ℤ). to_z w32 (of_z w32 z)) (at _ refl m) ∙ to_z-of_z (sfits-abs {w = w32} (cosine m) (omega (arith, size)))))
+    (cosine-entry m)
 
 pub returns-else-m-lt33 : goal.returns-else-m-lt33
 returns-else-m-lt33 c =

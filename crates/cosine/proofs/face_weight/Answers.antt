@@ -1,6 +1,5 @@
 -- `face_weight` meets its contract: the constants are the definition's numbers, all of them computed.
 use mathlib.Core.Path.{refl}
-use borrow.Author.Rules.{rules}
 use mir.Syntax.{w32}
 use Rattle.integer.specs.Nearest.{half_even, nearest_ℕ, nearest}
 use Rattle.integer.proofs.Laws.{read_back}

@@ -2,7 +2,6 @@
 use mathlib.Core.Path.{ap₂}
 use mathlib.Core.List.{List}
 use lib.IntN.{ℤ}
-use borrow.Author.Rules.{rules}
 use Rattle.cosine.specs.declared.model.Weights.{Weights}
 use Rattle.cosine.proofs.generated_weights.Goals as goal
 

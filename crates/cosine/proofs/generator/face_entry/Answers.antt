@@ -27,8 +27,8 @@ module _ (c : Then-weighed) where
 
 -- ---- the cosine is known
 value-is : (c : After-multiple_cosine)
-    → to_z w64 (of_z w64 c.multiple-cosine.result) ≡ multiple_cosine (2 * n c.before) (half_angles (i c.before))
-value-is c = read_back w64 c.multiple-cosine.type-inv c.multiple-cosine.ensures
+    → to_z w64 (of_z w64 c.multiple_cosine.result) ≡ multiple_cosine (2 * n c.before) (half_angles (i c.before))
+value-is c = read_back w64 c.multiple_cosine.type_inv c.multiple_cosine.ensures
 
 pub overflow_mul-n : goal.overflow_mul-n
 overflow_mul-n c = omega (arith, (range c).most)

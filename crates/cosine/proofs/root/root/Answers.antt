@@ -1,10 +1,9 @@
 -- `root` meets its contract: after k turns the root lies from r to below r + b, and b is the value of the last digit found.
 use mathlib.Core.Path.{◌≡◌, refl, sym, subst}
-use Prim.Native.Nat.{ℕ, ◌+◌, ◌-◌, ◌*◌, ◌/◌, ◌^◌, ◌≤◌}
+use Prim.Native.Nat.{ℕ, ◌+◌, ◌-◌, ◌*◌, ◌/◌, ◌^◌}
 use native.Mathlib.Omega.{arith}
 use Rattle.cosine.specs.Root.{RootFrom}
 use Rattle.cosine.proofs.RootLaws.{digit_value, last-digit}
-use Rattle.cosine.proofs.root.root.Invariants.{Found}
 use Rattle.cosine.proofs.root.root.Goals.{At-loop-k, In-loop-k}
 use Rattle.cosine.proofs.root.root.Goals as goal
 

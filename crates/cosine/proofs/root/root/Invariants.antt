@@ -1,9 +1,7 @@
 -- `root` meets its contract: after k turns the root lies from r to below r + b, and b is the value of the last digit found.
-use mathlib.Core.Path.{◌≡◌, refl, sym, subst}
-use Prim.Native.Nat.{ℕ, ◌+◌, ◌-◌, ◌*◌, ◌/◌, ◌^◌, ◌≤◌}
-use native.Mathlib.Omega.{arith}
+use mathlib.Core.Path.{◌≡◌}
+use Prim.Native.Nat.{ℕ, ◌+◌, ◌-◌, ◌^◌, ◌≤◌}
 use Rattle.cosine.specs.Root.{RootFrom}
-use Rattle.cosine.proofs.RootLaws.{digit_value, last-digit}
 use Rattle.cosine.proofs.root.root.Given as goal
 
 -- the k leading digits of the root are found: r has them, and b is the value of the last one

@@ -2,7 +2,6 @@
 use Prim.Native.Nat.{◌+◌, ◌^◌, ◌≤◌}
 use native.Mathlib.Nat.{mul-le-mul}
 use native.Mathlib.Omega.{arith}
-use borrow.Author.Rules.{rules}
 use Rattle.cosine.proofs.root.with_digit.Goals.{Start}
 use Rattle.cosine.proofs.root.with_digit.Goals as goal
 
