@@ -2,12 +2,12 @@
 use mathlib.Core.Path.{ap, ◌∙◌}
 use borrow.Author.Rules.{rules}
 use Rattle.capi.specs.Answer.{code}
-use Rattle.capi.proofs.rusketja_mirror.Goals.{After-mirror-answer, After-out_tags-1, After-outcome_code}
+use Rattle.capi.proofs.rusketja_mirror.Goals.{After-mirror-answer, After-outcome_code}
 use Rattle.capi.proofs.rusketja_mirror.Goals as goal
 
 -- ---- the way back: from the number to the mirror call
 abbrev called : After-outcome_code → After-mirror-answer
-called c = let tags : After-out_tags-1 = (goal.at.After-outcome_code c).After-out_tags-1 in tags.before.before
+called c = (goal.at.After-outcome_code c).After-mirror-answer
 
 pub returns : goal.returns
 returns c =

@@ -12,13 +12,13 @@ use Rattle.text.specs.Text.{line_places}
 use Rattle.listing.specs.Listing.{handed_count, lines_from}
 use Rattle.listing.proofs.StretchLaws.{stored-length}
 use Rattle.listing.proofs.RowLaws.{Running, running-start, running-ends, running-lines, running-stretched}
-use Rattle.listing.proofs.stretch.Goals.{After-line_count-lines, After-next_lines-more, After-struct_known-1, At-loop-to, Start, Then-out-at-ge-LINE_PLACES}
+use Rattle.listing.proofs.stretch.Goals.{After-next_lines-more, After-struct_known-1, At-loop-to, Start, Then-out-at-ge-LINE_PLACES}
 use Rattle.listing.proofs.stretch.Goals as goal
 
 -- ---- at the loop
 module _ (c : At-loop-to) where
   abbrev start : Start
-  start = let k : After-line_count-lines = (goal.at.At-loop-to c).After-line_count-lines in k.before.before
+  start = (goal.at.At-loop-to c).Start
 
   -- how many lines are handed out
   abbrev lines : ℕ

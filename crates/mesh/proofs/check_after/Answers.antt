@@ -25,7 +25,7 @@ use Rattle.mesh.specs.Answer.{checked, twins_short, lent_rows, given}
 use Rattle.mesh.proofs.PhaseLaws.{Passed, early-passed, answer-early, twins-early, answer-late, twins-late, answer-accepted, twins-accepted}
 use Rattle.mesh.proofs.PhaseLaws.{row-given}
 use Rattle.mesh.specs.Tables.{Holds, Chained, Twinned, Headed}
-use Rattle.mesh.proofs.check_after.Goals.{After-clear_twins, After-early_refusal-early, After-fill_twins, After-first_met-first, After-late_refusal-late, After-link-3-1, After-slice_known-1, After-slice_known-2-1, After-slice_known-then-late-ne0-1, After-twins_short, Else-early-ne0, Else-late-ne0, Start, Then-late-ne0}
+use Rattle.mesh.proofs.check_after.Goals.{After-clear_twins, After-early_refusal-early, After-fill_twins, After-first_met-first, After-late_refusal-late, After-slice_known-2-1, After-slice_known-then-late-ne0-1, After-twins_short, Else-early-ne0, Else-late-ne0, Start, Then-late-ne0}
 use Rattle.mesh.proofs.check_after.Goals as goal
 
 -- ---- at the entry: the mesh that was passed, the list that was lent for its twins, and the call's own rows
@@ -41,7 +41,7 @@ module _ (s : Start) where
 
 -- ---- the call's own rows are checked: what the caller met of its own, then the lent list
 abbrev entry : After-twins_short → Start
-entry c = let k : After-slice_known-1 = (goal.at.After-twins_short c).After-slice_known-1 in k.before.before.before
+entry c = (goal.at.After-twins_short c).Start
 
 own-met : (c : After-first_met-first) → first_met (own (entry (goal.at.After-first_met-first c).After-twins_short)) ≡ refusal_of c.first_met-first.result
 own-met c = (next_row (row-given (entry (goal.at.After-first_met-first c).After-twins_short).args.own) c.first_met-first.ensures c.twins_short.ensures refl).first
@@ -72,10 +72,10 @@ module _ (c : Else-early-ne0) where
   passed = (early-passed (mesh start) (own start) none-early).1
 
   abbrev head : List ℕ
-  head = grouped.early_refusal-early.last.1.1.1.1.1.1.0
+  head = grouped.early_refusal-early.new.head
 
   abbrev link : List ℕ
-  link = grouped.early_refusal-early.last.1.1.1.1.1.1.1.0
+  link = grouped.early_refusal-early.new.link
 
   chained : Chained (at (mesh start)) (corners (mesh start)) head link
   chained = grouped.early_refusal-early.ensures.chained c.if-early-ne0.false
@@ -88,7 +88,7 @@ module _ (c : Else-early-ne0) where
 -- ---- the twins are written: the list is as long as it was, and holds the twins
 module _ (c : After-fill_twins) where
   abbrev clean : Else-early-ne0
-  clean = let k : After-link-3-1 = (goal.at.After-fill_twins c).After-link-3-1 in k.before.before
+  clean = (goal.at.After-fill_twins c).Else-early-ne0
 
   abbrev fill_start : Start
   fill_start = start clean
@@ -110,7 +110,7 @@ module _ (c : After-fill_twins) where
 -- ---- the late group has answered
 module _ (c : After-late_refusal-late) where
   abbrev filled-list : After-fill_twins
-  filled-list = let k : After-slice_known-2-1 = (goal.at.After-late_refusal-late c).After-slice_known-2-1 in k.before.before
+  filled-list = (goal.at.After-late_refusal-late c).After-fill_twins
 
   abbrev late-start : Start
   late-start = fill_start filled-list
@@ -153,7 +153,7 @@ fill_twins-requires c =
 
 pub late_refusal-late-requires : goal.late_refusal-late-requires
 late_refusal-late-requires c =
-    let t = let k : After-slice_known-2-1 = (goal.at.late_refusal-late-requires c).After-slice_known-2-1 in k.before.before in
+    let t = (goal.at.late_refusal-late-requires c).After-fill_twins in
     let e = clean t in
     let sizes = (passed e).sized in
     let headed : Headed (mesh (start e)).indices (head e) (corners (mesh (start e))) = record { heads-listed = omega arith; heads-are = (chained e).heads } in
@@ -165,7 +165,7 @@ clear_twins-requires c = omega (arith, kept (filled-list (goal.at.clear_twins-re
 pub shape_of-twins-then-late-ne0 : goal.shape_of-twins-then-late-ne0
 shape_of-twins-then-late-ne0 c =
     let k = cleared c in
-    k.clear_twins.kept.1.0 ∙ (filled-list (goal.at.Then-late-ne0 (met-late k)).After-late_refusal-late).fill_twins.kept.1.1.1.1.0
+    k.clear_twins.auto.twins ∙ (filled-list (goal.at.Then-late-ne0 (met-late k)).After-late_refusal-late).fill_twins.auto.twins
 
 -- a late row
 pub returns-then-late-ne0 : goal.returns-then-late-ne0
@@ -189,7 +189,7 @@ accepted-requires c =
     record { twinned = twinned t; named = p.named; ends = p.ends }
 
 pub shape_of-twins : goal.shape_of-twins
-shape_of-twins c = let e : Else-late-ne0 = (goal.at.shape_of-twins c).Else-late-ne0 in (filled-list (goal.at.Else-late-ne0 e).After-late_refusal-late).fill_twins.kept.1.1.1.1.0
+shape_of-twins c = let e : Else-late-ne0 = (goal.at.shape_of-twins c).Else-late-ne0 in (filled-list (goal.at.Else-late-ne0 e).After-late_refusal-late).fill_twins.auto.twins
 
 -- no row
 pub returns : goal.returns

@@ -14,7 +14,7 @@ use Rattle.decoding.specs.Decoding.{decoded}
 use Rattle.decoding.proofs.FileLaws.{Whole, file-whole}
 use Rattle.mesh.specs.WellFormed.{MeshSized}
 use Rattle.meshfile.proofs.OpenLaws.{FileRead, file-read, file-turned-down, part-fits, mesh-is, whole-sized, open-mesh, open-refused}
-use Rattle.meshfile.proofs.open.Goals.{After-decode, After-positions-1, After-tessellate-arg-in-Read-1, After-tessellate-arg-in-Read-3-1, In-Read, In-Read-1, In-Read-2, In-Refused-1, Start}
+use Rattle.meshfile.proofs.open.Goals.{After-decode, After-tessellate-arg-in-Read-1, After-tessellate-arg-in-Read-3-1, In-Read, In-Read-1, In-Read-2, In-Refused-1, Start}
 use Rattle.meshfile.proofs.open.Goals as goal
 
 -- ---- the three lists of `open`, before they are written
@@ -31,7 +31,7 @@ as_long : {A : Type 0} (n : ℕ) (a : A) → n ≤ length (replicate n a)
 as_long n a = le_of_eq (sym (length-replicate n a))
 
 abbrev start : After-decode → Start
-start c = let first : After-positions-1 = (goal.at.After-decode c).After-positions-1 in first.before.before
+start c = (goal.at.After-decode c).Start
 
 abbrev file : After-decode → List ℕ
 file c = (start c).args.bytes.now
@@ -44,7 +44,7 @@ module _ (c : In-Read) where
   abbrev header : Header
   header = c.header-1.given.0.0
 
-  read : FileRead (file call) no-positions no-tags no-indices header call.decode.last.1.0 call.decode.last.1.1.0 call.decode.last.1.1.1.0
+  read : FileRead (file call) no-positions no-tags no-indices header call.decode.new.positions call.decode.new.tags call.decode.new.faces
   read = file-read (file call) _ _ _ (ap decoded c.header-1.given.1) call.decode.ensures
 
   whole : Whole (file call)

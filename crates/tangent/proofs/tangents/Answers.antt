@@ -43,7 +43,7 @@ module _ (c : goal.In_default) where
   accepted : (m : Mesh) × (result m ≡ check_answer (mesh entry) own_twins)
   accepted = (_, sym (ap checked c.enum_told-1.given.1) ∙ asked.check-answer.ensures.answer-is)
 
-  twins-left : Fanned (mesh entry).indices asked.check-answer.last.1.1.1.1.1.0
+  twins-left : Fanned (mesh entry).indices asked.check-answer.new.twins
   twins-left = fanned (mesh entry) (face entry) (lent entry) accepted.1 _ asked.check-answer.ensures.twins-are
 
 -- ---- nothing of its own is met

@@ -17,7 +17,7 @@ module _ (s : Start) where
   num = s.args.q.num
 
   product : pos 256 *ℤ to_z w64 (of_z w64 num) ≡ pos 256 *ℤ num
-  product = ap (λ (z : ℤ). pos 256 *ℤ z) (to_z-of_z (sfits-abs num (omega (arith, s.requires))))
+  product = ap (λ (z : ℤ). pos 256 *ℤ z) (to_z-of_z {w = w64} (sfits-abs num (omega (arith, s.requires))))
 
   product-fits : SFits w64 (pos 256 *ℤ num)
   product-fits = sfits-abs (pos 256 *ℤ num) (omega (arith, abs-* (pos 256) num, s.requires))

@@ -14,7 +14,7 @@ use Rattle.finite.specs.Filled.{filled}
 use Rattle.finite.proofs.FilledLaws.{length-filled, filled-start}
 use Rattle.control.specs.Control.{corner_value}
 use Rattle.control.proofs.ValuesLaws.{corner-stored}
-use Rattle.control.proofs.values.fill_values.Goals.{After-lesser-n, After-position, After-position-in-loop-c-2, After-put, After-wide-p, At-loop-c, In-loop-c, Start}
+use Rattle.control.proofs.values.fill_values.Goals.{After-lesser-n, After-position-in-loop-c-2, After-put, After-wide-p, At-loop-c, In-loop-c, Start}
 use Rattle.control.proofs.values.fill_values.Goals as goal
 
 -- ---- how many corners there are
@@ -51,7 +51,7 @@ module _ (w : After-wide-p) where
 
 -- ---- the three coordinates are known
 abbrev read_at : After-position-in-loop-c-2 → After-wide-p
-read_at c = let first : After-position = (goal.at.After-position-in-loop-c-2 c).After-position in first.before.before
+read_at c = (goal.at.After-position-in-loop-c-2 c).After-wide-p
 
 -- ---- and stored
 module _ (c : After-put) where

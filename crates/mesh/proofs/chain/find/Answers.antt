@@ -21,7 +21,7 @@ module _ (s : Start) where
   vertex = vertex_of s.args.faces.now
 
   links-are : Holds 0 s.args.link.now s.args.c (λ e. latest (λ d. eqb (vertex d) (vertex e)) e)
-  links-are = s.requires.1.1
+  links-are = s.requires.holds
 
 abbrev entry : At-loop-u → Start
 entry c = (goal.at.At-loop-u c).Start
@@ -45,8 +45,8 @@ module _ (c : After-wide-e) where
 
   next-listed : next e < length start.args.faces.now
   next-listed =
-      let i = start.requires.0.0 in
-      lt_of_lt_of_le (next-below (indices-corners i) e (lt_of_lt_of_le e-below start.requires.0.1)) i.listed
+      let i = start.requires.indices.0 in
+      lt_of_lt_of_le (next-below (indices-corners i) e (lt_of_lt_of_le e-below start.requires.indices.1)) i.listed
 
   abbrev same-vertex : ℕ → Bool
   same-vertex d = eqb (vertex start d) (vertex start e)
@@ -64,7 +64,7 @@ module _ (c : After-shared_slice_known-in-loop-u-1) where
 
 -- ---- the answers, in the order of the code
 pub loop-u-init : goal.loop-u-init
-loop-u-init c = walked_start _ _ _ _ _ c.requires.1.0
+loop-u-init c = walked_start _ _ _ _ _ c.requires.start_value
 
 pub wide-e-requires : goal.wide-e-requires
 wide-e-requires c = tt

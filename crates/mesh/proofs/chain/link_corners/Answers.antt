@@ -75,7 +75,11 @@ bounds-head-p c = let h = p-named (goal.at.bounds-head-p c).After-wide-p in omeg
 pub occurs_before-requires : goal.occurs_before-requires
 occurs_before-requires c =
     let w = c in
-    (((start (goal.at.occurs_before-requires w).After-wide-p).requires.0.indices, omega arith, omega arith), (head-is (goal.at.occurs_before-requires w).After-wide-p, (at-loop (goal.at.occurs_before-requires w).After-wide-p).loop-c.invariant.chained.links))
+    record {
+      indices = ((start (goal.at.occurs_before-requires w).After-wide-p).requires.0.indices, omega arith, omega arith);
+      start_value = head-is (goal.at.occurs_before-requires w).After-wide-p;
+      holds = (at-loop (goal.at.occurs_before-requires w).After-wide-p).loop-c.invariant.chained.links;
+    }
 
 pub shape_of-head-then-occurs_before : goal.shape_of-head-then-occurs_before
 shape_of-head-then-occurs_before c = (at-loop (read (goal.at.shape_of-head-then-occurs_before c).After-occurs_before)).loop-c.invariant.heads-kept
@@ -87,7 +91,7 @@ pub returns-then-occurs_before : goal.returns-then-occurs_before
 returns-then-occurs_before c =
     let o = c in
     let found = any_found _ _ _ _ (passing (read (goal.at.returns-then-occurs_before o).After-occurs_before)).loop-c-test.true o.occurs_before.ensures c.if-occurs_before.true in
-    (found ∙ sym (doubled-earlier _ _), λ e. absurd (true≢false e))
+    record { value = found ∙ sym (doubled-earlier _ _); chained = λ e. absurd (true≢false e) }
 
 pub bounds-link-c : goal.bounds-link-c
 bounds-link-c c = omega arith
@@ -124,7 +128,8 @@ shape_of-link c = c.loop-c.invariant.links-kept
 pub returns : goal.returns
 returns c =
     let l = c.loop-c in
-    let all = le_antisymm l.invariant.within c.loop-c-test.false in (
-      any-not _ _ _ l.invariant.apart c.loop-c-test.false ∙ sym (doubled-earlier _ _),
-      λ e. subst (λ (k : ℕ). Chained (vertex (entry (goal.at.returns c).At-loop-c)) k l.head l.link) all l.invariant.chained,
-    )
+    let all = le_antisymm l.invariant.within c.loop-c-test.false in
+    record {
+      value = any-not _ _ _ l.invariant.apart c.loop-c-test.false ∙ sym (doubled-earlier _ _);
+      chained = λ e. subst (λ (k : ℕ). Chained (vertex (entry (goal.at.returns c).At-loop-c)) k l.head l.link) all l.invariant.chained;
+    }

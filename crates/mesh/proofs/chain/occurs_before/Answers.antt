@@ -37,9 +37,9 @@ pub find-requires : goal.find-requires
 find-requires c =
     let w = c in
     let s = entry (goal.at.find-requires w).After-wide-p in
-    let p = s.requires.0 in
-    let first = s.requires.1.0 ∙ ap (λ (q : ℕ). latest (λ d. eqb (vertex s d) q) s.args.c) (sym w.wide-p.ensures) in
-    ((p.0, le_of_lt p.1, p.2), (first, s.requires.1.1))
+    let p = s.requires.indices in
+    let first = s.requires.start_value ∙ ap (λ (q : ℕ). latest (λ d. eqb (vertex s d) q) s.args.c) (sym w.wide-p.ensures) in
+    record { indices = (p.0, le_of_lt p.1, p.2); start_value = first; holds = s.requires.holds }
 
 pub returns : goal.returns
 returns c = ap (λ (u : ℕ). not (eqb u 0)) (found c) ∙ latest-any _ _

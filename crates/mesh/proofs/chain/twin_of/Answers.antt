@@ -78,7 +78,11 @@ pub find-u-requires : goal.find-u-requires
 find-u-requires c =
     let w = c in
     let s = start (goal.at.find-u-requires w).After-wide-p in
-    ((indices s, le_refl s.args.n, s.requires.0.room.links-listed), ((chains s).heads w.wide-p.result (p-named (goal.at.find-u-requires w).After-wide-p), (chains s).links))
+    record {
+      indices = (indices s, le_refl s.args.n, s.requires.0.room.links-listed);
+      start_value = (chains s).heads w.wide-p.result (p-named (goal.at.find-u-requires w).After-wide-p);
+      holds = (chains s).links;
+    }
 
 pub returns-then-u-eq0 : goal.returns-then-u-eq0
 returns-then-u-eq0 c = twin-none _ _ _ _ (u-is (goal.at.returns-then-u-eq0 c).After-find-u) c.if-u-eq0.true

@@ -27,7 +27,10 @@ loop-p-init c = search (any-start, rules)
 pub fan_broken-requires : goal.fan_broken-requires
 fan_broken-requires c =
     let s = start c in
-    ((s.requires.0.0, omega arith, s.requires.1.1 c.loop-p.p c.loop-p-test.true), s.requires.1.0)
+    record {
+      connected = (s.requires.connected.0, omega arith, s.requires.by_index c.loop-p.p c.loop-p-test.true);
+      valences = s.requires.valences;
+    }
 
 pub returns-then-fan_broken : goal.returns-then-fan_broken
 unfolding fan_broken

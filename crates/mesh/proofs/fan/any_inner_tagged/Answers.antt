@@ -30,7 +30,7 @@ pub tag_off-requires : goal.tag_off-requires
 tag_off-requires c =
     let i = c in
     let s = start (goal.at.tag_off-requires i).In-loop-p in
-    (s.requires.0.0, omega arith, s.requires.1 i.loop-p.p i.loop-p-test.true)
+    (s.requires.connected.0, omega arith, s.requires.by_index i.loop-p.p i.loop-p-test.true)
 
 pub returns-then-tag_off : goal.returns-then-tag_off
 returns-then-tag_off c = search (any_found, rules)

@@ -35,7 +35,7 @@ module _ (i : In-loop-p) where
 -- ---- the valence of p is read and tested
 module _ (c : After-valence_off) where
   abbrev passing : In-loop-p
-  passing = let w : After-wide = (goal.at.After-valence_off c).After-wide in w.before.before
+  passing = (goal.at.After-valence_off c).In-loop-p
 
   abbrev begun : Start
   begun = start passing
@@ -44,7 +44,7 @@ module _ (c : After-valence_off) where
   told =
       c.valence_off.ensures
       ∙ ap (valence_bad (on_boundary (vertex passing) begun.args.n (p passing)))
-      (c.wide.ensures ∙ begun.requires.1.0.are (p passing) (p-named passing))
+      (c.wide.ensures ∙ begun.requires.valences.are (p passing) (p-named passing))
 
 -- ---- the answers, in the order of the code
 pub loop-p-init : goal.loop-p-init
@@ -54,7 +54,7 @@ pub valence_off-requires : goal.valence_off-requires
 valence_off-requires c =
     let i = c in
     let s = start (goal.at.valence_off-requires i).In-loop-p in
-    (s.requires.0.0, p-named (goal.at.valence_off-requires i).In-loop-p, s.requires.1.1 (p (goal.at.valence_off-requires i).In-loop-p) i.loop-p-test.true)
+    (s.requires.connected.0, p-named (goal.at.valence_off-requires i).In-loop-p, s.requires.by_index (p (goal.at.valence_off-requires i).In-loop-p) i.loop-p-test.true)
 
 pub returns-then-valence_off : goal.returns-then-valence_off
 unfolding valence_off

@@ -14,7 +14,7 @@ module _ (c : After-corner_at-start) where
 
 pub circulate-met-requires : goal.circulate-met-requires
 circulate-met-requires c =
-    let k = (start c).requires.0.0.twinned in
+    let k = (start c).requires.connected.0.twinned in
     record { listed = k.twins-listed; inside = c.corner_at-start.ensures.0; corners = corners-whole k; paired = twins-paired k }
 
 pub returns : goal.returns
@@ -22,7 +22,7 @@ returns c =
     let m = c in
     let f = m in
     let s = start (goal.at.returns f).After-corner_at-start in
-    let valence-is = c.wide.ensures ∙ s.requires.1.are s.args.p s.requires.0.1 in
+    let valence-is = c.wide.ensures ∙ s.requires.valences.are s.args.p s.requires.connected.1 in
     ap not
     (ap (eqb m.circulate-met.result) valence-is
-    ∙ fan-told s.requires.0.0.twinned f.corner_at-start.result s.args.p f.corner_at-start.ensures.1 m.circulate-met.result m.circulate-met.ensures)
+    ∙ fan-told s.requires.connected.0.twinned f.corner_at-start.result s.args.p f.corner_at-start.ensures.1 m.circulate-met.result m.circulate-met.ensures)

@@ -14,7 +14,7 @@ use Rattle.mesh.specs.Refusal.{half_edge_twice, list_rows, entry_rows}
 use Rattle.mesh.specs.Tables.{Indices}
 use Rattle.mesh.proofs.SizeLaws.{sized-indices}
 use Rattle.mesh.proofs.AcceptedLaws.{lists-unmet, vertex-false}
-use Rattle.mesh.proofs.phases.entry_refusal.Goals.{After-link_corners, After-list_refusal-listed, After-slice_known-2-1, After-slice_known-4-1, Else-listed-ne0, Start}
+use Rattle.mesh.proofs.phases.entry_refusal.Goals.{After-link_corners, After-list_refusal-listed, After-slice_known-4-1, Else-listed-ne0, Start}
 use Rattle.mesh.proofs.phases.entry_refusal.Goals as goal
 
 -- ---- at the entry: the mesh that was passed
@@ -26,7 +26,7 @@ abbrev row-7 : IndexedMesh → List Row
 row-7 M = row (half_edge_twice M) 7 ∷ []
 
 abbrev entry : After-list_refusal-listed → Start
-entry c = let k : After-slice_known-2-1 = (goal.at.After-list_refusal-listed c).After-slice_known-2-1 in k.before.before.before.before
+entry c = (goal.at.After-list_refusal-listed c).Start
 
 -- ---- past 6: no row of the lists is met
 module _ (c : Else-listed-ne0) where
@@ -83,7 +83,7 @@ returns-then-link_corners c =
     let l = linked (goal.at.returns-then-link_corners c).After-slice_known-4-1 in
     let e = passed l in
     record {
-      first = only-row-7 e ∙ met-here 7 none (sym l.link_corners.ensures.0 ∙ c.if-link_corners.true);
+      first = only-row-7 e ∙ met-here 7 none (sym l.link_corners.ensures.value ∙ c.if-link_corners.true);
       chained = λ z. absurd (suc-ne-zero 6 z);
     }
 
@@ -99,6 +99,6 @@ returns c =
     let l = linked (goal.at.returns c).After-slice_known-4-1 in
     let e = passed l in
     record {
-      first = only-row-7 e ∙ skipped 7 none (sym l.link_corners.ensures.0 ∙ c.if-link_corners.false);
-      chained = λ z. l.link_corners.ensures.1 c.if-link_corners.false;
+      first = only-row-7 e ∙ skipped 7 none (sym l.link_corners.ensures.value ∙ c.if-link_corners.false);
+      chained = λ z. l.link_corners.ensures.chained c.if-link_corners.false;
     }

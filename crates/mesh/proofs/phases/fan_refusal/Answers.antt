@@ -96,7 +96,11 @@ any_fan_broken-requires c =
     let e = c in
     let s = start₈ (goal.at.any_fan_broken-requires e).Else-any_unused in
     let some = unused-false (vertex s) (n s) s.args.v (used (goal.at.any_fan_broken-requires e).Else-any_unused) in
-    (s.requires, (record { listed = omega arith; are = (counted (goal.at.any_fan_broken-requires e).After-any_unused).count_corners.ensures }, some))
+    record {
+      connected = s.requires;
+      valences = record { listed = omega arith; are = (counted (goal.at.any_fan_broken-requires e).After-any_unused).count_corners.ensures };
+      by_index = some;
+    }
 
 pub returns-then-any_fan_broken : goal.returns-then-any_fan_broken
 returns-then-any_fan_broken c = row-met (after-8 (goal.at.returns-then-any_fan_broken c).Else-any_unused) (sym c.any_fan_broken.ensures ∙ c.if-any_fan_broken.true)
@@ -106,7 +110,11 @@ any_valence_off-requires c =
     let e = c in
     let s = start₉ (goal.at.any_valence_off-requires e).Else-any_fan_broken in
     let fans = fan-false (vertex s) (n s) s.args.v (whole (goal.at.any_valence_off-requires e).Else-any_fan_broken) in
-    (s.requires, (record { listed = omega arith; are = (counted (goal.at.Else-any_unused (passed-8 (goal.at.any_valence_off-requires e).Else-any_fan_broken)).After-any_unused).count_corners.ensures }, fans))
+    record {
+      connected = s.requires;
+      valences = record { listed = omega arith; are = e.count_corners.ensures };
+      by_index = fans;
+    }
 
 pub returns-then-any_valence_off : goal.returns-then-any_valence_off
 returns-then-any_valence_off c = let k = c in row-met (after-9 (goal.at.returns-then-any_valence_off k).Else-any_fan_broken) (sym k.any_valence_off.ensures ∙ c.if-any_valence_off.true)

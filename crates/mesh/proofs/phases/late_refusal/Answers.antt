@@ -55,7 +55,7 @@ returns-then-fans-ne0 c positions =
 pub vertex_refusal-requires : goal.vertex_refusal-requires
 vertex_refusal-requires c =
     let s = start₁₀ c in
-    (s.requires, fans-unmet (vertex s) (n s) s.args.v (no-fan-row c))
+    record { connected = s.requires; by_index = fans-unmet (vertex s) (n s) s.args.v (no-fan-row c) }
 
 pub returns : goal.returns
 returns c positions =

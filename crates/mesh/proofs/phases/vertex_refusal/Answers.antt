@@ -16,7 +16,7 @@ start c = (goal.at.After-shared_slice_known-4-1 c).Start
 
 -- ---- the answers, in the order of the code
 pub overflow_mul-n : goal.overflow_mul-n
-overflow_mul-n c = let i = (start c).requires.0.0.twinned.indices in omega arith
+overflow_mul-n c = let i = (start c).requires.connected.0.twinned.indices in omega arith
 
 pub any_inner_tagged-requires : goal.any_inner_tagged-requires
 any_inner_tagged-requires c = (start c).requires

@@ -15,7 +15,7 @@ use Rattle.patch.specs.Answer.{patches_short, patch_rows}
 use Rattle.patch.specs.Answer as Lists
 use Rattle.meshfile.specs.Tessellated.{tessellate_refusal}
 use Rattle.meshfile.proofs.OpenLaws.{no-twins, no-marks, patches-short, steps-off, steps_on, refused-mesh}
-use Rattle.meshfile.proofs.tessellate.tessellate.Goals.{After-marks-2-1, After-patches, After-patches-1, After-twins-1, Else-off_range, Else-patches-f, Start}
+use Rattle.meshfile.proofs.tessellate.tessellate.Goals.{After-marks-2-1, After-patches, Else-off_range, Else-patches-f, Start}
 use Rattle.meshfile.proofs.tessellate.tessellate.Goals as goal
 
 -- ---- at the entry: the mesh that was passed, and the list that was lent
@@ -37,7 +37,7 @@ module _ (c : Else-patches-f) where
 -- ---- N is in its range: what the patch call meets is what the contract says
 module _ (c : After-patches) where
   abbrev ranged : Else-off_range
-  ranged = let t : After-twins-1 = (goal.at.After-patches c).After-twins-1 in t.before
+  ranged = (goal.at.After-patches c).Else-off_range
 
   abbrev begin : Start
   begin = start (goal.at.Else-off_range ranged).Else-patches-f
@@ -50,7 +50,7 @@ module _ (c : After-patches) where
   same = steps_on (mesh begin) begin.args.n (lent begin) begin.requires.faces-high (sym ranged.off_range.ensures ∙ ranged.if-off_range.false)
 
 abbrev called : After-marks-2-1 → After-patches
-called c = let patched : After-patches-1 = (goal.at.After-marks-2-1 c).After-patches-1 in patched.before.before
+called c = (goal.at.After-marks-2-1 c).After-patches
 
 pub overflow_mul-f : goal.overflow_mul-f
 overflow_mul-f c = omega (arith, c.requires.faces-high)

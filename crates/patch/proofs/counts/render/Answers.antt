@@ -29,10 +29,10 @@ module _ (c : After-fill_weights-arg-1) where
   start = made (goal.at.After-count_faces counted).After-leaving-1
 
   abbrev valences : List ℕ
-  valences = counted.count_faces.last.1.1.0
+  valences = counted.count_faces.new.valences
 
   abbrev leaving : List ℕ
-  leaving = counted.count_faces.last.1.1.1.0
+  leaving = counted.count_faces.new.leaving
 
 pub fill_weights-requires : goal.fill_weights-requires
 fill_weights-requires c =
@@ -45,7 +45,7 @@ module _ (c : After-fill_rules-arg-1) where
   weighed = let lent = c in lent.before.before.before
 
   abbrev weights : List ℕ
-  weights = weighed.fill_weights.last.1.1.1.0
+  weights = weighed.fill_weights.new.weights
 
 pub fill_rules-requires : goal.fill_rules-requires
 fill_rules-requires c =
@@ -65,7 +65,7 @@ module _ (c : After-fill_ends-arg-1) where
   ruled = (goal.at.After-fill_ends-arg-1 c).After-fill_rules
 
   abbrev rules : List ℕ
-  rules = ruled.fill_rules.last.1.1.1.0
+  rules = ruled.fill_rules.new.rules
 
   abbrev begun : After-fill_weights-arg-1
   begun = (weighed (goal.at.After-fill_rules ruled).After-fill_rules-arg-1).before

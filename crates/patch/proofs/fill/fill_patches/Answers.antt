@@ -95,19 +95,19 @@ module _ (c : After-flags-1) where
   start = made (goal.at.After-render read).After-ends-1
 
   abbrev rules : List ℕ
-  rules = read.render.last.1.1.1.0
+  rules = read.render.new.rules
 
   abbrev weights : List ℕ
-  weights = read.render.last.1.1.1.1.0
+  weights = read.render.new.weights
 
   abbrev ends : List ℕ
-  ends = read.render.last.1.1.1.1.1.0
+  ends = read.render.new.ends
 
   abbrev values : List ℤ
-  values = valued.fill_values.last.1.1.0
+  values = valued.fill_values.new.values
 
   abbrev links : List ℕ
-  links = linking.fill_links.last.1.1.0
+  links = linking.fill_links.new.links
 
   abbrev accepted : WellFormed (mesh start)
   accepted = start.requires.accepted
@@ -128,9 +128,9 @@ module _ (c : After-flags-1) where
   room =
       let size = accepted.sized in
       record {
-        rules-listed = omega (arith, size.vertices-high, read.render.kept.1.1.1.0);
-        weights-listed = omega (arith, size.faces-high, read.render.kept.1.1.1.1.0);
-        ends-listed = omega (arith, size.faces-high, read.render.kept.1.1.1.1.1.0);
+        rules-listed = omega (arith, size.vertices-high, read.render.auto.rules);
+        weights-listed = omega (arith, size.faces-high, read.render.auto.weights);
+        ends-listed = omega (arith, size.faces-high, read.render.auto.ends);
       }
 
 pub slice_bounds-fill_corners-end-3 : goal.slice_bounds-fill_corners-end-3
@@ -157,16 +157,16 @@ module _ (c : After-write_patches-arg-2-1) where
   begun = (goal.at.After-fill_corners cornered).After-flags-1
 
   abbrev points : List ℤ
-  points = cornered.fill_corners.last.1.1.1.1.1.1.0
+  points = cornered.fill_corners.new.points
 
   abbrev flags : List ℕ
-  flags = cornered.fill_corners.last.1.1.1.1.1.1.1.0
+  flags = cornered.fill_corners.new.flags
 
   points-listed : 3 * (start begun).args.v ≤ length points
-  points-listed = omega (arith, few begun, cornered.fill_corners.kept.1.1.1.1.1.1.0)
+  points-listed = omega (arith, few begun, cornered.fill_corners.auto.points)
 
   marks-listed : (start begun).args.v ≤ length flags
-  marks-listed = omega (arith, few begun, cornered.fill_corners.kept.1.1.1.1.1.1.1.0)
+  marks-listed = omega (arith, few begun, cornered.fill_corners.auto.flags)
 
   tables : Tables (mesh (start begun)) (patch_lists (start begun).args.faces.now (values begun) (links begun) (weights begun) points flags)
   tables = record {

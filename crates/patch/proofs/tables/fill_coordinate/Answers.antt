@@ -54,10 +54,10 @@ module _ (l : At-loop-p) where
   start = made (goal.at.After-add_sums summed).After-ring-1
 
   abbrev ring : List ℤ
-  ring = summed.add_sums.last.1.1.1.1.0
+  ring = summed.add_sums.new.ring
 
   abbrev sharp : List ℤ
-  sharp = summed.add_sums.last.1.1.1.1.1.0
+  sharp = summed.add_sums.new.sharp
 
   abbrev lists : CornerLists
   lists =

@@ -12,7 +12,7 @@ use Rattle.finite.proofs.FilledLaws.{length-list_below, filled-whole}
 use Rattle.tangent.specs.Told.{parts_told}
 use Rattle.tangent.specs.Lists.{number_from_parts, values_of, face_valences, cosines_from, parts_from}
 use Rattle.tangent.proofs.DrawnLaws.{weighing, source, known}
-use Rattle.tangent.proofs.fill.fill_tangents.Goals.{After-cosines_of-cosines, After-face_valences-valences, After-fill_parts, After-fill_values, After-parts-1, After-values-3-1, After-weights-weights, Start}
+use Rattle.tangent.proofs.fill.fill_tangents.Goals.{After-cosines_of-cosines, After-face_valences-valences, After-fill_parts, After-fill_values, After-parts-1, After-weights-weights, Start}
 use Rattle.tangent.proofs.fill.fill_tangents.Goals as goal
 
 -- ---- the values, the counts, the cosines and the weights are known
@@ -40,7 +40,7 @@ module _ (w : After-weights-weights) where
 
 -- ---- the way back from the list of parts
 abbrev weighed : After-parts-1 → After-weights-weights
-weighed c = let lent : After-values-3-1 = (goal.at.After-parts-1 c).After-values-3-1 in lent.before.before.before
+weighed c = (goal.at.After-parts-1 c).After-weights-weights
 
 -- ---- the parts are filled
 module _ (p : After-fill_parts) where
@@ -48,7 +48,7 @@ module _ (p : After-fill_parts) where
   w = weighed (goal.at.After-fill_parts p).After-parts-1
 
   parts_are : {l : List ℤ}
-      → l ≡ filled (parts_told (values-at w).fill_values.last.1.1.0 (start w).args.twins.now (counts-at w).face_valences-valences.result (start w).args.g) 72
+      → l ≡ filled (parts_told (values-at w).fill_values.new.values (start w).args.twins.now (counts-at w).face_valences-valences.result (start w).args.g) 72
       (replicate 72 (pos 0))
       → l ≡ parts w
   parts_are e =

@@ -12,7 +12,7 @@ use Rattle.tangent.specs.Vector.{first_term, second_term, corrected}
 use Rattle.tangent.specs.Lists.{vector_of}
 use Rattle.tangent.proofs.DocumentLaws.{triple-difference-back, first_back}
 use Rattle.tangent.proofs.SideLaws.{Fitting, fitting}
-use Rattle.tangent.proofs.side.vector.Goals.{After-negated, After-struct_told-in-EndIn-3-1, After-struct_told-in-EndIn-6-1, After-struct_told-in-StartIn-3-1, Start}
+use Rattle.tangent.proofs.side.vector.Goals.{After-negated, After-struct_told-in-EndIn-6-1, After-struct_told-in-StartIn-3-1, Start}
 use Rattle.tangent.proofs.side.vector.Goals as goal
 
 -- ---- at the start: the numbers of the side fit
@@ -35,7 +35,7 @@ reversed-is c =
     read_back w64 c.negated.type_inv (rw (to_z-of_z (whole (goal.at.After-negated s).Start).end) at c.negated.ensures)
 
 abbrev turned : After-struct_told-in-EndIn-6-1 → After-negated
-turned c = let told : After-struct_told-in-EndIn-3-1 = (goal.at.After-struct_told-in-EndIn-6-1 c).After-struct_told-in-EndIn-3-1 in told.before.before
+turned c = (goal.at.After-struct_told-in-EndIn-6-1 c).After-negated
 
 abbrev entry : After-struct_told-in-EndIn-6-1 → Start
 entry c = let told = (turned c) in told.before.before.before
