@@ -1,5 +1,6 @@
 //! The text of the printed lines, in ASCII.
 #![tactic(auto)]
+
 ghost use Rattle.std.specs.Prelude.{◌+◌, ◌≤◌, ◌<◌, length};
 ghost use Rattle.text.specs.Text.{decimal, text, counts_line, sample_line, refusal_line, Printed};
 ghost use Rattle.text.specs.Put.{Put, field, refused};

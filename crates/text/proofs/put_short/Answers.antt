@@ -2,7 +2,6 @@
 use mathlib.Core.Path.{ap}
 use native.Mathlib.Omega.{arith}
 use lib.ListN.{length, length-set}
-use borrow.Author.Rules.{rules}
 use Rattle.text.proofs.TextLaws.{decimal-one, decimal-two, put_one, put-field}
 use Rattle.text.proofs.put_short.Goals as goal
 

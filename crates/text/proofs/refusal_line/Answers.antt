@@ -1,6 +1,5 @@
 -- `refusal_line` meets its contract: the number is stored behind the word and its blank.
 use native.Mathlib.Omega.{arith}
-use borrow.Author.Rules.{rules}
 use Rattle.text.specs.Text.{refusal_line}
 use Rattle.text.specs.Put.{refused}
 use Rattle.text.proofs.TextLaws.{put_word, printed, unprinted}
@@ -11,7 +10,4 @@ returns-then-line-lt-LINE_PLACES c = unprinted _ _ c.if-line-lt-LINE_PLACES.true
 
 pub returns : goal.returns
 unfolding refusal_line
-returns c =
-    let number = c in
-    let word = number in
-    printed (omega arith) (omega arith) (put_word refused word.Put-refused.ensures number.put_number.ensures.0)
+returns c = printed (omega arith) (omega arith) (put_word refused c.put_refused.ensures c.put_number.ensures.put)

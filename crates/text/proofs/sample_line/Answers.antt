@@ -1,6 +1,5 @@
 -- `sample_line` meets its contract: the six numbers are stored one behind the other, each with the byte behind it.
 use native.Mathlib.Omega.{arith}
-use borrow.Author.Rules.{rules}
 use mir.Facts.{to_z-of_z}
 use Rattle.text.specs.Text.{decimal, text, sample_line}
 use Rattle.text.proofs.TextLaws.{put_word, printed, unprinted}
@@ -12,17 +11,9 @@ returns-then-line-lt-LINE_PLACES c = unprinted _ _ c.if-line-lt-LINE_PLACES.true
 pub returns : goal.returns
 unfolding sample_line
 returns c =
-    let sixth = c in
-    let fifth = sixth in
-    let fourth = fifth in
-    let third = fourth in
-    let second = third in
-    let first = second in
-    let s = first in
     printed (omega arith) (omega arith)
-    (put_word (decimal s.args.f) first.put_number-a_at.ensures.0
-    (put_word (decimal s.args.a) second.put_number-b_at.ensures.0
-    (put_word (decimal s.args.b) third.put_number-x_at.ensures.0
-    (put_word (text s.args.x) (simp (to_z-of_z s.ranges.x) at fourth.put_coordinate-y_at.ensures.0)
-    (put_word (text s.args.y) (simp (to_z-of_z s.ranges.y) at fifth.put_coordinate-z_at.ensures.0)
-    (simp (to_z-of_z s.ranges.z) at sixth.put_coordinate.ensures.0))))))
+    (put_word (decimal c.args.f) c.put_number-a_at.ensures.put
+    (put_word (decimal c.args.a) c.put_number-b_at.ensures.put
+    (put_word (decimal c.args.b) c.put_number-x_at.ensures.put
+    (put_word (text c.args.x) (simp (to_z-of_z c.ranges.x) at c.put_coordinate-y_at.ensures.put)
+    (put_word (text c.args.y) (simp (to_z-of_z c.ranges.y) at c.put_coordinate-z_at.ensures.put) (simp (to_z-of_z c.ranges.z) at c.put_coordinate.ensures.put))))))
