@@ -19,7 +19,7 @@ pub record ReadAs (x' x : ℤ) (X : ℕ) : Type 0 where
   pub size : nat_abs x ≤ X
 
 pub sized : (x : ℤ) {X : ℕ} → nat_abs x ≤ X → X < 2 ^ 63 → ReadAs (read x) x X
-sized x p l = record { is = to_z-of_z (sfits-abs x (omega arith)); size = p }
+sized x p l = record { is = to_z-of_z {w = w64} (sfits-abs x (omega arith)); size = p }
 
 module _ (w : ℕ) {x' x : ℤ} {X : ℕ} (p : ReadAs x' x X) where
   pub times-fits : w * X < 2 ^ 63 → SFits w64 (pos w *ℤ x')

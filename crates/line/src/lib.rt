@@ -1,5 +1,6 @@
 //! A line of samples: all samples of a face with one b, at one go (rule S6).
 #![tactic(auto)]
+
 mod differences;
 pub mod model;
 mod points;

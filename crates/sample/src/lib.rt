@@ -1,5 +1,6 @@
 //! Samples of bicubic patches, as whole numbers of 1/256 micrometre and as doubles in micrometres (rules S1 to S7).
 #![tactic(auto)]
+
 mod bernstein;
 mod marked;
 mod micrometres;

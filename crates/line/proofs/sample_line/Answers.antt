@@ -4,7 +4,6 @@ use mathlib.Core.Option.{none}
 use Prim.Native.Nat.{◌≤◌}
 use native.Mathlib.Omega.{arith}
 use lib.ListN.{length}
-use borrow.Author.Rules.{rules}
 use Rattle.answer.specs.Table.{refusal_of}
 use Rattle.answer.proofs.TableLaws.{refusal-some}
 use Rattle.sample.specs.Refusal.{max_steps}

@@ -36,6 +36,9 @@ overflow_add-end c = omega (arith, (holds c).listed)
 pub offset_bounds-patches-at : goal.offset_bounds-patches-at
 offset_bounds-patches-at c = omega (arith, (holds c).listed)
 
+pub slice_bounds-patch_curves-end : goal.slice_bounds-patch_curves-end
+slice_bounds-patch_curves-end c = omega (arith, (holds c).listed)
+
 pub slice_bounds-patch_curves-count : goal.slice_bounds-patch_curves-count
 slice_bounds-patch_curves-count c = omega (arith, (holds c).listed)
 

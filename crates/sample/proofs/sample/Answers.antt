@@ -1,6 +1,5 @@
 -- `sample` meets its contract: its answer is that of the sample with its own mark, without the mark.
 use mathlib.Core.Path.{sym, ap, ◌∙◌}
-use borrow.Author.Rules.{rules}
 use Rattle.answer.proofs.TableLaws.{over}
 use Rattle.sample.specs.declared.model.MarkedPoint.{MarkedPoint}
 use Rattle.sample.specs.Marked.{marked}
@@ -12,10 +11,10 @@ pub returns-in-At : goal.returns-in-At
 returns-in-At c =
     let known = c in
     let called : After-own_sample = (goal.at.returns-in-At known).After-own_sample in
-    ap (over (λ (p : MarkedPoint). p.point)) (sym (ap marked known.own-1.given.1) ∙ called.own_sample.ensures) ∙ own-point _ _ _ _ _
+    ap (over (λ (p : MarkedPoint). p.point)) (sym (ap marked known.in-At.is) ∙ called.own_sample.ensures) ∙ own-point _ _ _ _ _
 
 pub returns-in-Refused : goal.returns-in-Refused
 returns-in-Refused c =
     let known = c in
     let called : After-own_sample = (goal.at.returns-in-Refused known).After-own_sample in
-    ap (over (λ (p : MarkedPoint). p.point)) (sym (ap marked known.k-1.given.1) ∙ called.own_sample.ensures) ∙ own-point _ _ _ _ _
+    ap (over (λ (p : MarkedPoint). p.point)) (sym (ap marked known.in-Refused.is) ∙ called.own_sample.ensures) ∙ own-point _ _ _ _ _

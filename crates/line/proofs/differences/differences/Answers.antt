@@ -13,7 +13,7 @@ use Rattle.line.proofs.differences.differences.Goals as goal
 -- ---- at the entry: the values and their differences, as the machine reads them
 module _ (s : Start) where
   abbrev at : ℕ → ℤ
-  at i = get_or s.args.t1 i (pos 0)
+  at i = get_or s.args.values i (pos 0)
 
   value : (i : ℕ) → i < 4 → ReadAs (read (at i)) (at i) (2 ^ 45)
   value i l = sized (at i) (s.requires.fine i l) (omega arith)

@@ -1,7 +1,6 @@
 -- `store_point` meets its contract: it stores three numbers, one behind the other, and they have room.
 use lib.ListN.{length-set}
 use native.Mathlib.Omega.{arith}
-use borrow.Author.Rules.{rules}
 use Rattle.line.proofs.points.store_point.Goals as goal
 
 pub bounds-line-a-2 : goal.bounds-line-a-2

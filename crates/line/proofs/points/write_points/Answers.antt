@@ -1,6 +1,6 @@
 -- `write_points` meets its contract: at each a the list is filled with the points before it, and the three sums are those of a.
 use mathlib.Core.Path.{◌≡◌, ap, ◌∙◌}
-use Prim.Native.Nat.{ℕ, ◌+◌, ◌*◌, ◌-◌, ◌≤◌, ◌<◌}
+use Prim.Native.Nat.{ℕ, ◌*◌, ◌≤◌, ◌<◌}
 use native.Mathlib.Nat.{le_antisymm}
 use native.Mathlib.Omega.{arith}
 use lib.ListN.{length}
@@ -10,7 +10,7 @@ use Rattle.sample.specs.Blend.{Mean}
 use Rattle.line.specs.Differences.{Summable, Tame}
 use Rattle.line.specs.Points.{curve_in}
 use Rattle.line.proofs.SizedLaws.{read}
-use Rattle.line.proofs.LineLaws.{of_three, line_along, curve-summable, LineDrawn, drawn-start, drawn-length}
+use Rattle.line.proofs.LineLaws.{of_three, line_along, curve-summable, drawn-start, drawn-length}
 use Rattle.line.proofs.LineLaws.{drawn-asked, drawn-tame, drawn-told, drawn-more}
 use Rattle.line.proofs.points.write_points.Goals.{After-along_z-1, After-first_sums-z, After-line-1, After-quotient-p, After-quotient-q, After-quotient-r, After-stepped-z, At-loop-a, In-loop-a, Start}
 use Rattle.line.proofs.points.write_points.Goals as goal
@@ -126,9 +126,9 @@ loop-a-preserved c =
     let told = drawn-told g s.requires (within p) in
     rw (stored c).store_point.ensures
     (drawn-more g s.requires (within p)
-    (told 0 (omega arith) _ first.quotient-p.ok first.quotient-p.ensures)
-    (told 1 (omega arith) _ second.quotient-q.ok second.quotient-q.ensures)
-    (told 2 (omega arith) _ third.quotient-r.ok third.quotient-r.ensures)
+    (told 0 (omega arith) _ first.quotient-p.type_inv first.quotient-p.ensures)
+    (told 1 (omega arith) _ second.quotient-q.type_inv second.quotient-q.ensures)
+    (told 2 (omega arith) _ third.quotient-r.type_inv third.quotient-r.ensures)
     c.stepped-x.ensures
     c.stepped-y.ensures
     c.stepped-z.ensures)

@@ -1,7 +1,6 @@
 -- `column` meets its contract: the four calls give the four values.
 use mathlib.Core.Path.{sym, ap, ◌∙◌}
 use native.Mathlib.Nat.{add-zero}
-use native.Mathlib.Omega.{arith}
 use mir.Syntax.{w64}
 use Rattle.integer.proofs.Laws.{read_back}
 use Rattle.sample.specs.Blend.{control_of}

@@ -1,11 +1,11 @@
 -- `all_exact` meets its contract: the flag says whether each of the marks passed is 1.
-use mathlib.Core.Path.{◌≡◌, sym, ap, ◌∙◌}
+use mathlib.Core.Path.{sym, ap, ◌∙◌}
 use mathlib.Core.Bool.{Bool, true, ◌&&◌}
-use Prim.Native.Nat.{ℕ, ◌-◌, ◌≤◌}
+use Prim.Native.Nat.{ℕ}
 use native.Mathlib.Nat.{le_antisymm}
 use native.Mathlib.Omega.{arith}
 use lib.Dec.{eqb}
-use lib.ListN.{length, get_or}
+use lib.ListN.{get_or}
 use Rattle.finite.specs.Fold.{all_below}
 use Rattle.finite.proofs.FoldLaws.{fold-zero, fold_step}
 use Rattle.sample.proofs.marked.all_exact.Goals.{Start}

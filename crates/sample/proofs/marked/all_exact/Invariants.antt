@@ -1,13 +1,9 @@
 -- `all_exact` meets its contract: the flag says whether each of the marks passed is 1.
-use mathlib.Core.Path.{◌≡◌, sym, ap, ◌∙◌}
-use mathlib.Core.Bool.{Bool, true, ◌&&◌}
-use Prim.Native.Nat.{ℕ, ◌-◌, ◌≤◌}
-use native.Mathlib.Nat.{le_antisymm}
-use native.Mathlib.Omega.{arith}
+use mathlib.Core.Path.{◌≡◌}
+use Prim.Native.Nat.{◌-◌, ◌≤◌}
 use lib.Dec.{eqb}
 use lib.ListN.{length, get_or}
 use Rattle.finite.specs.Fold.{all_below}
-use Rattle.finite.proofs.FoldLaws.{fold-zero, fold_step}
 use Rattle.sample.proofs.marked.all_exact.Given as goal
 
 abbrev pub invariant-loop-i : goal.invariant-loop-i

@@ -33,6 +33,9 @@ overflow_add-end c = omega (arith, (holds c).listed)
 pub offset_bounds-patches-at : goal.offset_bounds-patches-at
 offset_bounds-patches-at c = omega (arith, (holds c).listed)
 
+pub slice_bounds-point-end : goal.slice_bounds-point-end
+slice_bounds-point-end c = omega (arith, (holds c).listed)
+
 pub slice_bounds-point-count : goal.slice_bounds-point-count
 slice_bounds-point-count c = omega (arith, (holds c).listed)
 

@@ -2,7 +2,6 @@
 use mathlib.Core.Path.{refl}
 use lib.Ieee.{of_bits}
 use mir.Facts.{to_z-of_z}
-use borrow.Author.Rules.{rules}
 use Rattle.sample.proofs.MicrometreLaws.{over256-exact}
 use Rattle.sample.proofs.micrometres.over_256.Goals as goal
 

@@ -1,17 +1,10 @@
 -- `any_control_off` meets its contract: the flag says whether one of the numbers passed is beyond the limit.
-use mathlib.Core.Path.{◌≡◌, sym, ap, ap₂, ◌∙◌}
-use mathlib.Core.Bool.{Bool, false, ◌||◌}
-use Prim.Native.Nat.{ℕ, ◌-◌, ◌≤◌}
-use native.Mathlib.Nat.{le_antisymm}
-use native.Mathlib.Omega.{arith}
+use mathlib.Core.Path.{◌≡◌}
+use Prim.Native.Nat.{◌-◌, ◌≤◌}
 use lib.Dec.{ltb}
-use lib.IntN.{ℤ, pos, nat_abs}
+use lib.IntN.{pos, nat_abs}
 use lib.ListN.{length, get_or}
-use mir.Facts.{to_z-of_z}
-use mir.Syntax.{w32}
-use mir.Val.{SFits}
 use Rattle.finite.specs.Fold.{any_below}
-use Rattle.finite.proofs.FoldLaws.{fold-zero, fold_step}
 use Rattle.sample.specs.Refusal.{max_control}
 use Rattle.sample.proofs.refusal.any_control_off.Given as goal
 

@@ -3,7 +3,6 @@
 use mathlib.Core.Path.{◌≡◌, sym, ◌∙◌}
 use mathlib.Core.Bool.{Bool, false}
 use mathlib.Core.List.{List, [], ◌∷◌}
-use native.Mathlib.Omega.{arith}
 use Rattle.answer.specs.Table.{Row, row}
 use Rattle.answer.proofs.TableLaws.{From, all-rows, row-met, row-passed}
 use Rattle.sample.specs.Refusal.{control_off, place_off, sample_rows}
