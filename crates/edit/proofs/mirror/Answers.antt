@@ -21,11 +21,11 @@ module _ (s : Start) where
   mesh = indexed s.args.v s.args.f s.args.positions.now s.args.tags.now s.args.faces.now
 
   abbrev lent : Outputs
-  lent = outputs s.args.out-positions.now s.args.out-tags.now s.args.out-faces.now
+  lent = outputs s.args.out_positions.now s.args.out_tags.now s.args.out_faces.now
 
 -- ---- the check has answered
 abbrev start : After-check_alone-answer → Start
-start c = let k = c in k.before.before
+start c = (goal.at.After-check_alone-answer c).Start
 
 -- ---- it refused
 abbrev asked : In-Refused → After-check_alone-answer
@@ -77,7 +77,7 @@ module _ (c : Else-outputs_off) where
 
 -- ---- the way back, from list to list
 abbrev before-tags : After-copy_bytes-arg-1 → Else-outputs_off
-before-tags c = let written = c in written.before.before
+before-tags c = (goal.at.After-copy_bytes-arg-1 c).Else-outputs_off
 
 abbrev before-faces : After-reflect_faces-arg-1 → Else-outputs_off
 before-faces c = let written = c in before-tags (goal.at.After-reflect_faces-arg-1 written).After-copy_bytes-arg-1

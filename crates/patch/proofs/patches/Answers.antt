@@ -10,7 +10,7 @@ use Rattle.mesh.specs.IndexedMesh.{IndexedMesh, indexed}
 use Rattle.mesh.specs.Answer.{counts_of, checked, mesh_refusal}
 use Rattle.patch.specs.Answer.{Lent, lent, patch_rows, patch_answer, patch_twins}
 use Rattle.patch.proofs.AnswerLaws.{same_answer, same-twins, patches-long, marks-long, result-well-formed, result-list, result-marks, twins-left}
-use Rattle.patch.proofs.patches.Goals.{After-check_after-answer, After-fill_patches, After-own_refusal-own, After-slice_known-3-1, After-slice_known-4-1, In-Accepted, Start}
+use Rattle.patch.proofs.patches.Goals.{After-check_after-answer, After-fill_patches, After-own_refusal-own, After-slice_known-3-1, After-slice_known-4-1, In-Accepted, In_default, Start}
 use Rattle.patch.proofs.patches.Goals as goal
 
 -- ---- at the entry: the mesh that was passed, and the three lists that were lent
@@ -42,7 +42,7 @@ module _ (c : After-slice_known-3-1) where
   left : asked.check_after-answer.new.twins ≡ patch_twins (mesh start) (lists start)
   left = asked.check_after-answer.ensures.twins-are ∙ same-twins (mesh start) (lists start) _ owned.own_refusal-own.ensures
 
-abbrev refused : goal.In_default → After-slice_known-3-1
+abbrev refused : In_default → After-slice_known-3-1
 refused c = (goal.at.In_default c).After-slice_known-3-1
 
 abbrev accepted : In-Accepted → After-slice_known-3-1

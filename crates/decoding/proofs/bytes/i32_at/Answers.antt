@@ -7,4 +7,4 @@ use Rattle.decoding.specs.Bytes.{signed32}
 use Rattle.decoding.proofs.bytes.i32_at.Goals as goal
 
 pub returns : goal.returns
-returns c = read_back w32 c.Signed-of.type-inv (c.Signed-of.ensures ∙ ap signed32 c.u32_at.ensures)
+returns c = read_back w32 c.signed_of.type_inv (c.signed_of.ensures ∙ ap signed32 c.u32_at.ensures)

@@ -16,7 +16,7 @@ module _ (c : In-loop-p) where
   head = (goal.at.In-loop-p c).At-loop-p
 
   abbrev start : Start
-  start = let known = head in known.before.before.before.before
+  start = (goal.at.At-loop-p head).Start
 
   below : head.loop-p.p < length start.args.tags.now
   below = c.loop-p-test.true

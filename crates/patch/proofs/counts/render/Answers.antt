@@ -13,7 +13,7 @@ use Rattle.patch.proofs.counts.render.Goals as goal
 
 -- ---- the counts: the function's entry, from their tables
 abbrev made : After-leaving-1 → Start
-made c = let k = c in k.before.before.before.before
+made c = (goal.at.After-leaving-1 c).Start
 
 pub count_faces-requires : goal.count_faces-requires
 count_faces-requires c =
@@ -23,7 +23,7 @@ count_faces-requires c =
 -- ---- the weights
 module _ (c : After-fill_weights-arg-1) where
   abbrev counted : After-count_faces
-  counted = let lent = c in lent.before.before
+  counted = (goal.at.After-fill_weights-arg-1 c).After-count_faces
 
   abbrev start : Start
   start = made (goal.at.After-count_faces counted).After-leaving-1
@@ -42,7 +42,7 @@ fill_weights-requires c =
 -- ---- the rules
 module _ (c : After-fill_rules-arg-1) where
   abbrev weighed : After-fill_weights
-  weighed = let lent = c in lent.before.before.before
+  weighed = (goal.at.After-fill_rules-arg-1 c).After-fill_weights
 
   abbrev weights : List ℕ
   weights = weighed.fill_weights.new.weights

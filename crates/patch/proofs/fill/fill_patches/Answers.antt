@@ -24,7 +24,7 @@ use Rattle.patch.proofs.fill.fill_patches.Goals as goal
 
 -- ---- the three tables of the pass are made: the function's entry, and the mesh
 abbrev made : After-ends-1 → Start
-made c = let k = c in k.before.before.before.before
+made c = (goal.at.After-ends-1 c).Start
 
 module _ (s : Start) where
   abbrev mesh : IndexedMesh
@@ -83,7 +83,7 @@ fill_links-requires c = ((entry c).requires.twinned.listed, corners-few (entry c
 -- ---- before the corner points are written: what the passes gave
 module _ (c : After-flags-1) where
   abbrev linking : After-fill_links
-  linking = let k = c in k.before.before.before
+  linking = (goal.at.After-flags-1 c).After-fill_links
 
   abbrev valued : After-fill_values
   valued = valuing (goal.at.After-fill_links linking).After-links-1
@@ -151,7 +151,7 @@ fill_corners-requires c =
 -- ---- before the patches are written: all tables
 module _ (c : After-write_patches-arg-2-1) where
   abbrev cornered : After-fill_corners
-  cornered = let k = c in let l = k in l.before.before.before
+  cornered = (goal.at.After-write_patches-arg-2-1 c).After-fill_corners
 
   abbrev begun : After-flags-1
   begun = (goal.at.After-fill_corners cornered).After-flags-1

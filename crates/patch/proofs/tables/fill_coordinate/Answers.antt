@@ -25,7 +25,7 @@ use Rattle.patch.proofs.tables.fill_coordinate.Goals as goal
 
 -- ---- the sums are made: the function's entry, from the first of their tables
 abbrev made : After-ring-1 → Start
-made c = let k = c in k.before.before.before
+made c = (goal.at.After-ring-1 c).Start
 
 pub slice_bounds-add_sums-end : goal.slice_bounds-add_sums-end
 slice_bounds-add_sums-end c = refl

@@ -37,7 +37,7 @@ module _ (c : In-loop-k) where
   head = (goal.at.In-loop-k c).At-loop-k
 
   abbrev start : Start
-  start = let k = head in k.before.before
+  start = (goal.at.At-loop-k head).Start
 
   below : head.loop-k.k < 3
   below = c.loop-k-test.true
