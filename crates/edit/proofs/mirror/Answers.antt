@@ -41,7 +41,7 @@ module _ (c : After-outputs_off) where
 
   accepted : Accepted (mesh entry)
   unfolding mesh_refusal
-  accepted = check-accepted (mesh entry) (sym (ap checked c.enum_told-1.given.1) ∙ checked-at.check_alone-answer.ensures)
+  accepted = check-accepted (mesh entry) (sym (ap checked c.in_default.is) ∙ checked-at.check_alone-answer.ensures)
 
 pub returns-in-Refused : goal.returns-in-Refused
 unfolding mesh_refusal
@@ -49,7 +49,7 @@ returns-in-Refused c =
     let k = asked c in
     let s = start k in
     refused (mesh s) (lent s) _ refl
-    (check-refused (mesh s) (lent s) (sym (ap checked c.answer-1.given.1) ∙ k.check_alone-answer.ensures))
+    (check-refused (mesh s) (lent s) (sym (ap checked c.in-Refused.is) ∙ k.check_alone-answer.ensures))
 
 pub returns-then-outputs_off : goal.returns-then-outputs_off
 returns-then-outputs_off c =
@@ -85,7 +85,7 @@ before-faces c = let written = c in before-tags (goal.at.After-reflect_faces-arg
 pub reflect_positions-requires : goal.reflect_positions-requires
 reflect_positions-requires c =
     let k : Else-outputs_off = (goal.at.reflect_positions-requires c).Else-outputs_off in
-    (le_of_eq (sym (same k).positions), λ i l. (formed k).coordinates i (rw (formed k).sized.positions-are at l))
+    record { positions_in_bounds = le_of_eq (sym (same k).positions); by_index = λ i l. (formed k).coordinates i (rw (formed k).sized.positions-are at l) }
 
 pub copy_bytes-requires : goal.copy_bytes-requires
 copy_bytes-requires c = le_of_eq (sym (same (before-tags c)).tags)

@@ -14,7 +14,7 @@ use Rattle.decoding.specs.Decoding.{decoded}
 use Rattle.decoding.proofs.FileLaws.{Whole, file-whole}
 use Rattle.mesh.specs.WellFormed.{MeshSized}
 use Rattle.meshfile.proofs.OpenLaws.{FileRead, file-read, file-turned-down, part-fits, mesh-is, whole-sized, open-mesh, open-refused}
-use Rattle.meshfile.proofs.open.Goals.{After-decode, After-tessellate-arg-in-Read-1, After-tessellate-arg-in-Read-3-1, In-Read, In-Read-1, In-Read-2, In-Refused-1, Start}
+use Rattle.meshfile.proofs.open.Goals.{After-decode, After-tessellate-arg-in-Read-1, After-tessellate-arg-in-Read-3-1, In-Read, In-Refused-1, Start}
 use Rattle.meshfile.proofs.open.Goals as goal
 
 -- ---- the three lists of `open`, before they are written
@@ -39,7 +39,7 @@ file c = (start c).args.bytes.now
 -- ---- the file was read
 module _ (c : In-Read) where
   abbrev call : After-decode
-  call = let t : In-Read-2 = (goal.at.In-Read c).In-Read-2 in let k : In-Read-1 = (goal.at.In-Read-2 t).In-Read-1 in k.before.before.before.before
+  call = (goal.at.In-Read c).After-decode
 
   abbrev header : Header
   header = c.header-1.given.0.0

@@ -58,8 +58,8 @@ returns-in_default c =
     record {
       answer-is = answered k;
       twins-are = left k;
-      patches-are = rw (refusal-met (counts_of (mesh s)) (met k) (sym (ap checked c.enum_told-1.given.1) ∙ answered k));
-      marks-are = rw (refusal-met (counts_of (mesh s)) (met k) (sym (ap checked c.enum_told-1.given.1) ∙ answered k));
+      patches-are = rw (refusal-met (counts_of (mesh s)) (met k) (sym (ap checked c.in_default.is) ∙ answered k));
+      marks-are = rw (refusal-met (counts_of (mesh s)) (met k) (sym (ap checked c.in_default.is) ∙ answered k));
     }
 
 pub fill_patches-requires : goal.fill_patches-requires
@@ -67,7 +67,7 @@ fill_patches-requires c =
     let t : In-Accepted = (goal.at.fill_patches-requires c).In-Accepted in
     let k = accepted t in
     let s = start k in
-    let counted = sym (ap checked t.answer-1.given.1) ∙ answered k in
+    let counted = sym (ap checked c.in-Accepted.is) ∙ answered k in
     record {
       accepted = result-well-formed (mesh s) (lists s) counted;
       twinned = twins-left (mesh s) (lists s) counted _ (left k);
@@ -83,13 +83,13 @@ shape_of-marks c = (filled c).fill_patches.auto.marks
 
 pub returns : goal.returns
 returns c =
-    let t : In-Accepted = let known = (filled c) in known.before.before in
+    let t = (goal.at.returns c).In-Accepted in
     let k = accepted t in
     let s = start k in
-    let counted = sym (ap checked t.answer-1.given.1) ∙ answered k in
+    let counted = sym (ap checked c.in-Accepted.is) ∙ answered k in
     record {
       answer-is = counted;
       twins-are = left k;
-      patches-are = (filled c).fill_patches.ensures.0 ∙ sym (result-list (mesh s) (lists s) counted);
-      marks-are = (filled c).fill_patches.ensures.1 ∙ sym (result-marks (mesh s) (lists s) counted);
+      patches-are = (filled c).fill_patches.ensures.patches_after ∙ sym (result-list (mesh s) (lists s) counted);
+      marks-are = (filled c).fill_patches.ensures.marks_after ∙ sym (result-marks (mesh s) (lists s) counted);
     }

@@ -13,7 +13,7 @@ use Rattle.mesh.specs.Answer.{checked, check_answer}
 use Rattle.tangent.specs.Lists.{Fanned}
 use Rattle.tangent.proofs.FillLaws.{drawn}
 use Rattle.tangent.proofs.AnswerLaws.{own_twins, refused, check-refused, formed, fanned, own-refused, face-below, face-closed, list-long, done}
-use Rattle.tangent.proofs.tangents.Goals.{After-check-answer, Else-own-ne0, Start}
+use Rattle.tangent.proofs.tangents.Goals.{After-check-answer, Else-own-ne0, In_default, Start}
 use Rattle.tangent.proofs.tangents.Goals as goal
 
 -- ---- at the entry: the mesh that was passed, and the list that was lent
@@ -32,7 +32,7 @@ abbrev start : After-check-answer → Start
 start c = (goal.at.After-check-answer c).Start
 
 -- ---- it accepted
-module _ (c : goal.In_default) where
+module _ (c : In_default) where
   abbrev asked : After-check-answer
   asked = (goal.at.In_default c).After-check-answer
 
@@ -48,7 +48,7 @@ module _ (c : goal.In_default) where
 
 -- ---- nothing of its own is met
 module _ (c : Else-own-ne0) where
-  abbrev told : goal.In_default
+  abbrev told : In_default
   told = (goal.at.Else-own-ne0 c).In_default
 
 pub returns-in-Refused : goal.returns-in-Refused

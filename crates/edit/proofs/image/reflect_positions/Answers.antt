@@ -29,7 +29,7 @@ pub loop-i-init : goal.loop-i-init
 loop-i-init c = filling-start _ _ _
 
 pub reflected_coordinate-requires : goal.reflected_coordinate-requires
-reflected_coordinate-requires c = rw (to_z-of_z (fits c)) ((at-loop c).requires.1 (at-loop c).loop-i.i c.loop-i-test.true)
+reflected_coordinate-requires c = rw (to_z-of_z (fits c)) ((at-loop c).requires.by_index (at-loop c).loop-i.i c.loop-i-test.true)
 
 pub loop-i-preserved : goal.loop-i-preserved
 loop-i-preserved c =

@@ -4,7 +4,6 @@ use mathlib.Core.List.{List}
 use Prim.Native.Nat.{ℕ}
 use native.Mathlib.Nat.{lt_of_lt_of_le}
 use native.Mathlib.Omega.{arith}
-use borrow.Author.Rules.{rules}
 use Rattle.mesh.proofs.SizeLaws.{indices-corners}
 use Rattle.patch.proofs.TableLaws.{blank}
 use Rattle.patch.proofs.RuledLaws.{rendered-rules, rendered-weights, rendered-ends}
@@ -68,7 +67,7 @@ module _ (c : After-fill_ends-arg-1) where
   rules = ruled.fill_rules.new.rules
 
   abbrev begun : After-fill_weights-arg-1
-  begun = (weighed (goal.at.After-fill_rules ruled).After-fill_rules-arg-1).before
+  begun = (goal.at.After-fill_ends-arg-1 c).After-fill_weights-arg-1
 
 pub fill_ends-requires : goal.fill_ends-requires
 fill_ends-requires c =

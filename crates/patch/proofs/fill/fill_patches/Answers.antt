@@ -6,7 +6,6 @@ use native.Mathlib.Nat.{lt_of_lt_of_le}
 use native.Mathlib.Omega.{arith}
 use lib.IntN.{ℤ}
 use lib.ListN.{length, replicate}
-use borrow.Author.Rules.{rules}
 use Rattle.finite.proofs.FilledLaws.{filled-ext}
 use Rattle.limits.specs.Limits.{max_vertices, max_faces}
 use Rattle.mesh.specs.HalfEdge.{twin}
@@ -200,7 +199,7 @@ pub returns : goal.returns
 returns c =
     let w = written c in
     let b = w in
-    let s = start (begun (goal.at.After-write_patches b).After-write_patches-arg-2-1) in (
-      w.write_patches.ensures.numbers-are ∙ filled-ext _ _ (number-written s.requires.accepted (tables (goal.at.After-write_patches b).After-write_patches-arg-2-1)),
-      w.write_patches.ensures.marks-are ∙ filled-ext _ _ (mark-written s.requires.accepted (tables (goal.at.After-write_patches b).After-write_patches-arg-2-1)),
-    )
+    let s = start (begun (goal.at.After-write_patches b).After-write_patches-arg-2-1) in record {
+      patches_after = w.write_patches.ensures.numbers-are ∙ filled-ext _ _ (number-written s.requires.accepted (tables (goal.at.After-write_patches b).After-write_patches-arg-2-1));
+      marks_after = w.write_patches.ensures.marks-are ∙ filled-ext _ _ (mark-written s.requires.accepted (tables (goal.at.After-write_patches b).After-write_patches-arg-2-1));
+    }

@@ -46,7 +46,7 @@ module _ (c : After-value_if-prev) where
   next-is : to_z w64 (of_z w64 first.value_if-next.result) ≡ cond (next_counts byte) (value_at values start.args.k (next corner)) (pos 0)
   next-is =
       let e = ap (λ (a : FaceValues). a.next) viewed.face_values-a.ensures in
-      read_back w64 first.value_if-next.ok
+      read_back w64 first.value_if-next.type_inv
       (first.value_if-next.ensures ∙ ap (λ (z : ℤ). cond (next_counts byte) z (pos 0)) (stored_is _ _ (rw e (small (next corner))) e))
 
   prev-is : to_z w64 (of_z w64 c.value_if-prev.result) ≡ cond (prev_counts byte) (value_at values start.args.k (prev corner)) (pos 0)

@@ -117,7 +117,7 @@ module _ (c : After-corner_point-arg-in-loop-p-1) where
   head = (goal.at.In-loop-p turn).At-loop-p
 
   value_read : to_z w32 (of_z w32 valued.position-x.result) ≡ get_or (lists head).positions (3 * p head + (start head).args.k) (pos 0)
-  value_read = read_back w32 valued.position-x.ok valued.position-x.ensures
+  value_read = read_back w32 valued.position-x.type_inv valued.position-x.ensures
 
   ring-read : to_z w64 (of_z w64 (get_or (ring head) (p head) (pos 0))) ≡ ring_sum_by (lists head).faces (lists head).values (start head).args.k (p head)
   ring-read = read_back w64 c.corner_point-arg-1.given ((summed head).add_sums.ensures.ring-are (p head) (few turn))

@@ -76,8 +76,8 @@ loop-k-preserved c =
     let one = (written c).fill_coordinate in
     record {
       most = add-one-le (below t);
-      points-long = one.kept.1.1.1.1.1.1.1.0 ∙ inv.points-long;
-      marks-long = one.kept.1.1.1.1.1.1.1.1.0 ∙ inv.marks-long;
+      points-long = one.auto.points ∙ inv.points-long;
+      marks-long = one.auto.flags ∙ inv.marks-long;
       written =
           corners-more (ruled_point (lists s))
           s.args.v (head t).loop-k.k (below t) inv.written one.ensures;

@@ -47,16 +47,16 @@ narrowed-requires-in-Inner c =
 
 pub returns-in-Corner : goal.returns-in-Corner
 unfolding point_from exact_from
-returns-in-Corner c = rw c.enum_told-1.given.1 c.vertex_points.ensures
+returns-in-Corner c = rw c.in-Corner.is c.vertex_points.ensures
 
 pub returns-in-Along : goal.returns-in-Along
 unfolding point_from exact_from fold_below
-returns-in-Along c = rw c.enum_told-in-Along-1.given.1 (c.narrowed.ensures ∙ ap stored c.along_point.ensures)
+returns-in-Along c = rw c.in-Along.is (c.narrowed.ensures ∙ ap stored c.along_point.ensures)
 
 pub returns-in-Before : goal.returns-in-Before
 unfolding point_from exact_from fold_below
-returns-in-Before c = rw c.enum_told-in-Before-1.given.1 (c.narrowed-in-Before.ensures ∙ ap stored c.before_point.ensures)
+returns-in-Before c = rw c.in-Before.is (c.narrowed-in-Before.ensures ∙ ap stored c.before_point.ensures)
 
 pub returns-in-Inner : goal.returns-in-Inner
 unfolding point_from exact_from fold_below
-returns-in-Inner c = rw c.enum_told-in-Inner-1.given.1 (c.narrowed-in-Inner.ensures ∙ ap stored c.inner_point.ensures)
+returns-in-Inner c = rw c.in-Inner.is (c.narrowed-in-Inner.ensures ∙ ap stored c.inner_point.ensures)
