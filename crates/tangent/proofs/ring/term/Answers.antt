@@ -45,10 +45,10 @@ module _ (c : After-pair-arg-2-1) where
   start = (goal.at.After-pair-arg-2-1 c).Start
 
   a-is : to_z w32 (of_z w32 (get_or start.args.edge.now (place start) (pos 0))) ≡ edge_weight start.args.n start.args.i
-  a-is = to_z-of_z (record { sfits = c.pair-arg-1.given }) ∙ edge-is start
+  a-is = to_z-of_z {w = w32} (record { sfits = c.pair-arg-1.given }) ∙ edge-is start
 
   b-is : to_z w32 (of_z w32 (get_or start.args.face.now (place start) (pos 0))) ≡ face_weight start.args.n start.args.i
-  b-is = to_z-of_z (record { sfits = c.pair-arg-2-1.given }) ∙ face-is start
+  b-is = to_z-of_z {w = w32} (record { sfits = c.pair-arg-2-1.given }) ∙ face-is start
 
 -- ---- the answers, in the order of the code
 pub overflow_sub-at : goal.overflow_sub-at

@@ -7,4 +7,4 @@ pub bounds-parts-t : goal.bounds-parts-t
 bounds-parts-t c = omega (arith, c.requires.listed)
 
 pub returns : goal.returns
-returns c = to_z-of_z (record { sfits = c.result-1.given })
+returns c = to_z-of_z {w = mir.Syntax.w64} (record { sfits = c.result-1.given })

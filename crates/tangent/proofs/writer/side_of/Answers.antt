@@ -70,5 +70,5 @@ returns c =
     (read_back w64 fourth.listed-4.type_inv fourth.listed-4.ensures)
     (read_back w64 fifth.listed-5.type_inv fifth.listed-5.ensures)
     (read_back w64 last.listed-6.type_inv last.listed-6.ensures)
-    (to_z-of_z (record { sfits = c.result-1.given }))
-    (to_z-of_z (record { sfits = c.result-2-1.given }))
+    (to_z-of_z {w = mir.Syntax.w32} (record { sfits = c.result-1.given }))
+    (to_z-of_z {w = mir.Syntax.w32} (record { sfits = c.result-2-1.given }))
