@@ -1,6 +1,7 @@
 //! Tables of causes to refuse and the answers of calls: definitions (specs/) with their laws (proofs/), the answer of a call that has no result, and
 //! the row by row checking of a table.
 #![tactic(auto)]
+
 pub mod model;
 
 ghost use Rattle.std.specs.Prelude.{◌≡◌};

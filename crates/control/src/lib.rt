@@ -1,6 +1,7 @@
 //! The control points that a corner of a face owns, from tables by corner. Every call takes any tables and any corner: a place beyond a table is read at
 //! its rest by the length, so that no list has to be trusted.
 #![tactic(auto)]
+
 pub mod model;
 pub mod value;
 pub mod values;

@@ -1,5 +1,6 @@
 //! Corners of faces by their numbers: the next, the one across and the previous in a face, and the four of a face.
 #![tactic(auto)]
+
 ghost use Rattle.std.specs.Prelude.{◌≡◌};
 ghost use Rattle.corner.specs.Corner.{next, across, prev, face_corners};
 

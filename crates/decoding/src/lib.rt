@@ -1,5 +1,6 @@
 //! The bytes of a file: its sizes, its mesh, and the refusals that look at the file by itself (rules F1 to F3).
 #![tactic(auto)]
+
 mod bytes;
 mod header;
 pub mod model;

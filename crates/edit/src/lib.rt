@@ -1,5 +1,6 @@
 //! Calls that make one mesh of another: its mirror image.
 #![tactic(auto)]
+
 mod image;
 
 ghost use Rattle.mesh.specs.IndexedMesh.{indexed};

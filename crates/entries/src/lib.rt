@@ -1,5 +1,6 @@
 //! The causes that look at one list entry or one face at a time, each over its whole list: 3, 4, 5 and 6.
 #![tactic(auto)]
+
 ghost use Rattle.std.specs.Prelude.{◌≡◌, ◌*◌, ◌/◌, ◌<◌, length};
 ghost use Rattle.finite.specs.Fold.{any_below};
 ghost use Rattle.entries.specs.Entries.{any_coordinate_off, any_tag_off, any_vertex_off, vertex_again, any_vertex_twice};

@@ -1,5 +1,6 @@
 //! Rounding of a quotient to a whole number, ties to even, with what it leaves. The laws of whole numbers stand in `proofs/`.
 #![tactic(auto)]
+
 pub mod model;
 
 ghost use Rattle.std.specs.Prelude.{◌≡◌, cond, ◌≤◌, ◌<◌, ◌^◌, ltb, pos, neg_ℤ, nat_abs, ◌-ℤ◌, ◌*ℤ◌};

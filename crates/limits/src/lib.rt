@@ -1,5 +1,6 @@
 //! The record of a mesh with its limits, and what they say of two sizes, of one entry of a list, of one vertex and of the room that a list has.
 #![tactic(auto)]
+
 pub mod model;
 
 ghost use Rattle.std.specs.Prelude.{◌≡◌, not, ◌&&◌, ◌*◌, eqb, ltb, nat_abs};

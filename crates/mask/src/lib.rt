@@ -1,5 +1,6 @@
 //! The masks, of one coordinate: exact fractions of the values that a mask names, for all values; and what the corner masks are chosen by.
 #![tactic(auto)]
+
 pub mod model;
 
 ghost use Rattle.std.specs.Prelude.{◌≡◌, ◌||◌, ◌≤◌, eqb, pos, ◌+ℤ◌, ◌*ℤ◌};

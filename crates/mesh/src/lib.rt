@@ -1,5 +1,6 @@
 // The mesh: its half-edges, twins and fans, and the check of a whole mesh.
 #![tactic(auto)]
+
 mod chain;
 mod count;
 mod fan;

@@ -1,5 +1,6 @@
 //! The bicubic patches of a checked mesh: sixteen control points a face, as whole numbers of 1/256 micrometre, each with a mark where it is exact.
 #![tactic(auto)]
+
 mod counts;
 mod fill;
 mod sums;

@@ -1,5 +1,6 @@
 //! The claim about the numbers that the calls give: distance from the exact surface, marks, seams, and independence from the numbering.
 #![tactic(auto)]
+
 pub mod model;
 
 ghost use Rattle.mesh.specs.IndexedMesh.{indexed};
