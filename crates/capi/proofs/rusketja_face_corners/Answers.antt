@@ -44,8 +44,8 @@ module _ (xs : List ℕ) (f : ℕ) (some : length (face_corners xs f) ≡ 0 → 
       ∙ four
 
 -- the corners that the library found, where it found some
-some-told : (c : Then-n-ne0) → length (face_corners c.before.before.before.args.indices.now c.before.before.before.args.f) ≡ 0 → ⊥
-some-told c e = c.if1.true (ap length c.before.face-corners.ensures ∙ e)
+some-told : (c : Then-n-ne0) → length (face_corners c.args.indices.now c.args.f) ≡ 0 → ⊥
+some-told c e = c.if-n-ne0.true (ap length c.face_corners-corners.ensures ∙ e)
 
 pub overflow_mul-first : goal.overflow_mul-first
 overflow_mul-first c = omega (arith, room _ _ (some-told c))

@@ -16,10 +16,10 @@ lent s = s.args.vertices.now ∷ (s.args.faces.now ∷ (s.args.edges.now ∷ (s.
 
 pub returns-in-Accepted : goal.returns-in-Accepted
 returns-in-Accepted c =
-    let e = sym (ap checked c.answer-1.given.1) in
+    let e = sym (ap checked c.in-Accepted.is) in
     record { code_is = ap code e; counts-are = ap (λ (t : Answer Mesh). counted t (lent (goal.at.returns-in-Accepted c).Start)) e }
 
 pub returns-in-Refused : goal.returns-in-Refused
 returns-in-Refused c =
-    let e = sym (ap checked c.answer-in-Refused-1.given.1) in
+    let e = sym (ap checked c.in-Refused.is) in
     record { code_is = ap code e; counts-are = ap (λ (t : Answer Mesh). counted t (lent (goal.at.returns-in-Refused c).Start)) e }

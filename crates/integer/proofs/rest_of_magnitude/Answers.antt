@@ -7,7 +7,6 @@ use lib.IntN.{pos, ◌-ℤ◌}
 use mir.Syntax.{w64}
 use mir.Val.{SFits, to_z}
 use mir.Facts.{to_z-of_z, to_z_pos}
-use borrow.Author.Rules.{rules}
 use Rattle.integer.proofs.Laws.{abs--, sfits-abs}
 use Rattle.integer.proofs.Rounding.{rest_up, rest-down}
 use Rattle.integer.proofs.rest_of_magnitude.Goals.{Start}

@@ -29,12 +29,12 @@ pub returns-in-At : goal.returns-in-At
 returns-in-At c =
     let told = c in
     let s = told in
-    let read = subst (λ (r : Reading). Reads r (answer (goal.at.returns-in-At s).Start)) c.p-1.given.1 told.reading.ensures in
+    let read = subst (λ (r : Reading). Reads r (answer (goal.at.returns-in-At s).Start)) c.in-At.is told.reading.ensures in
     read_at (answer (goal.at.returns-in-At s).Start) _ s.args.x.now s.args.y.now s.args.z.now read
 
 pub returns-in-Refused : goal.returns-in-Refused
 returns-in-Refused c =
     let told = c in
     let s = told in
-    let read = subst (λ (r : Reading). Reads r (answer (goal.at.returns-in-Refused s).Start)) c.k-1.given.1 told.reading.ensures in
+    let read = subst (λ (r : Reading). Reads r (answer (goal.at.returns-in-Refused s).Start)) c.in-Refused.is told.reading.ensures in
     read-refused (answer (goal.at.returns-in-Refused s).Start) _ s.args.x.now s.args.y.now s.args.z.now read

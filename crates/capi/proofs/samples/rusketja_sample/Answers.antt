@@ -7,28 +7,23 @@ use Rattle.answer.specs.Table.{Answer}
 use Rattle.sample.specs.declared.model.Point.{Point}
 use Rattle.sample.specs.Answer.{sampled}
 use Rattle.capi.specs.Answer.{code, placed}
-use Rattle.capi.proofs.samples.rusketja_sample.Goals.{After-store_point-arg-in-At-2-1, In-At-2, Start}
+use Rattle.capi.proofs.samples.rusketja_sample.Goals.{Start}
 use Rattle.capi.proofs.samples.rusketja_sample.Goals as goal
 
 -- what the three lent numbers held
 abbrev lent : Start → List ℤ
 lent s = s.args.x.now ∷ (s.args.y.now ∷ (s.args.z.now ∷ []))
 
--- ---- the way back: from the point that is stored to the sample
-abbrev found : After-store_point-arg-in-At-2-1 → In-At-2
-found c = (goal.at.After-store_point-arg-in-At-2-1 c).In-At-2
-
 pub returns-in-At : goal.returns-in-At
 returns-in-At c =
-    let at = found (goal.at.returns-in-At c).After-store_point-arg-in-At-2-1 in
-    let e = sym (ap sampled at.p-1.given.1) ∙ at.sample.ensures in
+    let e = sym (ap sampled c.in-At.is) ∙ c.sample.ensures in
     record {
       code_is = ap code e;
-      point-is = c.store_point.ensures ∙ ap (λ (t : Answer Point). placed t (lent (goal.at.In-At-2 at).Start)) e;
+      point-is = c.store_point.ensures ∙ ap (λ (t : Answer Point). placed t (lent (goal.at.returns-in-At c).Start)) e;
     }
 
 pub returns-in-Refused : goal.returns-in-Refused
 returns-in-Refused c =
     let at = c in
-    let e = sym (ap sampled at.k-1.given.1) ∙ at.sample.ensures in
+    let e = sym (ap sampled c.in-Refused.is) ∙ at.sample.ensures in
     record { code_is = ap code e; point-is = ap (λ (t : Answer Point). placed t (lent (goal.at.returns-in-Refused at).Start)) e }
