@@ -1,5 +1,4 @@
 -- `face_corners` meets its contract: a whole face ends at or before the end of the list.
-use native.Mathlib.Omega.{arith}
 use Rattle.corner.proofs.FaceLaws.{corners-some, corners-none}
 use Rattle.corner.proofs.face_corners.Goals as goal
 
