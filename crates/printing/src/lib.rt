@@ -1,6 +1,7 @@
 //! The text of a file, on a writer, as standard output. The answer that is handed back is proved, and so is every stretch that is passed to the write call;
 //! that the writes come out in this order is the loop below, as no contract can speak of standard output.
 #![tactic(auto)]
+
 ghost use Rattle.std.specs.Prelude.{◌≤◌, length};
 ghost use Rattle.meshfile.specs.Answer.{FileOpened};
 ghost use Rattle.text.specs.Text.{line_places};
@@ -22,17 +23,17 @@ const STRETCH_PLACES: usize = 65536;
 
 // Writes the stretches of the text one after the other, up to its end. At the first write that is not taken whole it stops.
 fn write_stretches<W: Write>(
-    answer: Opened,
+    file: Opened,
     patches: &[i32],
     out: &mut [u8],
     to: &mut W,
 ) -> io::Result<()>
     requires { line_places ≤ length out.old }
 {
-    let lines = listing::line_count(answer);
+    let lines = listing::line_count(file);
     let mut line: usize = 0;
     while line < lines {
-        let next = listing::stretch(answer, patches, line, out);
+        let next = listing::stretch(file, patches, line, out);
         let end = next.length;
         to.write_all(&out[..end])?;
         line = next.line;

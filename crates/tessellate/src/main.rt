@@ -1,5 +1,6 @@
 // Reads a file from standard input and prints its text on standard output; a read or a write that fails is told on standard error.
 #![tactic(auto)]
+
 use std::io::{Read, Write};
 
 // Of an input that is too long no more is read than shows it.
