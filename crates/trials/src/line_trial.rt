@@ -14,6 +14,8 @@ use crate::reading::{PLACES, can_run, i32_count, read_i32s, room, u16_at, u64_at
 use crate::sums::print_list;
 use answer::model::Outcome;
 use sample::model::Sampled;
+use std::io;
+use std::io::Stdout;
 
 // Where the control values begin.
 const NUMBERS_AT: usize = 28;
@@ -29,51 +31,74 @@ fn has_sample(list: &[i32], at: usize, answer: Sampled) -> bool
 }
 
 // The word for a sample of the sample call and the three numbers of a list from a place on.
-fn print_word(list: &[i32], at: usize, answer: Sampled)
+fn print_word(out: Stdout, list: &[i32], at: usize, answer: Sampled) -> io::Result<()>
     requires { at + 2 < length list.now }
 {
     if has_sample(list, at, answer) {
-        print_text(b" same");
+        print_text(out, b" same")
     } else {
-        print_text(b" other");
+        print_text(out, b" other")
     }
 }
 
 // The sample call at each place of a written line, with a word for each.
-fn print_samples(patches: &[i32], f: usize, n: usize, b: usize, line: &[i32]) {
-    print_text(b"\n samples");
+fn print_samples(
+    out: Stdout,
+    patches: &[i32],
+    f: usize,
+    n: usize,
+    b: usize,
+    line: &[i32],
+) -> io::Result<()> {
+    print_text(out, b"\n samples")?;
     for a in 0..line.len() / 3 {
         if a <= n {
-            print_word(line, 3 * a, sample::sample(patches, f, n, a, b));
+            print_word(out, line, 3 * a, sample::sample(patches, f, n, a, b))?;
         }
     }
+    Ok(())
 }
 
 // The line call on a lent list, with what it gave printed.
-fn show(patches: &[i32], f: usize, n: usize, b: usize, line: &mut [i32]) {
+fn show(
+    out: Stdout,
+    patches: &[i32],
+    f: usize,
+    n: usize,
+    b: usize,
+    line: &mut [i32],
+) -> io::Result<()> {
     let outcome = line::sample_line(patches, f, n, b, line);
-    print_outcome(outcome);
-    print_text(b"\n line");
-    print_list(line);
+    print_outcome(out, outcome)?;
+    print_text(out, b"\n line")?;
+    print_list(out, line)?;
     if let Outcome::Done = outcome {
-        print_samples(patches, f, n, b, line);
+        print_samples(out, patches, f, n, b, line)?;
     }
+    Ok(())
 }
 
 // The trial with lists for its control values and its line: reads the values, and runs the call.
-fn with_lists(b: &[u8], patches: &mut [i32], line: &mut [i32]) {
+fn with_lists(out: Stdout, b: &[u8], patches: &mut [i32], line: &mut [i32]) -> io::Result<()> {
     read_i32s(b, NUMBERS_AT, patches);
-    show(patches, u64_at(b, 2), u64_at(b, 10), u64_at(b, 18), line);
+    show(
+        out,
+        patches,
+        u64_at(b, 2),
+        u64_at(b, 10),
+        u64_at(b, 18),
+        line,
+    )
 }
 
 // The trial in a file's bytes.
-pub(crate) fn run(b: &[u8]) {
+pub(crate) fn run(out: Stdout, b: &[u8]) -> io::Result<()> {
     let n = i32_count(b, NUMBERS_AT);
     let m = u16_at(b, 26);
-    if !can_run(b, NUMBERS_AT + 4 * n, (n <= PLACES) & (m <= PLACES)) {
-        return;
+    if !can_run(out, b, NUMBERS_AT + 4 * n, (n <= PLACES) & (m <= PLACES))? {
+        return Ok(());
     }
     let mut patches = [0i32; PLACES];
     let mut line = [7i32; PLACES];
-    with_lists(b, &mut patches[0..room(n)], &mut line[0..room(m)]);
+    with_lists(out, b, &mut patches[0..room(n)], &mut line[0..room(m)])
 }

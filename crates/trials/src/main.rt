@@ -4,6 +4,7 @@
 // file` says that none has that name, `not whole` that the file is longer or shorter than its sizes and lists, and `too long` that a list
 // has more places than reading.rt has for it.
 #![tactic(auto)]
+
 mod line_trial;
 mod marked_trial;
 mod mesh_trial;
@@ -18,6 +19,10 @@ mod weight_trial;
 
 use crate::printing::print_text;
 use crate::reading::{head_length, u16_at};
+use std::env::{Env, FillError};
+use std::fs::File;
+use std::io::{ErrorKind, Read, Stdout};
+use std::{io, str};
 
 // What the file of a sample trial has where that of a mesh trial has V.
 const SAMPLE: usize = 65535;
@@ -31,48 +36,69 @@ const WEIGHTS: usize = 65527;
 // What that of a marked sample trial has there.
 const MARKED: usize = 65523;
 
+// The places for a name: one that is longer is no name of a file, and taken for the empty one.
+const NAME_PLACES: usize = 4096;
+
+// The most bytes of a file that are read.
+const FILE_PLACES: u64 = 65536;
+
 // The trial in a file's bytes.
-fn run(b: &[u8]) {
+fn run(out: Stdout, b: &[u8]) -> io::Result<()> {
     let mark = u16_at(b, 0);
     if mark == SAMPLE {
-        sample_trial::run(b);
+        sample_trial::run(out, b)
     } else if mark == LINE {
-        line_trial::run(b);
+        line_trial::run(out, b)
     } else if mark == WEIGHTS {
-        weight_trial::run(b);
+        weight_trial::run(out, b)
     } else if mark == MARKED {
-        marked_trial::run(b);
+        marked_trial::run(out, b)
     } else {
         let at = head_length(b);
-        mesh_trial::run(&b[0..at], &b[at..]);
+        mesh_trial::run(out, &b[0..at], &b[at..])
     }
 }
 
-// The trial in an open file, which is closed.
-fn run_file(fd: i32) {
-    let mut input = io::large_buffer();
-    let n = io::read_full(fd, &mut input);
-    libc::close(fd);
-    run(&input[..n]);
+// The bytes of an open file, as far as they are read. Where a read fails they are those before it.
+fn read_file(rt: HostRuntime, file: File) -> io::Result<Vec<u8>> {
+    let mut input = Vec::new(rt.alloc());
+    match file.take(FILE_PLACES).read_to_end(&mut input) {
+        Err(e) if e.kind() == ErrorKind::OutOfMemory => Err(e),
+        _ => Ok(input),
+    }
 }
 
-// The trial that argument i names.
-fn trial(i: usize) {
-    let mut name = io::buffer();
-    let k = os::arg(i, &mut name);
-    print_text(&name[..k]);
-    let fd = os::open_read(&name[..k]);
-    if fd < 0 {
-        print_text(b" no file");
-    } else {
-        run_file(fd);
-    }
-    print_text(b"\n");
+// The trial in an open file.
+fn run_file(rt: HostRuntime, file: File) -> io::Result<()> {
+    let input = read_file(rt, file)?;
+    run(rt.stdout(), input.as_slice())
 }
 
-fn main() {
-    let n = os::arg_count();
-    for i in 1..n {
-        trial(i);
+// The file of a name, if there is one.
+fn open(rt: HostRuntime, name: &[u8]) -> Option<File> {
+    let path = str::from_utf8(name).ok()?;
+    File::open(&rt, path).ok()
+}
+
+// The trial of a name.
+fn trial(rt: HostRuntime, name: &[u8]) -> io::Result<()> {
+    let out = rt.stdout();
+    print_text(out, name)?;
+    match open(rt, name) {
+        Some(file) => run_file(rt, file)?,
+        None => print_text(out, b" no file")?,
     }
+    print_text(out, b"\n")
+}
+
+fn main(rt: HostRuntime) -> io::Result<()> {
+    for i in 1..usize::MAX {
+        let mut name = [0u8; NAME_PLACES];
+        match rt.arg(i, &mut name) {
+            Ok(k) => trial(rt, &name[..k])?,
+            Err(FillError::TooLong) => trial(rt, b"")?,
+            Err(FillError::NotPresent) => break,
+        }
+    }
+    Ok(())
 }

@@ -8,6 +8,8 @@ ghost use Rattle.std.specs.Prelude.{◌^◌, ◌<◌, ◌≤◌};
 
 use crate::printing::{print_marked, print_sampled, print_text};
 use crate::reading::{PLACES, can_run, i32_count, read_i32s, room, u16_at, u64_at};
+use std::io;
+use std::io::Stdout;
 
 // Where the marks begin.
 const MARKS_AT: usize = 36;
@@ -29,32 +31,41 @@ fn marks(b: &[u8]) -> &[u8] {
 }
 
 // Both calls at one place, with their answers printed.
-fn print_answers(patches: &[i32], marks: &[u8], f: usize, n: usize, a: usize, b: usize) {
-    print_marked(sample::marked_sample(patches, marks, f, n, a, b));
-    print_text(b" sample");
-    print_sampled(sample::sample(patches, f, n, a, b));
+fn print_answers(
+    out: Stdout,
+    patches: &[i32],
+    marks: &[u8],
+    f: usize,
+    n: usize,
+    a: usize,
+    b: usize,
+) -> io::Result<()> {
+    print_marked(out, sample::marked_sample(patches, marks, f, n, a, b))?;
+    print_text(out, b" sample")?;
+    print_sampled(out, sample::sample(patches, f, n, a, b))
 }
 
 // The trial with a list for its control values: reads them, and runs both calls.
-fn show(b: &[u8], patches: &mut [i32]) {
+fn show(out: Stdout, b: &[u8], patches: &mut [i32]) -> io::Result<()> {
     read_i32s(b, numbers_at(b), patches);
     print_answers(
+        out,
         patches,
         marks(b),
         u64_at(b, 2),
         u64_at(b, 10),
         u64_at(b, 18),
         u64_at(b, 26),
-    );
+    )
 }
 
 // The trial in a file's bytes.
-pub(crate) fn run(b: &[u8]) {
+pub(crate) fn run(out: Stdout, b: &[u8]) -> io::Result<()> {
     let at = numbers_at(b);
     let n = i32_count(b, at);
-    if !can_run(b, at + 4 * n, n <= PLACES) {
-        return;
+    if !can_run(out, b, at + 4 * n, n <= PLACES)? {
+        return Ok(());
     }
     let mut patches = [0i32; PLACES];
-    show(b, &mut patches[0..room(n)]);
+    show(out, b, &mut patches[0..room(n)])
 }

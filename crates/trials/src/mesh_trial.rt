@@ -12,6 +12,8 @@ ghost use Rattle.std.specs.Prelude.{◌<◌};
 use crate::printing::{print_checked, print_twins};
 use crate::reading::{PLACES, can_run, is_mirror, is_tangent, read_i32s, read_u16s, room, u16_at};
 use crate::{mirror_trial, patch_trial, tangent_trial};
+use std::io;
+use std::io::Stdout;
 
 // Where the positions begin.
 const POSITIONS_AT: usize = 12;
@@ -62,49 +64,71 @@ fn head_has_room(head: &[u8]) -> bool {
 }
 
 // The check of the mesh with its lists, and the answer and the twins printed.
-fn show(b: &[u8], positions: &[i32], faces: &[u16], twins: &mut [u16]) {
+fn show(
+    out: Stdout,
+    b: &[u8],
+    positions: &[i32],
+    faces: &[u16],
+    twins: &mut [u16],
+) -> io::Result<()> {
     let f = u16_at(b, 2);
-    print_checked(mesh::check(u16_at(b, 0), f, positions, tags(b), faces, twins));
-    print_twins(twins, 4 * f);
+    print_checked(
+        out,
+        mesh::check(u16_at(b, 0), f, positions, tags(b), faces, twins),
+    )?;
+    print_twins(out, twins, 4 * f)
 }
 
 // The trial with its lists: of the check without a head, and of the mirror call, the tangent call or the patch call with one.
-fn with_twins(head: &[u8], b: &[u8], positions: &[i32], faces: &[u16], twins: &mut [u16]) {
+fn with_twins(
+    out: Stdout,
+    head: &[u8],
+    b: &[u8],
+    positions: &[i32],
+    faces: &[u16],
+    twins: &mut [u16],
+) -> io::Result<()> {
     let v = u16_at(b, 0);
     let f = u16_at(b, 2);
     if head.len() == 0 {
-        show(b, positions, faces, twins);
+        show(out, b, positions, faces, twins)
     } else if is_mirror(head) {
-        mirror_trial::run(head, v, f, positions, tags(b), faces, twins);
+        mirror_trial::run(out, head, v, f, positions, tags(b), faces, twins)
     } else if is_tangent(head) {
-        tangent_trial::run(head, v, f, positions, tags(b), faces);
+        tangent_trial::run(out, head, v, f, positions, tags(b), faces)
     } else {
-        patch_trial::run(head, v, f, positions, tags(b), faces, twins);
+        patch_trial::run(out, head, v, f, positions, tags(b), faces, twins)
     }
 }
 
 // The trial with its positions and a list for its faces: reads the faces, and goes on with a list for the twins.
-fn with_faces(head: &[u8], b: &[u8], positions: &[i32], faces: &mut [u16]) {
+fn with_faces(
+    out: Stdout,
+    head: &[u8],
+    b: &[u8],
+    positions: &[i32],
+    faces: &mut [u16],
+) -> io::Result<()> {
     read_u16s(b, faces_at(b), faces);
     let n = room(u16_at(b, 10));
     let mut twins = [7u16; PLACES];
-    with_twins(head, b, positions, faces, &mut twins[0..n]);
+    with_twins(out, head, b, positions, faces, &mut twins[0..n])
 }
 
 // The trial with a list for its positions: reads them, and goes on with a list for the faces.
-fn with_positions(head: &[u8], b: &[u8], positions: &mut [i32]) {
+fn with_positions(out: Stdout, head: &[u8], b: &[u8], positions: &mut [i32]) -> io::Result<()> {
     read_i32s(b, POSITIONS_AT, positions);
     let n = room(u16_at(b, 8));
     let mut faces = [0u16; PLACES];
-    with_faces(head, b, positions, &mut faces[0..n]);
+    with_faces(out, head, b, positions, &mut faces[0..n])
 }
 
 // The trial in a file's head and the bytes after it.
-pub(crate) fn run(head: &[u8], b: &[u8]) {
-    if !can_run(b, length(b), has_room(b) & head_has_room(head)) {
-        return;
+pub(crate) fn run(out: Stdout, head: &[u8], b: &[u8]) -> io::Result<()> {
+    if !can_run(out, b, length(b), has_room(b) & head_has_room(head))? {
+        return Ok(());
     }
     let n = room(u16_at(b, 4));
     let mut positions = [0i32; PLACES];
-    with_positions(head, b, &mut positions[0..n]);
+    with_positions(out, head, b, &mut positions[0..n])
 }

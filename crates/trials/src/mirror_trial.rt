@@ -13,6 +13,8 @@ use crate::printing::{print_checked, print_every, print_outcome, print_text};
 use crate::reading::{PLACES, room, u16_at};
 use crate::sums::print_list;
 use answer::model::Outcome;
+use std::io;
+use std::io::Stdout;
 
 // Where the head of a patch trial begins in that of a mirror trial.
 const PATCH_AT: usize = 8;
@@ -34,17 +36,18 @@ pub(crate) fn has_room(head: &[u8]) -> bool {
 }
 
 // The three lent lists after the call.
-fn print_lists(positions: &[i32], tags: &[u8], faces: &[u16]) {
-    print_text(b"\n positions");
-    print_list(positions);
-    print_text(b"\n tags");
-    print_bytes(tags);
-    print_text(b"\n faces");
-    print_every(faces);
+fn print_lists(out: Stdout, positions: &[i32], tags: &[u8], faces: &[u16]) -> io::Result<()> {
+    print_text(out, b"\n positions")?;
+    print_list(out, positions)?;
+    print_text(out, b"\n tags")?;
+    print_bytes(out, tags)?;
+    print_text(out, b"\n faces")?;
+    print_every(out, faces)
 }
 
 // The mesh check and the patch call on an image, with what they gave printed.
 fn show_image(
+    out: Stdout,
     head: &[u8],
     v: usize,
     f: usize,
@@ -52,15 +55,16 @@ fn show_image(
     tags: &[u8],
     faces: &[u16],
     twins: &mut [u16],
-) {
-    print_text(b"\n check");
-    print_checked(mesh::check(v, f, positions, tags, faces, twins));
-    print_text(b"\n image");
-    patch_trial::run(patch_head(head), v, f, positions, tags, faces, twins);
+) -> io::Result<()> {
+    print_text(out, b"\n check")?;
+    print_checked(out, mesh::check(v, f, positions, tags, faces, twins))?;
+    print_text(out, b"\n image")?;
+    patch_trial::run(out, patch_head(head), v, f, positions, tags, faces, twins)
 }
 
 // The mirror call on a mesh and the lent lists, with what it gave printed.
 fn show(
+    out: Stdout,
     head: &[u8],
     v: usize,
     f: usize,
@@ -71,7 +75,7 @@ fn show(
     out_positions: &mut [i32],
     out_tags: &mut [u8],
     out_faces: &mut [u16],
-) {
+) -> io::Result<()> {
     let outcome = edit::mirror(
         v,
         f,
@@ -82,15 +86,17 @@ fn show(
         out_tags,
         out_faces,
     );
-    print_outcome(outcome);
-    print_lists(out_positions, out_tags, out_faces);
+    print_outcome(out, outcome)?;
+    print_lists(out, out_positions, out_tags, out_faces)?;
     if let Outcome::Done = outcome {
-        show_image(head, v, f, out_positions, out_tags, out_faces, twins);
+        show_image(out, head, v, f, out_positions, out_tags, out_faces, twins)?;
     }
+    Ok(())
 }
 
 // The trial with a file's head and the arguments of the check: goes on with lists for the image.
 pub(crate) fn run(
+    out: Stdout,
     head: &[u8],
     v: usize,
     f: usize,
@@ -98,7 +104,7 @@ pub(crate) fn run(
     tags: &[u8],
     faces: &[u16],
     twins: &mut [u16],
-) {
+) -> io::Result<()> {
     let m = room(u16_at(head, 2));
     let k = room(u16_at(head, 4));
     let n = room(u16_at(head, 6));
@@ -106,6 +112,7 @@ pub(crate) fn run(
     let mut out_tags = [7u8; PLACES];
     let mut out_faces = [7u16; PLACES];
     show(
+        out,
         head,
         v,
         f,
@@ -116,5 +123,5 @@ pub(crate) fn run(
         &mut out_positions[0..m],
         &mut out_tags[0..k],
         &mut out_faces[0..n],
-    );
+    )
 }

@@ -16,6 +16,8 @@ use crate::reading::{byte_at, u16_at};
 use crate::sample_trial::print_answers;
 use crate::sums::{SampleSums, no_samples, print_list, print_sums, with_answers};
 use limits::model::Checked;
+use std::io;
+use std::io::Stdout;
 
 // The places of the list of patches: three more than the largest mesh takes up.
 const PATCH_PLACES: usize = 12291;
@@ -92,51 +94,61 @@ fn face_sums(patches: &[i32], marks: &[u8], f: usize, n: usize) -> SampleSums
 }
 
 // The line of the samples of face f.
-fn print_samples(patches: &[i32], marks: &[u8], f: usize, n: usize)
+fn print_samples(out: Stdout, patches: &[i32], marks: &[u8], f: usize, n: usize) -> io::Result<()>
     requires { n < 2 ^ 16 }
 {
     let sums = face_sums(patches, marks, f, n);
-    print_text(b"\n samples");
-    print_sums(sums.samples);
-    print_answers(patches, f, n, n / 2, n / 2);
-    print_text(b" marked");
-    print_sums(sums.marks);
+    print_text(out, b"\n samples")?;
+    print_sums(out, sums.samples)?;
+    print_answers(out, patches, f, n, n / 2, n / 2)?;
+    print_text(out, b" marked")?;
+    print_sums(out, sums.marks)
 }
 
 // The lines of the samples of f faces.
-fn print_faces(patches: &[i32], marks: &[u8], f: usize, n: usize)
+fn print_faces(out: Stdout, patches: &[i32], marks: &[u8], f: usize, n: usize) -> io::Result<()>
     requires { n < 2 ^ 16 }
 {
     for g in 0..f {
-        print_samples(patches, marks, g, n);
+        print_samples(out, patches, marks, g, n)?;
     }
+    Ok(())
 }
 
 // The bytes at every place of a list.
-pub(crate) fn print_bytes(list: &[u8]) {
+pub(crate) fn print_bytes(out: Stdout, list: &[u8]) -> io::Result<()> {
     for i in 0..list.len() {
-        print_number(byte_at(list, i));
+        print_number(out, byte_at(list, i))?;
     }
+    Ok(())
 }
 
 // The lists after the call, and the samples of an accepted mesh.
-fn print_lists(answer: Checked, n: usize, twins: &[u16], patches: &[i32], marks: &[u8])
+fn print_lists(
+    out: Stdout,
+    answer: Checked,
+    n: usize,
+    twins: &[u16],
+    patches: &[i32],
+    marks: &[u8],
+) -> io::Result<()>
     requires { n < 2 ^ 16 }
 {
-    print_text(b" twins");
-    print_every(twins);
-    print_text(b"\n patches");
-    print_list(patches);
-    print_text(b"\n marks");
-    print_bytes(marks);
+    print_text(out, b" twins")?;
+    print_every(out, twins)?;
+    print_text(out, b"\n patches")?;
+    print_list(out, patches)?;
+    print_text(out, b"\n marks")?;
+    print_bytes(out, marks)?;
     let Checked::Accepted(mesh) = answer else {
-        return;
+        return Ok(());
     };
-    print_faces(patches, marks, mesh.faces, n);
+    print_faces(out, patches, marks, mesh.faces, n)
 }
 
 // The patch call on a mesh and the lent lists, with what it gave printed.
 fn show(
+    out: Stdout,
     n: usize,
     v: usize,
     f: usize,
@@ -146,16 +158,17 @@ fn show(
     twins: &mut [u16],
     patches: &mut [i32],
     marks: &mut [u8],
-)
+) -> io::Result<()>
     requires { n < 2 ^ 16 }
 {
     let answer = patch::patches(v, f, positions, tags, faces, twins, patches, marks);
-    print_checked(answer);
-    print_lists(answer, n, twins, patches, marks);
+    print_checked(out, answer)?;
+    print_lists(out, answer, n, twins, patches, marks)
 }
 
 // The trial with a file's head and the arguments of the check: goes on with lists for the patches and the marks.
 pub(crate) fn run(
+    out: Stdout,
     head: &[u8],
     v: usize,
     f: usize,
@@ -163,12 +176,13 @@ pub(crate) fn run(
     tags: &[u8],
     faces: &[u16],
     twins: &mut [u16],
-) {
+) -> io::Result<()> {
     let m = patch_room(head);
     let k = mark_room(head);
     let mut patches = [7i32; PATCH_PLACES];
     let mut marks = [7u8; MARK_PLACES];
     show(
+        out,
         u16_at(head, 6),
         v,
         f,
@@ -178,5 +192,5 @@ pub(crate) fn run(
         twins,
         &mut patches[0..m],
         &mut marks[0..k],
-    );
+    )
 }

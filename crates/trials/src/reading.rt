@@ -27,6 +27,8 @@
 ghost use Rattle.std.specs.Prelude.{◌≡◌, ◌+◌, ◌^◌, ◌<◌, ◌≤◌, length};
 
 use crate::printing::print_text;
+use std::io;
+use std::io::Stdout;
 
 // What the file of a patch trial has where that of a mesh trial has V.
 const PATCH: usize = 65533;
@@ -79,16 +81,16 @@ pub(crate) fn room(n: usize) -> usize
 }
 
 // Whether a trial can be run: the file's length is that of its sizes and lists, and its lists have room. Says why not.
-pub(crate) fn can_run(b: &[u8], length: usize, has_room: bool) -> bool {
+pub(crate) fn can_run(out: Stdout, b: &[u8], length: usize, has_room: bool) -> io::Result<bool> {
     if b.len() != length {
-        print_text(b" not whole");
-        return false;
+        print_text(out, b" not whole")?;
+        return Ok(false);
     }
     if !has_room {
-        print_text(b" too long");
-        return false;
+        print_text(out, b" too long")?;
+        return Ok(false);
     }
-    true
+    Ok(true)
 }
 
 // A byte as a number.

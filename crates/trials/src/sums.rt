@@ -2,6 +2,8 @@
 // modulo 2^64 and printed modulo 2^32.
 use crate::printing::{mark, print_clear, print_wide, widened};
 use sample::model::{Marked, Point, Sampled};
+use std::io;
+use std::io::Stdout;
 
 // The two sums.
 #[derive(Clone, Copy)]
@@ -113,13 +115,13 @@ pub(crate) fn of_wide_list(list: &[i64]) -> Sums {
 }
 
 // Both sums, modulo 2^32.
-pub(crate) fn print_sums(sums: Sums) {
-    print_wide(sums.first % 4294967296);
-    print_wide(sums.second % 4294967296);
+pub(crate) fn print_sums(out: Stdout, sums: Sums) -> io::Result<()> {
+    print_wide(out, sums.first % 4294967296)?;
+    print_wide(out, sums.second % 4294967296)
 }
 
 // The two sums of a list, and its first numbers in clear.
-pub(crate) fn print_list(list: &[i32]) {
-    print_sums(of_list(list));
-    print_clear(list);
+pub(crate) fn print_list(out: Stdout, list: &[i32]) -> io::Result<()> {
+    print_sums(out, of_list(list))?;
+    print_clear(out, list)
 }

@@ -10,6 +10,8 @@ use crate::printing::{print_outcome, print_text, print_wide_signed};
 use crate::reading::{PLACES, room, u16_at, u64_at};
 use crate::sums::{of_wide_list, print_sums};
 use answer::model::Outcome;
+use std::io;
+use std::io::Stdout;
 
 // The numbers to a line.
 const LINE: usize = 36;
@@ -20,37 +22,58 @@ pub(crate) fn has_room(head: &[u8]) -> bool {
 }
 
 // A number of a list, on a new line where it is the first of a line.
-fn print_in_lines(at: usize, n: i64) {
+fn print_in_lines(out: Stdout, at: usize, n: i64) -> io::Result<()> {
     if at % LINE == 0 {
-        print_text(b"\n");
+        print_text(out, b"\n")?;
     }
-    print_wide_signed(n);
+    print_wide_signed(out, n)
 }
 
 // The numbers at every place of a list, in lines.
-fn print_every(list: &[i64]) {
+fn print_every(out: Stdout, list: &[i64]) -> io::Result<()> {
     for i in 0..list.len() {
-        print_in_lines(i, list[i]);
+        print_in_lines(out, i, list[i])?;
     }
+    Ok(())
 }
 
 // The call for one face of a mesh, with its answer and the sums of what it wrote.
-fn print_face(v: usize, f: usize, positions: &[i32], tags: &[u8], faces: &[u16], g: usize) {
+fn print_face(
+    out: Stdout,
+    v: usize,
+    f: usize,
+    positions: &[i32],
+    tags: &[u8],
+    faces: &[u16],
+    g: usize,
+) -> io::Result<()> {
     let mut tangents = [7i64; 72];
-    print_text(b"\n face");
-    print_outcome(tangent::tangents(v, f, positions, tags, faces, g, &mut tangents));
-    print_sums(of_wide_list(&tangents));
+    print_text(out, b"\n face")?;
+    print_outcome(
+        out,
+        tangent::tangents(v, f, positions, tags, faces, g, &mut tangents),
+    )?;
+    print_sums(out, of_wide_list(&tangents))
 }
 
 // The call for every face of a mesh.
-fn print_faces(v: usize, f: usize, positions: &[i32], tags: &[u8], faces: &[u16]) {
+fn print_faces(
+    out: Stdout,
+    v: usize,
+    f: usize,
+    positions: &[i32],
+    tags: &[u8],
+    faces: &[u16],
+) -> io::Result<()> {
     for g in 0..f {
-        print_face(v, f, positions, tags, faces, g);
+        print_face(out, v, f, positions, tags, faces, g)?;
     }
+    Ok(())
 }
 
 // The call for face g and a lent list, with what it gave printed.
 fn show(
+    out: Stdout,
     v: usize,
     f: usize,
     positions: &[i32],
@@ -58,22 +81,32 @@ fn show(
     faces: &[u16],
     g: usize,
     tangents: &mut [i64],
-) {
+) -> io::Result<()> {
     let outcome = tangent::tangents(v, f, positions, tags, faces, g, tangents);
-    print_outcome(outcome);
-    print_text(b"\n tangents");
-    print_sums(of_wide_list(tangents));
-    print_every(tangents);
+    print_outcome(out, outcome)?;
+    print_text(out, b"\n tangents")?;
+    print_sums(out, of_wide_list(tangents))?;
+    print_every(out, tangents)?;
     if let Outcome::Done = outcome {
-        print_faces(v, f, positions, tags, faces);
+        print_faces(out, v, f, positions, tags, faces)?;
     }
+    Ok(())
 }
 
 // The trial with a file's head and the arguments of the check: goes on with a list for the tangents.
-pub(crate) fn run(head: &[u8], v: usize, f: usize, positions: &[i32], tags: &[u8], faces: &[u16]) {
+pub(crate) fn run(
+    out: Stdout,
+    head: &[u8],
+    v: usize,
+    f: usize,
+    positions: &[i32],
+    tags: &[u8],
+    faces: &[u16],
+) -> io::Result<()> {
     let m = room(u16_at(head, 10));
     let mut tangents = [7i64; PLACES];
     show(
+        out,
         v,
         f,
         positions,
@@ -81,5 +114,5 @@ pub(crate) fn run(head: &[u8], v: usize, f: usize, positions: &[i32], tags: &[u8
         faces,
         u64_at(head, 2),
         &mut tangents[0..m],
-    );
+    )
 }

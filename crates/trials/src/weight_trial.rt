@@ -11,6 +11,8 @@ ghost use Rattle.std.specs.Prelude.{◌^◌, ◌<◌, ◌≤◌};
 use crate::printing::{print_signed, print_text};
 use crate::reading::{can_run, u64_at};
 use cosine::model::Weights;
+use std::io;
+use std::io::Stdout;
 
 // Where the further places begin.
 const FAR_AT: usize = 10;
@@ -32,74 +34,78 @@ fn far_count(b: &[u8]) -> usize
 }
 
 // The weight of n at place i: of a face, or of an edge.
-fn print_weight(of_face: bool, n: usize, i: usize) {
+fn print_weight(out: Stdout, of_face: bool, n: usize, i: usize) -> io::Result<()> {
     if of_face {
-        print_signed(cosine::face_weight(n, i));
+        print_signed(out, cosine::face_weight(n, i))
     } else {
-        print_signed(cosine::edge_weight(n, i));
+        print_signed(out, cosine::edge_weight(n, i))
     }
 }
 
 // The weights of n at the first places.
-fn print_near(of_face: bool, n: usize) {
+fn print_near(out: Stdout, of_face: bool, n: usize) -> io::Result<()> {
     for i in 0..NEAR {
-        print_weight(of_face, n, i);
+        print_weight(out, of_face, n, i)?;
     }
+    Ok(())
 }
 
 // Those at the places that the file names.
-fn print_far(of_face: bool, n: usize, b: &[u8]) {
+fn print_far(out: Stdout, of_face: bool, n: usize, b: &[u8]) -> io::Result<()> {
     for k in 0..far_count(b) {
-        print_weight(of_face, n, u64_at(b, FAR_AT + 8 * k));
+        print_weight(out, of_face, n, u64_at(b, FAR_AT + 8 * k))?;
     }
+    Ok(())
 }
 
 // The sixteen numbers of a list from a place on.
-fn print_places(list: &[i32; 224], at: usize)
+fn print_places(out: Stdout, list: &[i32; 224], at: usize) -> io::Result<()>
     requires { at ≤ 208 }
 {
     for i in 0..ROW {
-        print_signed(list[at + i]);
+        print_signed(out, list[at + i])?;
     }
+    Ok(())
 }
 
 // The numbers of a list for n, or `-` where it has none.
-fn print_row(list: &[i32; 224], n: usize) {
+fn print_row(out: Stdout, list: &[i32; 224], n: usize) -> io::Result<()> {
     if n < 3 {
-        print_text(b" -");
+        print_text(out, b" -")
     } else if n <= 16 {
-        print_places(list, ROW * (n - 3));
+        print_places(out, list, ROW * (n - 3))
     } else {
-        print_text(b" -");
+        print_text(out, b" -")
     }
 }
 
 // The numbers of both lists for n, each after the word for where they come from and the one for its kind.
-fn print_lists(word: &[u8], weights: Weights, n: usize) {
-    print_text(word);
-    print_text(b" edge");
-    print_row(&weights.edge, n);
-    print_text(word);
-    print_text(b" face");
-    print_row(&weights.face, n);
+fn print_lists(out: Stdout, word: &[u8], weights: Weights, n: usize) -> io::Result<()> {
+    print_text(out, word)?;
+    print_text(out, b" edge")?;
+    print_row(out, &weights.edge, n)?;
+    print_text(out, word)?;
+    print_text(out, b" face")?;
+    print_row(out, &weights.face, n)
 }
 
 // The calls with n and the places, and what they gave printed.
-fn show(b: &[u8], n: usize) {
-    print_signed(cosine::cosine(n));
-    print_text(b"\n edge");
-    print_near(false, n);
-    print_far(false, n, b);
-    print_text(b"\n face");
-    print_near(true, n);
-    print_far(true, n, b);
-    print_lists(b"\n table", cosine::weights(), n);
-    print_lists(b"\n generated", cosine::generated_weights(), n);
+fn show(out: Stdout, b: &[u8], n: usize) -> io::Result<()> {
+    print_signed(out, cosine::cosine(n))?;
+    print_text(out, b"\n edge")?;
+    print_near(out, false, n)?;
+    print_far(out, false, n, b)?;
+    print_text(out, b"\n face")?;
+    print_near(out, true, n)?;
+    print_far(out, true, n, b)?;
+    print_lists(out, b"\n table", cosine::weights(), n)?;
+    print_lists(out, b"\n generated", cosine::generated_weights(), n)
 }
 
 // The trial in a file's bytes.
-pub(crate) fn run(b: &[u8]) {
-    if can_run(b, FAR_AT + 8 * far_count(b), true) {
-        show(b, u64_at(b, 2));
+pub(crate) fn run(out: Stdout, b: &[u8]) -> io::Result<()> {
+    if can_run(out, b, FAR_AT + 8 * far_count(b), true)? {
+        show(out, b, u64_at(b, 2))?;
     }
+    Ok(())
 }

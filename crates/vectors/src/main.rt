@@ -1,39 +1,63 @@
 // Prints, for each vector that an argument names (a file, rule F1), the name on a line and then the lines of the file (rule F10).
-// `no file` says that none has that name.
+// `no file` says that none has that name, as a name that is no UTF-8 text.
 #![tactic(auto)]
-use libc::STDOUT_FILENO;
 
-// Text as it is.
-fn print_text(text: &[u8]) {
-    io::write_all(STDOUT_FILENO, text);
+use std::env::{Env, FillError};
+use std::fs::File;
+use std::io::{ErrorKind, Read};
+use std::{io, str};
+
+// The places for a name: one that is longer is no name of a file, and taken for the empty one.
+const NAME_PLACES: usize = 4096;
+
+// The bytes of an open file, up to those that show that it is too long. Where a read fails they are those before it.
+fn read_file(rt: HostRuntime, file: File) -> io::Result<Vec<u8>> {
+    let mut input = Vec::new(rt.alloc());
+    let most = printing::FILE_PLACES as u64;
+    match file.take(most).read_to_end(&mut input) {
+        Err(e) if e.kind() == ErrorKind::OutOfMemory => Err(e),
+        _ => Ok(input),
+    }
 }
 
-// The lines of an open file, which is closed. Of a write that fails nothing is said.
-fn print_file(fd: i32) {
-    let mut input = [0u8; printing::FILE_PLACES];
-    let n = io::read_full(fd, &mut input);
-    libc::close(fd);
+// The lines of an open file. Of a write that fails nothing is said.
+fn print_file(rt: HostRuntime, file: File) -> io::Result<()> {
+    let input = read_file(rt, file)?;
     let mut patches = [0i32; printing::PATCH_PLACES];
-    printing::print(&input[..n], &mut patches, b"");
+    printing::print(
+        input.as_slice(),
+        &mut patches,
+        b"",
+        &mut rt.stdout(),
+        &mut rt.stderr(),
+    );
+    Ok(())
 }
 
-// The name and the lines of the vector that argument i names.
-fn vector(i: usize) {
-    let mut name = io::buffer();
-    let k = os::arg(i, &mut name);
-    print_text(&name[..k]);
-    print_text(b"\n");
-    let fd = os::open_read(&name[..k]);
-    if fd < 0 {
-        print_text(b"no file\n");
-    } else {
-        print_file(fd);
+// The file of a name, if there is one.
+fn open(rt: HostRuntime, name: &[u8]) -> Option<File> {
+    let path = str::from_utf8(name).ok()?;
+    File::open(&rt, path).ok()
+}
+
+// The name and the lines of a vector.
+fn vector(rt: HostRuntime, name: &[u8]) -> io::Result<()> {
+    rt.write_all(name)?;
+    println!(rt; "")?;
+    match open(rt, name) {
+        Some(file) => print_file(rt, file),
+        None => println!(rt; "no file"),
     }
 }
 
-fn main() {
-    let n = os::arg_count();
-    for i in 1..n {
-        vector(i);
+fn main(rt: HostRuntime) -> io::Result<()> {
+    for i in 1..usize::MAX {
+        let mut name = [0u8; NAME_PLACES];
+        match rt.arg(i, &mut name) {
+            Ok(k) => vector(rt, &name[..k])?,
+            Err(FillError::TooLong) => vector(rt, b"")?,
+            Err(FillError::NotPresent) => break,
+        }
     }
+    Ok(())
 }
