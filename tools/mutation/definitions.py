@@ -1,7 +1,7 @@
 """What one edit makes of a definition (.antt): of the right-hand sides of its clauses, and of the types of a record's fields.
 
-operators    + - * / % ^, those of integers, && and ||, < and ≤, also as `_+_`; ≡ and the connectives of types stay
-tests        ltb and leb, anyBelow and allBelow, min and max, true and false; `not` left out
+operators    + - * / % ^, those of integers, && and ||, < and ≤, also as `◌+◌`; ≡ and the connectives of types stay
+tests        ltb and leb, any_below and all_below, min and max, true and false; `not` left out
 numbers      one up and one down; `suc` left out
 arguments    two that stand side by side, exchanged, unless they are known to be of two types: of `cond` the branches among them
 corners      next, prev and across, as functions and as fields
@@ -19,37 +19,41 @@ from typing import NamedTuple
 from mutation.signatures import can_change_places
 from mutation.tokens import DEFINITIONS, OPENING, closing, tokens, top_level
 
-NAT, INT, BOOL = "Prim.Native.Nat", "lib.IntN", "mathlib.Core.Bool"
+# The words of the kit and the folds of the repository, by where a file has them from.
+PRELUDE, FOLD = "Rattle.std.specs.Prelude", "Rattle.finite.specs.Fold"
 
 OPERATORS = {
-    "+": ("-", NAT),
-    "-": ("+", NAT),
-    "*": ("+", NAT),
-    "/": ("*", NAT),
-    "%": ("/", NAT),
-    "^": ("*", NAT),
-    "<": ("≤", NAT),
-    "≤": ("<", NAT),
-    "+ℤ": ("-ℤ", INT),
-    "-ℤ": ("+ℤ", INT),
-    "*ℤ": ("+ℤ", INT),
-    "&&": ("||", BOOL),
-    "||": ("&&", BOOL),
+    "+": "-",
+    "-": "+",
+    "*": "+",
+    "/": "*",
+    "%": "/",
+    "^": "*",
+    "<": "≤",
+    "≤": "<",
+    "+ℤ": "-ℤ",
+    "-ℤ": "+ℤ",
+    "*ℤ": "+ℤ",
+    "&&": "||",
+    "||": "&&",
 }
 
+# What stands for an operand where an operator is named.
+HOLE = "◌"
+
 NAMES = {
-    "ltb": ("leb", "lib.Dec"),
-    "leb": ("ltb", "lib.Dec"),
-    "true": ("false", BOOL),
-    "false": ("true", BOOL),
-    "min": ("max", NAT),
-    "max": ("min", NAT),
-    "anyBelow": ("allBelow", "Rattle·finite.specs.Fold"),
-    "allBelow": ("anyBelow", "Rattle·finite.specs.Fold"),
+    "ltb": ("leb", PRELUDE),
+    "leb": ("ltb", PRELUDE),
+    "true": ("false", PRELUDE),
+    "false": ("true", PRELUDE),
+    "min": ("max", PRELUDE),
+    "max": ("min", PRELUDE),
+    "any_below": ("all_below", FOLD),
+    "all_below": ("any_below", FOLD),
 }
 
 TURNS = ("next", "prev", "across")
-CORNER = "Rattle·corner.specs.Corner"
+CORNER = "Rattle.corner.specs.Corner"
 
 LEFT_OUT = ("not", "suc")
 SYMMETRIC = ("eqb", "min", "max", "example")
@@ -138,23 +142,28 @@ def use_line(text, name, module):
     return "" if brought or own else f"use {module}.{{{name}}}"
 
 
+def around(operator):
+    """The name of an operator."""
+    return f"{HOLE}{operator}{HOLE}"
+
+
 def other_words(words, at):
     """What may stand for the word at this place, each with the name and the module that it needs."""
     text, before = words[at].text, words[at - 1].text if at else ""
     if text.isdigit():
         return [] if before == "Type" else [(str(other), None) for other in (int(text) + 1, int(text) - 1) if other >= 0]
     if text in OPERATORS:
-        other, module = OPERATORS[text]
-        return [(other, (f"_{other}_", module))]
-    if text.strip("_") in OPERATORS and text == f"_{text.strip('_')}_":
-        other, module = OPERATORS[text.strip("_")]
-        return [(f"_{other}_", (f"_{other}_", module))]
+        return [(OPERATORS[text], (around(OPERATORS[text]), PRELUDE))]
+    if text.strip(HOLE) in OPERATORS and text == around(text.strip(HOLE)):
+        other = around(OPERATORS[text.strip(HOLE)])
+        return [(other, (other, PRELUDE))]
     if text in NAMES:
         other, module = NAMES[text]
         return [(other, (other, module))]
-    if text.lstrip(".") in TURNS:
-        others = [other for other in TURNS if other != text.lstrip(".")]
-        return [(f".{other}", None) if text[0] == "." else (other, (other, CORNER)) for other in others]
+    owner, dot, turn = text.rpartition(".")
+    if turn in TURNS:
+        others = [other for other in TURNS if other != turn]
+        return [(f"{owner}.{other}", None) if dot else (other, (other, CORNER)) for other in others]
     return [("", None)] if text in LEFT_OUT else []
 
 
@@ -192,7 +201,7 @@ def words_changed(text, words, item, seed):
 
 def is_atom(word):
     """Whether a word can be a function or an argument."""
-    return word.text in SYMBOLS or (word.text[0].isalnum() or word.text[0] == "_") and word.text not in BREAKS
+    return word.text in SYMBOLS or (word.text[0].isalnum() or word.text[0] in ("_", HOLE)) and word.text not in BREAKS
 
 
 def is_binder(words, at, end):
@@ -208,11 +217,10 @@ def applications(words, start, stop):
         if end > at + 1:
             yield from applications(words, at + 1, end - 1)
         if end > at + 1 and not is_binder(words, at, end - 1) or is_atom(words[at]) and not is_bound(words, at):
+            # the field of what a bracket holds stands right behind it
+            if end > at + 1 and end < stop and words[end].text[0] == ".":
+                end += 1
             spine.append((at, end))
-        elif words[at].text[0] == "." and spine:
-            # the field of all that stands before it, which may be applied in turn
-            yield spine
-            spine = [(spine[0][0], end)]
         else:
             yield spine
             spine = []

@@ -27,11 +27,19 @@ class Edit(NamedTuple):
     chosen: bool = True
 
 
+def clause(words, at):
+    """Where the brace of the clause of a contract at this place is, which may have a name; None where there is none."""
+    if words[at].text not in CONTRACTS:
+        return None
+    return next((place for place in (at + 1, at + 2) if words[place].text == "{" and (place == at + 1 or words[at + 1].kind == "name")), None)
+
+
 def function_body(words, at):
     """Where the brace of the body of the function at this place is; None for one without a body."""
     while at < len(words):
-        if words[at].text in CONTRACTS and words[at + 1].text == "{":
-            at = closing(words, at + 1) + 1
+        brace = clause(words, at)
+        if brace is not None:
+            at = closing(words, brace) + 1
         elif words[at].text == "{":
             return at
         elif words[at].text == ";":

@@ -40,10 +40,10 @@ class Mutant:
 
 
 def crates(root):
-    """The crates with what each stands on, in the order of crates.txt."""
+    """The crates with what each stands on, in the order of crates.txt; a name may have words behind it, such as `staticlib`."""
     lines = (line.partition("#")[0] for line in (root / "crates.txt").read_text(encoding="utf-8").splitlines())
     pairs = (line.partition(":") for line in lines if line.strip())
-    return {name.strip(): below.split() for name, _, below in pairs}
+    return {name.split()[0]: below.split() for name, _, below in pairs}
 
 
 def above(listed, crate):

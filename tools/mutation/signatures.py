@@ -11,7 +11,7 @@ SIGNATURE = re.compile(r"^(?:(?:abbrev|unfoldable|pub|private) )*(\S+) :\s(.*(?:
 VARIABLE = re.compile(r"[A-Z]$")
 
 # Functions of the kit.
-KIT = {"getD": ("List A", "ℕ", "A"), "take": ("ℕ", "List A"), "drop": ("ℕ", "List A"), "replicate": ("ℕ", "A"), "sets": ("List A", "ℕ", "List A")}
+KIT = {"get_or": ("List A", "ℕ", "A"), "take": ("ℕ", "List A"), "drop": ("ℕ", "List A"), "replicate": ("ℕ", "A"), "sets": ("List A", "ℕ", "List A")}
 
 
 def one_blank(words, start, stop):

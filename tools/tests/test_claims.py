@@ -18,14 +18,14 @@ CONDITIONS = {"Accepted", "Renumbering", "Edge", "Written"}
 
 def origins(text):
     """The crate and the file of specs/ that each imported name comes from."""
-    found = re.findall(r"^(?:ghost )?use Rattle·(\w+)(?:·specs\.specs|\.specs)\.([\w.]+)\.\{([^}]*)\}", text, flags=re.MULTILINE)
+    found = re.findall(r"^(?:ghost )?use Rattle\.(\w+)\.specs\.([\w.]+)\.\{([^}]*)\}", text, flags=re.MULTILINE)
     return {name.strip(): (crate, file) for crate, file, names in found for name in names.split(",")}
 
 
 def promised(text, call):
     """The record that the contract of a call is, and where it comes from."""
     contract = re.search(rf"^pub fn {call}\(.*?^\{{", text, flags=re.DOTALL | re.MULTILINE)[0]
-    (record,) = re.findall(r"ensures \{ λ r\. ⌜ (\w+) ", contract)
+    (record,) = re.findall(r"ensures (?:\w+ )?\{ (\w+) ", contract)
     return record, origins(text).get(record)
 
 
@@ -92,11 +92,11 @@ class Claims(unittest.TestCase):
             ("→ MeshMirrored M x r x'", "→ MirrorLeft M x x'"),
             ("→ MeshMirrored M x r x'", ""),
             ("→ Evaluated n (asked M d q) s b", "→ Witnessed n (asked M d q) s b"),
-            ("use Rattle·edit.specs.Mirror.{", "use Rattle·effect·specs.specs.Mirror.{"),
+            ("use Rattle.edit.specs.Mirror.{", "use Rattle.effect.specs.Mirror.{"),
         ):
             self.assertEqual(specs.count(old), 1, old)
             self.assertNotEqual(unpromised(specs.replace(old, new), record, contracts), set(), new)
-        for old, new in (("⌜ MeshMirrored ", "⌜ MirrorLeft "), ("specs.Mirror.{", "specs.Image.{")):
+        for old, new in (("{ MeshMirrored ", "{ MirrorLeft "), ("specs.Mirror.{", "specs.Image.{")):
             self.assertEqual(code.count(old), 1, old)
             self.assertNotEqual(unpromised(specs, record, [(code.replace(old, new), "mirror"), (other, "evaluate")]), set(), new)
 

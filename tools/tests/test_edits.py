@@ -200,7 +200,7 @@ impl Size {
 }
 
 pub fn first(n: usize) -> bool
-    ensures { λ r. ⌜ r ≡ ltb n 4 ⌝ }
+    ensures { result ≡ ltb n 4 }
 {
     below(n, LIMIT)
 }

@@ -8,20 +8,20 @@ ROOT = Path(__file__).resolve().parent.parent.parent
 
 # The limits by the names of the constants in the code, and by those of the definitions.
 NAMES = {
-    "MIN_VERTICES": "minVertices",
-    "MAX_VERTICES": "maxVertices",
-    "MIN_FACES": "minFaces",
-    "MAX_FACES": "maxFaces",
-    "MAX_COORDINATE": "maxCoordinate",
-    "MIN_VALENCE": "minValence",
-    "MAX_VALENCE": "maxValence",
-    "MIN_BOUNDARY_FACES": "minBoundaryFaces",
-    "MAX_BOUNDARY_FACES": "maxBoundaryFaces",
-    "CORNER_TAG": "cornerTag",
-    "NO_TWIN": "noTwin",
-    "MAX_CONTROL": "maxControl",
-    "MIN_STEPS": "minSteps",
-    "MAX_STEPS": "maxSteps",
+    "MIN_VERTICES": "min_vertices",
+    "MAX_VERTICES": "max_vertices",
+    "MIN_FACES": "min_faces",
+    "MAX_FACES": "max_faces",
+    "MAX_COORDINATE": "max_coordinate",
+    "MIN_VALENCE": "min_valence",
+    "MAX_VALENCE": "max_valence",
+    "MIN_BOUNDARY_FACES": "min_boundary_faces",
+    "MAX_BOUNDARY_FACES": "max_boundary_faces",
+    "CORNER_TAG": "corner_tag",
+    "NO_TWIN": "no_twin",
+    "MAX_CONTROL": "max_control",
+    "MIN_STEPS": "min_steps",
+    "MAX_STEPS": "max_steps",
 }
 
 

@@ -11,7 +11,7 @@ from mutation.verdicts import FALSE, SURVIVED
 
 EQUIVALENT = TOOLS / "edits" / "equivalent.txt"
 
-CONTRACT = "    requires { ⌜ n < 7 ⌝ }\n    ensures { λ r. ⌜ r ≡ record { a = 1 + n } ⌝ }\n"
+CONTRACT = "    requires { n < 7 }\n    ensures sum { result ≡ record { a = 1 + n } }\n"
 
 
 def function(body, signature="fn f(n: usize, m: usize) -> usize"):
@@ -26,7 +26,7 @@ def bodies(body, **more):
     found = []
     for edit in code.edits(text):
         after = mutants.applied(text, edit)
-        start = after.index("{\n", after.index("⌝ }\n{")) + 2
+        start = after.index("{\n", after.index(" }\n{")) + 2
         found.append(" ".join(after[start : after.rindex("}")].split()))
     return found
 
@@ -36,7 +36,7 @@ def sides(text):
     return [mutants.applied(text, edit).splitlines()[-1].strip() for edit in definitions.edits(text)]
 
 
-def defined(side, before="use Prim.Native.Nat.{ℕ, _+_, _*_}"):
+def defined(side, before="use Rattle.std.specs.Prelude.{ℕ, ◌+◌, ◌*◌}"):
     """A file with one definition."""
     return f"{before}\n\n-- 3 + 4\nunfoldable pub f : ℕ → ℕ\nf n = {side}\n"
 
@@ -156,13 +156,13 @@ class Definitions(unittest.TestCase):
         pairs = (("+", "-"), ("-", "+"), ("*", "+"), ("/", "*"), ("%", "/"), ("^", "*"), ("<", "≤"), ("≤", "<"), ("&&", "||"), ("||", "&&"))
         for one, other in pairs + (("+ℤ", "-ℤ"), ("-ℤ", "+ℤ"), ("*ℤ", "+ℤ")):
             self.assertEqual(sides(defined(f"n {one} m")), [f"f n = n {other} m"], one)
-        self.assertIn("f n = g _-_ n", sides(defined("g _+_ n")))
+        self.assertIn("f n = g ◌-◌ n", sides(defined("g ◌+◌ n")))
         self.assertEqual(sides(defined("n ≡ m")), [])
 
     def test_names_that_are_brought_in(self):
         text = defined("n + m")
         after = mutants.applied(text, definitions.edits(text)[0])
-        self.assertEqual(after.splitlines()[:2], ["use Prim.Native.Nat.{_-_}", "use Prim.Native.Nat.{ℕ, _+_, _*_}"])
+        self.assertEqual(after.splitlines()[:2], ["use Rattle.std.specs.Prelude.{◌-◌}", "use Rattle.std.specs.Prelude.{ℕ, ◌+◌, ◌*◌}"])
         text = defined("n * m")
         self.assertEqual(mutants.applied(text, definitions.edits(text)[0]), text.replace("n * m", "n + m"))
 
@@ -183,12 +183,15 @@ class Definitions(unittest.TestCase):
     def test_tests_and_truths(self):
         self.assertEqual(sides(defined("not true")), ["f n =  true", "f n = not false"])
         self.assertIn("f n = leb n 4", sides(defined("ltb n 4")))
-        self.assertIn("f n = allBelow p n", sides(defined("anyBelow p n")))
+        self.assertIn("f n = all_below p n", sides(defined("any_below p n")))
 
     def test_arguments(self):
         self.assertEqual(sides(defined("cond b x y")), ["f n = cond x b y", "f n = cond b y x"])
         self.assertEqual(sides(defined("g (h a b) c")), ["f n = g c (h a b)", "f n = g (h b a) c"])
-        self.assertEqual(sides(defined("g a b .den * h c d")), [f"f n = {s}" for s in ("g b a .den * h c d", "g a b .den + h c d", "g a b .den * h d c")])
+        after = ("(g b a).den * h c d", "(g a b).den + h c d", "(g a b).den * h d c")
+        self.assertEqual(sides(defined("(g a b).den * h c d")), [f"f n = {s}" for s in after])
+        self.assertEqual(sides(defined("g (h a).den b")), ["f n = g b (h a).den"])
+        self.assertEqual(sides(defined("g a.num ◌+◌")), [f"f n = {s}" for s in ("g ◌+◌ a.num", "g a.num ◌-◌")])
         self.assertEqual(sides(defined("eqb a b")), [])
 
     def test_bound_names_are_no_arguments(self):
@@ -197,7 +200,8 @@ class Definitions(unittest.TestCase):
 
     def test_corners(self):
         self.assertEqual(sides(defined("next n")), ["f n = across n", "f n = prev n"])
-        self.assertEqual(sides(defined("a .next")), ["f n = a .across", "f n = a .prev"])
+        self.assertEqual(sides(defined("a.next")), ["f n = a.across", "f n = a.prev"])
+        self.assertEqual(sides(defined("(g n).next")), ["f n = (g n).across", "f n = (g n).prev"])
         self.assertEqual(sides(defined("record { next = n }")), [])
 
     def test_patterns_and_signatures_stay(self):
@@ -249,7 +253,7 @@ class Signatures(unittest.TestCase):
 class Repository(unittest.TestCase):
     def test_contracts_stay(self):
         """No line of a contract, an import, a comment or a declaration of a file changes, in any mutant."""
-        kept = re.compile(r"^\s*(//|use |ghost use |pub use |mod |pub mod |requires |ensures |⌝|pub struct|pub enum)")
+        kept = re.compile(r"^\s*(//|use |ghost use |pub use |mod |pub mod |requires |ensures |pub struct|pub enum)")
         for crate in ("corner", "limits", "mask", "entries", "integer"):
             made = mutants.of_crate(ROOT, crate, 0, False)
             self.assertGreater(len(made), 40)
