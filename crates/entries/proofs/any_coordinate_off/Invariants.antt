@@ -1,18 +1,11 @@
 -- `any_coordinate_off` meets its contract: the loop goes on only past coordinates in the range, and stops at the first that is not.
-use mathlib.Core.Path.{◌≡◌, ap, ◌∙◌}
+use mathlib.Core.Path.{◌≡◌}
 use mathlib.Core.Bool.{false}
 use Prim.Native.Nat.{◌-◌, ◌≤◌}
-use native.Mathlib.Numerals.{add-one-le, add-one-dec}
-use native.Mathlib.Omega.{arith}
-use lib.IntN.{ℤ, pos, nat_abs}
+use lib.IntN.{pos, nat_abs}
 use lib.Dec.{ltb}
 use lib.ListN.{get_or}
-use mir.Facts.{to_z-of_z}
-use mir.Syntax.{w32}
-use mir.Val.{SFits}
-use borrow.Author.Rules.{rules}
 use Rattle.finite.specs.Fold.{any_below}
-use Rattle.finite.proofs.AnyAll.{any-start, any-more, any_found, any-not}
 use Rattle.limits.specs.Limits.{max_coordinate}
 use Rattle.entries.proofs.any_coordinate_off.Given as goal
 

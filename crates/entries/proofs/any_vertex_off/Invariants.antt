@@ -1,15 +1,10 @@
 -- `any_vertex_off` meets its contract: the loop goes on only past corners that name a vertex below v, and stops at the first that does not.
-use mathlib.Core.Path.{◌≡◌, refl, sym, subst}
-use mathlib.Core.Bool.{Bool, true, false}
-use Prim.Native.Nat.{ℕ, ◌-◌, ◌<◌, ◌≤◌}
-use native.Mathlib.Numerals.{add-one-le, add-one-dec}
-use native.Mathlib.Omega.{arith}
+use mathlib.Core.Path.{◌≡◌}
+use mathlib.Core.Bool.{false}
+use Prim.Native.Nat.{◌-◌, ◌≤◌}
 use lib.Dec.{leb}
 use lib.ListN.{get_or}
-use borrow.Author.Rules.{rules}
-use borrow.Author.Tests.{le-leb, lt-leb}
 use Rattle.finite.specs.Fold.{any_below}
-use Rattle.finite.proofs.AnyAll.{any-start, any-more, any_found, any-not}
 use Rattle.entries.proofs.any_vertex_off.Given as goal
 
 abbrev pub invariant-loop-c : goal.invariant-loop-c

@@ -1,13 +1,7 @@
 -- `any_vertex_twice` meets its contract: the corners passed have vertices of their own in their faces.
-use mathlib.Core.Path.{◌≡◌}
-use mathlib.Core.Bool.{false}
-use Prim.Native.Nat.{◌-◌, ◌≤◌}
 use native.Mathlib.Numerals.{add-one-dec}
-use native.Mathlib.Omega.{arith}
 use borrow.Author.Rules.{rules}
-use Rattle.finite.specs.Fold.{any_below}
 use Rattle.finite.proofs.AnyAll.{any-start, any-more, any_found, any-not}
-use Rattle.entries.specs.Entries.{vertex_again}
 use Rattle.entries.proofs.any_vertex_twice.Goals as goal
 
 pub loop-c-init : goal.loop-c-init

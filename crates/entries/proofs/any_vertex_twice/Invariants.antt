@@ -2,11 +2,7 @@
 use mathlib.Core.Path.{◌≡◌}
 use mathlib.Core.Bool.{false}
 use Prim.Native.Nat.{◌-◌, ◌≤◌}
-use native.Mathlib.Numerals.{add-one-dec}
-use native.Mathlib.Omega.{arith}
-use borrow.Author.Rules.{rules}
 use Rattle.finite.specs.Fold.{any_below}
-use Rattle.finite.proofs.AnyAll.{any-start, any-more, any_found, any-not}
 use Rattle.entries.specs.Entries.{vertex_again}
 use Rattle.entries.proofs.any_vertex_twice.Given as goal
 
