@@ -1,5 +1,6 @@
 //! The tangent vectors of a face, for shading.
 #![tactic(auto)]
+
 mod corners;
 mod fill;
 mod parts;

@@ -5,7 +5,6 @@ use mathlib.Core.List.{List}
 use Prim.Native.Nat.{ℕ}
 use native.Mathlib.Nat.{le_of_eq}
 use lib.IntN.{ℤ}
-use borrow.Author.Rules.{rules}
 use Rattle.answer.specs.Table.{result}
 use Rattle.limits.specs.declared.model.Mesh.{Mesh}
 use Rattle.mesh.specs.IndexedMesh.{IndexedMesh, indexed}
@@ -13,7 +12,7 @@ use Rattle.mesh.specs.Answer.{checked, check_answer}
 use Rattle.tangent.specs.Lists.{Fanned}
 use Rattle.tangent.proofs.FillLaws.{drawn}
 use Rattle.tangent.proofs.AnswerLaws.{own_twins, refused, check-refused, formed, fanned, own-refused, face-below, face-closed, list-long, done}
-use Rattle.tangent.proofs.tangents.Goals.{After-check-answer, Else-own-ne0, In_default, Start}
+use Rattle.tangent.proofs.tangents.Goals.{In_default, Start}
 use Rattle.tangent.proofs.tangents.Goals as goal
 
 -- ---- at the entry: the mesh that was passed, and the list that was lent
@@ -27,66 +26,49 @@ module _ (s : Start) where
   abbrev face : ℕ
   face = s.args.g
 
--- ---- the check has answered
-abbrev start : After-check-answer → Start
-start c = (goal.at.After-check-answer c).Start
-
 -- ---- it accepted
 module _ (c : In_default) where
-  abbrev asked : After-check-answer
-  asked = (goal.at.In_default c).After-check-answer
-
   abbrev entry : Start
-  entry = start asked
+  entry = (goal.at.In_default c).Start
 
   -- the counts that it gave
   accepted : (m : Mesh) × (result m ≡ check_answer (mesh entry) own_twins)
-  accepted = (_, sym (ap checked c.enum_told-1.given.1) ∙ asked.check-answer.ensures.answer-is)
+  accepted = (_, sym (ap checked c.in_default.is) ∙ c.check-answer.ensures.answer-is)
 
-  twins-left : Fanned (mesh entry).indices asked.check-answer.new.twins
-  twins-left = fanned (mesh entry) (face entry) (lent entry) accepted.1 _ asked.check-answer.ensures.twins-are
-
--- ---- nothing of its own is met
-module _ (c : Else-own-ne0) where
-  abbrev told : In_default
-  told = (goal.at.Else-own-ne0 c).In_default
+  twins-left : Fanned (mesh entry).indices c.check-answer.new.twins
+  twins-left = fanned (mesh entry) (face entry) (lent entry) accepted.1 _ c.check-answer.ensures.twins-are
 
 pub returns-in-Refused : goal.returns-in-Refused
 returns-in-Refused c =
-    let k = c in
-    let s = start (goal.at.returns-in-Refused k).After-check-answer in
+    let s = (goal.at.returns-in-Refused c).Start in
     refused (mesh s) (face s) (lent s)
-    (check-refused (mesh s) (face s) (lent s) (sym (ap checked c.answer-1.given.1) ∙ k.check-answer.ensures.answer-is)) _ refl
+    (check-refused (mesh s) (face s) (lent s) (sym (ap checked c.in-Refused.is) ∙ c.check-answer.ensures.answer-is)) _ refl
 
 pub face_refusal-own-requires : goal.face_refusal-own-requires
 face_refusal-own-requires c =
-    let k = c in
-    (twins-left (goal.at.face_refusal-own-requires k).In_default, (formed (mesh (entry (goal.at.face_refusal-own-requires k).In_default)) (face (entry (goal.at.face_refusal-own-requires k).In_default)) (lent (entry (goal.at.face_refusal-own-requires k).In_default)) (accepted (goal.at.face_refusal-own-requires k).In_default).1).sized.indices-are)
+    let k = (goal.at.face_refusal-own-requires c).In_default in
+    let s = entry k in
+    (twins-left k, (formed (mesh s) (face s) (lent s) (accepted k).1).sized.indices-are)
 
 pub returns-then-own-ne0 : goal.returns-then-own-ne0
 returns-then-own-ne0 c =
-    let o = c in
-    let k = o in
-    let s = entry (goal.at.returns-then-own-ne0 k).In_default in
+    let k = (goal.at.returns-then-own-ne0 c).In_default in
+    let s = entry k in
     refused (mesh s) (face s) (lent s)
-    (own-refused (mesh s) (face s) (lent s) (accepted (goal.at.returns-then-own-ne0 k).In_default).1 _ o.face_refusal-own.ensures c.if-own-ne0.true) _ refl
+    (own-refused (mesh s) (face s) (lent s) (accepted k).1 _ c.face_refusal-own.ensures c.if-own-ne0.true) _ refl
 
 pub fill_tangents-requires : goal.fill_tangents-requires
 fill_tangents-requires c =
-    let e = c in
-    let o = e in
-    let k = told (goal.at.fill_tangents-requires e).Else-own-ne0 in
+    let k = (goal.at.fill_tangents-requires c).In_default in
     let s = entry k in
     let w = formed (mesh s) (face s) (lent s) (accepted k).1 in
-    let ok = o.face_refusal-own.ensures in
-    drawn w (face s) (face-below (mesh s) (face s) (lent s) (accepted k).1 _ ok e.if-own-ne0.false)
-    (face-closed (mesh s) (face s) (lent s) (accepted k).1 _ ok e.if-own-ne0.false) (twins-left k) (lent s)
-    (le_of_eq (sym (list-long (mesh s) (face s) (lent s) (accepted k).1 _ ok e.if-own-ne0.false)))
+    let ok = c.face_refusal-own.ensures in
+    drawn w (face s) (face-below (mesh s) (face s) (lent s) (accepted k).1 _ ok c.if-own-ne0.false)
+    (face-closed (mesh s) (face s) (lent s) (accepted k).1 _ ok c.if-own-ne0.false) (twins-left k) (lent s)
+    (le_of_eq (sym (list-long (mesh s) (face s) (lent s) (accepted k).1 _ ok c.if-own-ne0.false)))
 
 pub returns : goal.returns
 returns c =
-    let f = c in
-    let e = f in
-    let k = told (goal.at.returns e).Else-own-ne0 in
+    let k = (goal.at.returns c).In_default in
     let s = entry k in
-    done (mesh s) (face s) (lent s) (accepted k).1 _ e.face_refusal-own.ensures e.if-own-ne0.false _ refl (twins-left k) f.fill_tangents.ensures
+    done (mesh s) (face s) (lent s) (accepted k).1 _ c.face_refusal-own.ensures c.if-own-ne0.false _ refl (twins-left k) c.fill_tangents.ensures

@@ -1,9 +1,5 @@
 -- `ring_size` meets its contract: the corners met are different, and the walk is back at its first corner, or ends at the boundary.
-use Prim.Native.Nat.{◌-◌}
 use native.Mathlib.Omega.{arith}
-use lib.ListN.{length}
-use Rattle.mesh.specs.Tables.{twin_of}
-use Rattle.mesh.proofs.WalkLaws.{Onward}
 use Rattle.tangent.proofs.RingSizeLaws.{met-first, met-more, met_less, met-back, met-none}
 use Rattle.tangent.proofs.corners.ring_size.Goals.{At-loop-on, Else-on-eq-NO_CORNER, In-loop-on, Start}
 use Rattle.tangent.proofs.corners.ring_size.Goals as goal

@@ -1,9 +1,6 @@
 -- `fill_parts` meets its contract: after j turns the first j places hold their parts.
 use Prim.Native.Nat.{◌-◌}
-use native.Mathlib.Omega.{arith}
-use mir.Syntax.{w64}
-use Rattle.integer.proofs.Laws.{read_back}
-use Rattle.patch.proofs.FillingLaws.{Filling, filling-none, filling-room, filling-more, filling-all}
+use Rattle.patch.proofs.FillingLaws.{Filling}
 use Rattle.tangent.specs.Told.{parts_told}
 use Rattle.tangent.proofs.parts.fill_parts.Given as goal
 

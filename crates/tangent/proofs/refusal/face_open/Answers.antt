@@ -1,16 +1,11 @@
 -- `face_open` meets its contract: no corner passed is at a boundary vertex.
-use mathlib.Core.List.{List}
 use mathlib.Core.Path.{◌≡◌, ap, ◌∙◌}
-use mathlib.Core.Bool.{Bool, false}
-use Prim.Native.Nat.{ℕ, ◌+◌, ◌*◌, ◌-◌, ◌≤◌}
+use mathlib.Core.Bool.{Bool}
+use Prim.Native.Nat.{ℕ, ◌+◌, ◌*◌}
 use native.Mathlib.Omega.{arith}
 use lib.Dec.{eqb}
-use lib.ListN.{length}
 use borrow.Author.Tests.{eq-eqb, ne_eqb}
-use Rattle.finite.specs.Fold.{any_below}
 use Rattle.finite.proofs.AnyAll.{any-start, any-more, any_found, any-not}
-use Rattle.mesh.specs.Fan.{on_boundary}
-use Rattle.mesh.specs.Tables.{vertex_of}
 use Rattle.tangent.proofs.RingSizeLaws.{ring-open}
 use Rattle.tangent.proofs.refusal.face_open.Invariants.{corner-open}
 use Rattle.tangent.proofs.refusal.face_open.Goals.{After-ring_size, At-loop-s, In-loop-s, Start}

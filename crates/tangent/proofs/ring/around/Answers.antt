@@ -1,7 +1,5 @@
 -- `around` meets its contract: it reads the twin of the half-edge before e.
 use mathlib.Core.Path.{ap, ◌∙◌}
-use native.Mathlib.Omega.{arith}
-use borrow.Author.Rules.{rules}
 use Rattle.control.specs.Control.{link_at}
 use Rattle.tangent.proofs.ring.around.Goals as goal
 

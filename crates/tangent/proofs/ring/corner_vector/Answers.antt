@@ -1,6 +1,7 @@
 -- `corner_vector` meets its contract: 256 times the sum fits 64 bits.
 use mathlib.Core.Path.{refl, ap, ◌∙◌}
 use Prim.Native.Nat.{◌^◌}
+use native.Mathlib.Omega.{arith}
 use lib.IntN.{ℤ, pos, ◌*ℤ◌}
 use mir.Syntax.{w64}
 use Rattle.integer.specs.Nearest.{nearest}
@@ -31,6 +32,6 @@ unfolding vector_at
 returns c =
     let divided : After-round = (goal.at.returns c).After-round in
     let d = divided in
-    read_back w64 c.struct_told-1.given.0.1
+    read_back w64 (omega arith)
     (divided.round.ensures.0
     ∙ ap (λ (z : ℤ). nearest z scale) (result (product (goal.at.After-round d).After-ring_sum-sum) (ranged (goal.at.After-round d).After-ring_sum-sum) refl ∙ ap (λ (z : ℤ). pos 256 *ℤ z) d.ring_sum-sum.ensures.0))

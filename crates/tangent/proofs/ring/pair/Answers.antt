@@ -33,7 +33,7 @@ module _ (c : After-value-2) where
   a-is = to_z-of_z start.ranges.a
 
   x-is : to_z w32 (of_z w32 value-at.value.result) ≡ at (next start.args.e)
-  x-is = read_back w32 value-at.value.ok (value-at.value.ensures ∙ ap at next-at.next_corner.ensures)
+  x-is = read_back w32 value-at.value.type_inv (value-at.value.ensures ∙ ap at next-at.next_corner.ensures)
 
   b-is : to_z w32 (of_z w32 start.args.b) ≡ start.args.b
   b-is = to_z-of_z start.ranges.b
@@ -42,18 +42,6 @@ module _ (c : After-value-2) where
   y-is = read_back w32 c.value-2.type_inv (c.value-2.ensures ∙ ap at across-at.across_corner.ensures)
 
 -- ---- the answers, in the order of the code
-pub next_corner-requires : goal.next_corner-requires
-next_corner-requires c = tt
-
-pub value-requires : goal.value-requires
-value-requires c = tt
-
-pub across_corner-requires : goal.across_corner-requires
-across_corner-requires c = tt
-
-pub value-requires-2 : goal.value-requires-2
-value-requires-2 c = tt
-
 pub weighted-requires : goal.weighted-requires
 weighted-requires c =
     let s = start c in

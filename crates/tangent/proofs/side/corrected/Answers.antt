@@ -4,7 +4,6 @@ use Prim.Native.Nat.{◌^◌, ◌≤◌}
 use native.Mathlib.Omega.{arith}
 use lib.IntN.{ℤ, nat_abs}
 use mir.Syntax.{w64}
-use borrow.Author.Rules.{rules}
 use Rattle.integer.specs.Nearest.{nearest}
 use Rattle.integer.proofs.Laws.{read_back}
 use Rattle.integer.proofs.NearestLaws.{nearest-bounded}
@@ -37,6 +36,6 @@ returns c =
     let divided : After-round = (goal.at.returns c).After-round in
     let s = divided in
     let is =
-    read_back w64 c.struct_told-1.given.0.1
+    read_back w64 (omega arith)
     (divided.round.ensures.0 ∙ ap (λ (z : ℤ). nearest z corrected_divisor) (result (num (goal.at.After-round s).Start) (ranged (goal.at.After-round s).Start) refl)) in
     (is, rw is (rounded-size (goal.at.After-round s).Start))

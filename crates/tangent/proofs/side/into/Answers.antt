@@ -4,7 +4,6 @@ use lib.IntN.{pos, ◌-ℤ◌, ◌*ℤ◌}
 use mir.Syntax.{w64}
 use mir.Val.{to_z, of_z}
 use mir.Facts.{to_z-of_z}
-use borrow.Author.Rules.{rules}
 use Rattle.integer.proofs.Laws.{read_back}
 use Rattle.tangent.specs.Vector.{corrected, first_term}
 use Rattle.tangent.proofs.side.into.Goals.{After-cosine_term-term, After-triple_difference, Start}

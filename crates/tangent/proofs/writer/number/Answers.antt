@@ -8,7 +8,6 @@ use Rattle.tangent.specs.Tangent.{signed}
 use Rattle.tangent.specs.Lists.{side_from, vector_of, number_from_parts}
 use Rattle.tangent.proofs.SideLaws.{side-sized}
 use Rattle.tangent.proofs.TableLaws.{side-is, side-below, kind-is, reversed-is}
-use borrow.Author.Rules.{rules}
 use Rattle.tangent.proofs.writer.number.Goals as goal
 
 pub overflow_cast-sense : goal.overflow_cast-sense

@@ -1,10 +1,8 @@
 -- `write_numbers` meets its contract: after i turns the first i places hold their numbers.
-use Prim.Native.Nat.{◌-◌}
 use native.Mathlib.Omega.{arith}
 use mir.Syntax.{w64}
 use Rattle.integer.proofs.Laws.{read_back}
-use Rattle.patch.proofs.FillingLaws.{Filling, filling-none, filling-room, filling-more, filling-all}
-use Rattle.tangent.specs.Lists.{number_from_parts}
+use Rattle.patch.proofs.FillingLaws.{filling-none, filling-room, filling-more, filling-all}
 use Rattle.tangent.proofs.writer.write_numbers.Goals.{After-number, At-loop-i}
 use Rattle.tangent.proofs.writer.write_numbers.Goals as goal
 

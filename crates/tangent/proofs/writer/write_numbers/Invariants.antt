@@ -1,9 +1,6 @@
 -- `write_numbers` meets its contract: after i turns the first i places hold their numbers.
 use Prim.Native.Nat.{◌-◌}
-use native.Mathlib.Omega.{arith}
-use mir.Syntax.{w64}
-use Rattle.integer.proofs.Laws.{read_back}
-use Rattle.patch.proofs.FillingLaws.{Filling, filling-none, filling-room, filling-more, filling-all}
+use Rattle.patch.proofs.FillingLaws.{Filling}
 use Rattle.tangent.specs.Lists.{number_from_parts}
 use Rattle.tangent.proofs.writer.write_numbers.Given as goal
 
