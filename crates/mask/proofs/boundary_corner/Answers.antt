@@ -1,7 +1,6 @@
 -- `boundary_corner` meets its contract: its two weights are of at most 96, and its numerator a sum of numbers of 32 bits.
 use Prim.Native.Nat.{◌+◌, ◌-◌, ◌*◌}
 use native.Mathlib.Omega.{arith}
-use borrow.Author.Rules.{rules}
 use Rattle.mask.specs.Mask.{sharp_corner_mask}
 use Rattle.mask.proofs.MachineLaws.{Sum, one, term, ◌⊞◌, fraction, fits}
 use Rattle.mask.proofs.boundary_corner.Goals.{Start}

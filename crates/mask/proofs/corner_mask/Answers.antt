@@ -1,6 +1,5 @@
 -- `corner_mask` meets its contract: by the test of the definition, each case is what one mask gave.
 use mir.Facts.{to_z-of_z}
-use borrow.Author.Rules.{rules}
 use borrow.Author.Tests.{lt-ltb, le-ltb}
 use Rattle.mask.specs.Mask.{max_sharpness, corner_mask}
 use Rattle.mask.proofs.corner_mask.Goals as goal

@@ -1,6 +1,5 @@
 -- `corner_rule` meets its contract: it is the definition, one test after the other.
 use mathlib.Core.Path.{sym, ◌∙◌}
-use borrow.Author.Rules.{rules}
 use Rattle.mask.specs.Mask.{corner_rule}
 use Rattle.mask.proofs.corner_rule.Goals as goal
 

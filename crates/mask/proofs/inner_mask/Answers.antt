@@ -1,7 +1,6 @@
 -- `inner_mask` meets its contract: its numerator is a sum of numbers of 32 bits, with weights of at most 16.
 use Prim.Native.Nat.{◌+◌}
 use native.Mathlib.Omega.{arith}
-use borrow.Author.Rules.{rules}
 use Rattle.mask.specs.Mask.{inner_mask}
 use Rattle.mask.proofs.MachineLaws.{Sum, one, term, ◌⊞◌, Ranged, Narrow, narrow, fraction, fits}
 use Rattle.mask.proofs.inner_mask.Goals.{After-struct_told-1, After-struct_told-2-1, After-struct_told-3-1, After-struct_told-4-1, Start}

@@ -2,7 +2,6 @@
 use native.Mathlib.Omega.{arith}
 use mir.Syntax.{w64}
 use mir.Facts.{to_z-of_z}
-use borrow.Author.Rules.{rules}
 use Rattle.integer.proofs.Laws.{read_back}
 use Rattle.mask.proofs.MachineLaws.{Narrow, narrow}
 use Rattle.mask.proofs.ring_of.Goals.{After-ring_sum, Start}
