@@ -72,7 +72,7 @@ pub returns-in-Accepted : goal.returns-in-Accepted
 returns-in-Accepted c =
     let p = called (goal.at.returns-in-Accepted c).After-marks-2-1 in
     let said = p.patches.ensures in
-    let r = result-none (met p) (sym (ap checked c.mesh-1.given.1) ∙ said.answer-is) in
+    let r = result-none (met p) (sym (ap checked c.in-Accepted.is) ∙ said.answer-is) in
     let unmet = same p ∙ r.0 in
     record { answer-is = rw (unmet, r.1); patches-are = said.patches-are ∙ rw (r.0, unmet) }
 
@@ -80,6 +80,6 @@ pub returns-in-Refused : goal.returns-in-Refused
 returns-in-Refused c =
     let p = called (goal.at.returns-in-Refused c).After-marks-2-1 in
     let said = p.patches.ensures in
-    let r = refusal-met (counts_of (mesh (begin p))) (met p) (sym (ap checked c.k-1.given.1) ∙ said.answer-is) in
+    let r = refusal-met (counts_of (mesh (begin p))) (met p) (sym (ap checked c.in-Refused.is) ∙ said.answer-is) in
     let refused = same p ∙ r in
     record { answer-is = rw refused; patches-are = said.patches-are ∙ rw (r, refused) }
