@@ -6,9 +6,8 @@ use native.Mathlib.Nat.{le_of_eq}
 use native.Mathlib.Omega.{arith}
 use lib.IntN.{ℤ, pos}
 use lib.ListN.{length, replicate, length-replicate}
-use borrow.Author.Rules.{rules}
 use Rattle.limits.specs.Limits.{max_vertices, max_faces}
-use Rattle.decoding.specs.File.{vertices, faces, steps, position_at, tag_at, index_at}
+use Rattle.decoding.specs.File.{vertices, faces, steps, position_at, index_at}
 use Rattle.decoding.specs.declared.model.Header.{Header}
 use Rattle.decoding.specs.Decoding.{decoded}
 use Rattle.decoding.proofs.FileLaws.{Whole, file-whole}
