@@ -33,7 +33,7 @@ module _ (c : Then-out-at-ge-LINE_PLACES) where
   at-loop = (goal.at.Then-out-at-ge-LINE_PLACES c).At-loop-to
 
   room : line_places ≤ length at-loop.loop-to.out - at-loop.loop-to.at
-  room = leb-true line_places _ c.if-out-at-ge-LINE_PLACES.true
+  room = c.if-out-at-ge-LINE_PLACES.true
 
 -- ---- the next lines are stored: they lead on, no further than to the last line, and end within the part that was lent
 module _ (c : After-next_lines-more) where
@@ -97,7 +97,7 @@ pub returns-else-out-at-ge-LINE_PLACES : goal.returns-else-out-at-ge-LINE_PLACES
 returns-else-out-at-ge-LINE_PLACES c =
     let l : At-loop-to = (goal.at.returns-else-out-at-ge-LINE_PLACES c).At-loop-to in
     let s = (start l).args in
-    running-stretched (opened s.answer) s.patches.now s.line (lines_are l) l.loop-to.invariant (λ _. leb-false line_places _ c.if-out-at-ge-LINE_PLACES.false)
+    running-stretched (opened s.answer) s.patches.now s.line (lines_are l) l.loop-to.invariant (λ _. c.if-out-at-ge-LINE_PLACES.false)
 
 pub shape_of-out-after-loop-to : goal.shape_of-out-after-loop-to
 shape_of-out-after-loop-to c = stored-length c.loop-to.invariant.stored
