@@ -1,6 +1,5 @@
 -- `line_count` meets its contract: the number is that of an accepted file or of a refused one, as the answer says.
 use mathlib.Core.Path.{sym, ap, ◌∙◌}
-use borrow.Author.Rules.{rules}
 use Rattle.meshfile.specs.Answer.{opened}
 use Rattle.meshfile.specs.declared.model.Opened.{Opened}
 use Rattle.listing.specs.Listing.{handed_count}

@@ -4,7 +4,6 @@ use mathlib.Core.List.{List}
 use Prim.Native.Nat.{ℕ, ◌-◌}
 use native.Mathlib.Omega.{arith}
 use lib.IntN.{ℤ}
-use borrow.Author.Rules.{rules}
 use Rattle.answer.specs.Table.{Answer}
 use Rattle.meshfile.specs.Answer.{opened}
 use Rattle.meshfile.specs.declared.model.Tessellation.{Tessellation}

@@ -1,17 +1,15 @@
 -- `stretch` meets its contract: the lines before the next one are stored, each where it had room, and the loop stops where no line is left or the next
 -- one has no room.
 use mathlib.Core.Path.{◌≡◌}
-use Prim.Native.Nat.{ℕ, ◌+◌, ◌-◌, ◌≤◌, ◌<◌, max}
+use Prim.Native.Nat.{ℕ, ◌+◌, ◌-◌, ◌≤◌, ◌<◌}
 use native.Mathlib.Nat.{le-max_left}
 use native.Mathlib.Omega.{arith}
 use lib.ListN.{length, length-take, length-drop}
-use borrow.Author.Rules.{rules}
-use borrow.Author.Tests.{leb-true, leb-false}
 use Rattle.meshfile.specs.Answer.{opened}
 use Rattle.text.specs.Text.{line_places}
-use Rattle.listing.specs.Listing.{handed_count, lines_from}
+use Rattle.listing.specs.Listing.{handed_count}
 use Rattle.listing.proofs.StretchLaws.{stored-length}
-use Rattle.listing.proofs.RowLaws.{Running, running-start, running-ends, running-lines, running-stretched}
+use Rattle.listing.proofs.RowLaws.{running-start, running-ends, running-lines, running-stretched}
 use Rattle.listing.proofs.stretch.Goals.{After-next_lines-more, After-struct_known-1, At-loop-to, Start, Then-out-at-ge-LINE_PLACES}
 use Rattle.listing.proofs.stretch.Goals as goal
 

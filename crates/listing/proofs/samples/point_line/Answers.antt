@@ -6,7 +6,6 @@ use lib.Signed.{mag}
 use mir.Syntax.{w32}
 use mir.Val.{to_z, of_z}
 use mir.Facts.{to_z-of_z}
-use borrow.Author.Rules.{rules}
 use Rattle.listing.proofs.samples.point_line.Goals.{After-sample_line, After-x-1, After-y-1, After-z-1}
 use Rattle.listing.proofs.samples.point_line.Goals as goal
 

@@ -1,13 +1,10 @@
 -- `point_lines` meets its contract: the lines before a are stored, each by the three numbers at its place, and the first one has room.
 use mathlib.Core.Path.{◌≡◌, subst}
-use mathlib.Core.Logic.{⊎_elim}
 use mathlib.Core.List.{List}
 use Prim.Native.Nat.{ℕ, ◌+◌, ◌-◌, ◌*◌, ◌≤◌}
 use native.Mathlib.Omega.{arith}
 use lib.IntN.{ℤ}
 use lib.ListN.{length, length-take, length-drop}
-use borrow.Author.Rules.{rules}
-use borrow.Author.Tests.{leb-true, leb-false}
 use Rattle.answer.specs.Table.{result}
 use Rattle.line.specs.Line.{point_in}
 use Rattle.sample.specs.Refusal.{max_steps}
@@ -16,7 +13,7 @@ use Rattle.text.proofs.TextLaws.{printed-within}
 use Rattle.listing.specs.Listing.{line_of}
 use Rattle.listing.specs.declared.model.Place.{Place}
 use Rattle.listing.proofs.StretchLaws.{stored-length}
-use Rattle.listing.proofs.RowLaws.{run-one, Running, running-start, running-ends, running_more, running-stuck, running-end}
+use Rattle.listing.proofs.RowLaws.{run-one, running-start, running-ends, running_more, running-stuck, running-end}
 use Rattle.listing.proofs.samples.point_lines.Invariants.{line_text}
 use Rattle.listing.proofs.samples.point_lines.Goals.{After-point_line-at, At-loop-a, Start, Then-out-at-ge-LINE_PLACES, then-loop-a-test+else-out-at-ge-LINE_PLACES, else-loop-a-test}
 use Rattle.listing.proofs.samples.point_lines.Goals as goal
@@ -111,6 +108,6 @@ returns c =
     let l : At-loop-a = (goal.at.returns c).At-loop-a in
     running-end l.loop-a.invariant (λ e.
     elim c.loop-a-test.branch [
-      then-loop-a-test+else-out-at-ge-LINE_PLACES full ↦ running-stuck l.loop-a.invariant e (start l).requires.2 full.if-out-at-ge-LINE_PLACES.false
-    | else-loop-a-test over ↦ omega (arith, over.loop-a-test.false, e, (start l).requires.0.a-within)
+      | then-loop-a-test+else-out-at-ge-LINE_PLACES full ↦ running-stuck l.loop-a.invariant e (start l).requires.2 full.if-out-at-ge-LINE_PLACES.false
+      | else-loop-a-test over ↦ omega (arith, over.loop-a-test.false, e, (start l).requires.0.a-within)
     ])

@@ -1,10 +1,8 @@
 -- `row_lines` meets its contract: the points of the row are what the sample call answers at its places; where the row is refused, so is each of them.
 use mathlib.Core.Path.{◌≡◌, sym, ap, ◌∙◌, subst}
-use mathlib.Core.Option.{none}
 use mathlib.Core.List.{List}
 use Prim.Native.Nat.{ℕ, ◌+◌}
 use native.Mathlib.Omega.{arith}
-use borrow.Author.Rules.{rules}
 use Rattle.answer.specs.Table.{Answer, outcome}
 use Rattle.answer.proofs.TableLaws.{result-none, refusal-met}
 use Rattle.sample.specs.Answer.{sample_answer}
