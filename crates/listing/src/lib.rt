@@ -1,5 +1,6 @@
 //! The whole text of a file, handed out in stretches of lines: pure, so that what is printed is proved up to the write call.
 #![tactic(auto)]
+
 pub mod model;
 mod samples;
 

@@ -1,5 +1,6 @@
 //! The file: its mesh, checked, and its patches (rule F4).
 #![tactic(auto)]
+
 pub mod model;
 mod tessellate;
 

@@ -2,7 +2,6 @@
 use Prim.Native.Nat.{◌+◌, ◌*◌, ◌≤◌}
 use native.Mathlib.Nat.{mul-le-mul}
 use native.Mathlib.Omega.{arith}
-use borrow.Author.Rules.{rules}
 use Rattle.limits.specs.Limits.{max_faces}
 use Rattle.sample.specs.Refusal.{max_steps}
 use Rattle.meshfile.specs.declared.model.Tessellation.{Tessellation}

@@ -1,17 +1,15 @@
 -- `stretch` meets its contract: the lines before the next one are stored, each where it had room, and the loop stops where no line is left or the next
 -- one has no room.
 use mathlib.Core.Path.{◌≡◌}
-use Prim.Native.Nat.{ℕ, ◌+◌, ◌-◌, ◌≤◌, ◌<◌, max}
+use Prim.Native.Nat.{ℕ, ◌+◌, ◌-◌, ◌≤◌, ◌<◌}
 use native.Mathlib.Nat.{le-max_left}
 use native.Mathlib.Omega.{arith}
 use lib.ListN.{length, length-take, length-drop}
-use borrow.Author.Rules.{rules}
-use borrow.Author.Tests.{leb-true, leb-false}
 use Rattle.meshfile.specs.Answer.{opened}
 use Rattle.text.specs.Text.{line_places}
-use Rattle.listing.specs.Listing.{handed_count, lines_from}
+use Rattle.listing.specs.Listing.{handed_count}
 use Rattle.listing.proofs.StretchLaws.{stored-length}
-use Rattle.listing.proofs.RowLaws.{Running, running-start, running-ends, running-lines, running-stretched}
+use Rattle.listing.proofs.RowLaws.{running-start, running-ends, running-lines, running-stretched}
 use Rattle.listing.proofs.stretch.Goals.{After-next_lines-more, After-struct_known-1, At-loop-to, Start, Then-out-at-ge-LINE_PLACES}
 use Rattle.listing.proofs.stretch.Goals as goal
 
@@ -33,7 +31,7 @@ module _ (c : Then-out-at-ge-LINE_PLACES) where
   at-loop = (goal.at.Then-out-at-ge-LINE_PLACES c).At-loop-to
 
   room : line_places ≤ length at-loop.loop-to.out - at-loop.loop-to.at
-  room = leb-true line_places _ c.if-out-at-ge-LINE_PLACES.true
+  room = c.if-out-at-ge-LINE_PLACES.true
 
 -- ---- the next lines are stored: they lead on, no further than to the last line, and end within the part that was lent
 module _ (c : After-next_lines-more) where
@@ -97,7 +95,7 @@ pub returns-else-out-at-ge-LINE_PLACES : goal.returns-else-out-at-ge-LINE_PLACES
 returns-else-out-at-ge-LINE_PLACES c =
     let l : At-loop-to = (goal.at.returns-else-out-at-ge-LINE_PLACES c).At-loop-to in
     let s = (start l).args in
-    running-stretched (opened s.answer) s.patches.now s.line (lines_are l) l.loop-to.invariant (λ _. leb-false line_places _ c.if-out-at-ge-LINE_PLACES.false)
+    running-stretched (opened s.answer) s.patches.now s.line (lines_are l) l.loop-to.invariant (λ _. c.if-out-at-ge-LINE_PLACES.false)
 
 pub shape_of-out-after-loop-to : goal.shape_of-out-after-loop-to
 shape_of-out-after-loop-to c = stored-length c.loop-to.invariant.stored

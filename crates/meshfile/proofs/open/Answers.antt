@@ -6,15 +6,14 @@ use native.Mathlib.Nat.{le_of_eq}
 use native.Mathlib.Omega.{arith}
 use lib.IntN.{ℤ, pos}
 use lib.ListN.{length, replicate, length-replicate}
-use borrow.Author.Rules.{rules}
 use Rattle.limits.specs.Limits.{max_vertices, max_faces}
-use Rattle.decoding.specs.File.{vertices, faces, steps, position_at, tag_at, index_at}
+use Rattle.decoding.specs.File.{vertices, faces, steps, position_at, index_at}
 use Rattle.decoding.specs.declared.model.Header.{Header}
 use Rattle.decoding.specs.Decoding.{decoded}
 use Rattle.decoding.proofs.FileLaws.{Whole, file-whole}
 use Rattle.mesh.specs.WellFormed.{MeshSized}
 use Rattle.meshfile.proofs.OpenLaws.{FileRead, file-read, file-turned-down, part-fits, mesh-is, whole-sized, open-mesh, open-refused}
-use Rattle.meshfile.proofs.open.Goals.{After-decode, After-tessellate-arg-in-Read-1, After-tessellate-arg-in-Read-3-1, In-Read, In-Refused-1, Start}
+use Rattle.meshfile.proofs.open.Goals.{After-decode, After-tessellate-arg-in-Read-1, After-tessellate-arg-in-Read-3-1, In-Read, Start}
 use Rattle.meshfile.proofs.open.Goals as goal
 
 -- ---- the three lists of `open`, before they are written
@@ -42,10 +41,10 @@ module _ (c : In-Read) where
   call = (goal.at.In-Read c).After-decode
 
   abbrev header : Header
-  header = c.header-1.given.0.0
+  header = c.in-Read.header
 
   read : FileRead (file call) no-positions no-tags no-indices header call.decode.new.positions call.decode.new.tags call.decode.new.faces
-  read = file-read (file call) _ _ _ (ap decoded c.header-1.given.1) call.decode.ensures
+  read = file-read (file call) _ _ _ (ap decoded c.in-Read.is) call.decode.ensures
 
   whole : Whole (file call)
   whole = file-whole (file call) read.passed
@@ -66,46 +65,25 @@ tags-told c = (goal.at.After-tessellate-arg-in-Read-1 c).In-Read
 abbrev told : After-tessellate-arg-in-Read-3-1 → In-Read
 told c = tags-told (goal.at.After-tessellate-arg-in-Read-3-1 c).After-tessellate-arg-in-Read-1
 
-pub slice_bounds-decode-end : goal.slice_bounds-decode-end
-slice_bounds-decode-end c = search rules
-
-pub slice_bounds-decode-end-2 : goal.slice_bounds-decode-end-2
-slice_bounds-decode-end-2 c = search rules
-
-pub slice_bounds-decode-end-3 : goal.slice_bounds-decode-end-3
-slice_bounds-decode-end-3 c = search rules
-
-pub decode-requires : goal.decode-requires
-decode-requires c = tt
-
-pub enum_known-header : goal.enum_known-header
-enum_known-header c = search rules
-
 pub overflow_mul-p : goal.overflow_mul-p
 overflow_mul-p c = omega (arith, vertices-are c, (whole c).vertices-high)
 
 pub overflow_mul-i : goal.overflow_mul-i
 overflow_mul-i c = omega (arith, faces-are c, (whole c).faces-high)
 
-pub slice_bounds-tessellate-count : goal.slice_bounds-tessellate-count
-slice_bounds-tessellate-count c = search rules
+pub slice_bounds-tessellate-end : goal.slice_bounds-tessellate-end
+slice_bounds-tessellate-end c =
+    omega (arith, vertices-are c, part-fits (position_at (file (call c))) (3 * vertices (file (call c))) _ _ (read c).positions-are)
 
-pub slice_bounds-tessellate-count-in-Read : goal.slice_bounds-tessellate-count-in-Read
-slice_bounds-tessellate-count-in-Read c = search rules
-
-pub slice_bounds-tessellate-count-in-Read-2 : goal.slice_bounds-tessellate-count-in-Read-2
-slice_bounds-tessellate-count-in-Read-2 c = search rules
+pub slice_bounds-tessellate-end-in-Read-2 : goal.slice_bounds-tessellate-end-in-Read-2
+slice_bounds-tessellate-end-in-Read-2 c =
+    let k = tags-told c in
+    omega (arith, faces-are k, part-fits (index_at (file (call k))) (4 * faces (file (call k))) _ _ (read k).faces-are)
 
 pub tessellate-requires : goal.tessellate-requires
 tessellate-requires c =
     let k = told c in
     subst MeshSized (sym (mesh-is (file (call k)) (read k))) (whole-sized (file (call k)) (whole k))
-
-pub enum_known-k : goal.enum_known-k
-enum_known-k c = search rules
-
-pub shape_of-patches : goal.shape_of-patches
-shape_of-patches c = search rules
 
 pub returns-in-Read : goal.returns-in-Read
 returns-in-Read c =
@@ -116,10 +94,8 @@ returns-in-Read c =
 
 pub returns-in-Refused : goal.returns-in-Refused
 returns-in-Refused c =
-    let m : In-Refused-1 = (goal.at.returns-in-Refused c).In-Refused-1 in
-    let a = m in
-    let b = file (goal.at.In-Refused-1 a).After-decode in
+    let b = file (goal.at.returns-in-Refused c).After-decode in
     open-refused b _
     (file-turned-down b no-positions no-tags no-indices
     (as_long (3 * max_vertices) (pos 0)) (as_long {A = ℕ} max_vertices 0) (as_long {A = ℕ} (4 * max_faces) 0)
-    (ap decoded c.k-1.given.1) a.decode.ensures)
+    (ap decoded c.in-Refused.is) c.decode.ensures)

@@ -1,7 +1,6 @@
 -- `mesh_lines` meets its contract: the line of the counts is the first, and the lines behind it are those of the row that a place stands in.
 use Prim.Native.Nat.{◌<◌}
 use native.Mathlib.Omega.{arith}
-use borrow.Author.Rules.{rules}
 use Rattle.answer.specs.Table.{result}
 use Rattle.listing.specs.Listing.{lines_from}
 use Rattle.listing.proofs.RowLaws.{run-one}

@@ -6,13 +6,12 @@ use lib.Signed.{mag}
 use mir.Syntax.{w32}
 use mir.Val.{to_z, of_z}
 use mir.Facts.{to_z-of_z}
-use borrow.Author.Rules.{rules}
 use Rattle.listing.proofs.samples.point_line.Goals.{After-sample_line, After-x-1, After-y-1, After-z-1}
 use Rattle.listing.proofs.samples.point_line.Goals as goal
 
 -- a number that is read is the one that stands there
 as_read : {z : ℤ} → mag z < 2 ^ 31 → to_z w32 (of_z w32 z) ≡ z
-as_read l = to_z-of_z (record { sfits = l })
+as_read l = to_z-of_z {w = w32} (record { sfits = l })
 
 pub returns : goal.returns
 returns c =

@@ -1,13 +1,10 @@
 -- `point_lines` meets its contract: the lines before a are stored, each by the three numbers at its place, and the first one has room.
 use mathlib.Core.Path.{◌≡◌, subst}
-use mathlib.Core.Logic.{⊎_elim}
 use mathlib.Core.List.{List}
 use Prim.Native.Nat.{ℕ, ◌+◌, ◌-◌, ◌*◌, ◌≤◌}
 use native.Mathlib.Omega.{arith}
 use lib.IntN.{ℤ}
 use lib.ListN.{length, length-take, length-drop}
-use borrow.Author.Rules.{rules}
-use borrow.Author.Tests.{leb-true, leb-false}
 use Rattle.answer.specs.Table.{result}
 use Rattle.line.specs.Line.{point_in}
 use Rattle.sample.specs.Refusal.{max_steps}
@@ -16,9 +13,9 @@ use Rattle.text.proofs.TextLaws.{printed-within}
 use Rattle.listing.specs.Listing.{line_of}
 use Rattle.listing.specs.declared.model.Place.{Place}
 use Rattle.listing.proofs.StretchLaws.{stored-length}
-use Rattle.listing.proofs.RowLaws.{run-one, Running, running-start, running-ends, running_more, running-stuck, running-end}
+use Rattle.listing.proofs.RowLaws.{run-one, running-start, running-ends, running_more, running-stuck, running-end}
 use Rattle.listing.proofs.samples.point_lines.Invariants.{line_text}
-use Rattle.listing.proofs.samples.point_lines.Goals.{After-point_line-at, At-loop-a, Start, Then-out-at-ge-LINE_PLACES}
+use Rattle.listing.proofs.samples.point_lines.Goals.{After-point_line-at, At-loop-a, Start, Then-out-at-ge-LINE_PLACES, then-loop-a-test+else-out-at-ge-LINE_PLACES, else-loop-a-test}
 use Rattle.listing.proofs.samples.point_lines.Goals as goal
 
 -- ---- at the loop: what is stored ends within the buffer
@@ -44,7 +41,7 @@ module _ (c : Then-out-at-ge-LINE_PLACES) where
   held = omega (arith, on_row, (start at-loop).requires.1)
 
   room : line_places ≤ length at-loop.loop-a.out - at-loop.loop-a.at
-  room = leb-true line_places _ c.if-out-at-ge-LINE_PLACES.true
+  room = c.if-out-at-ge-LINE_PLACES.true
 
 -- ---- the line is stored
 -- that of the next place,
@@ -110,7 +107,7 @@ pub returns : goal.returns
 returns c =
     let l : At-loop-a = (goal.at.returns c).At-loop-a in
     running-end l.loop-a.invariant (λ e.
-    ⊎_elim
-    (λ full. running-stuck l.loop-a.invariant e (start l).requires.2 (leb-false line_places _ full.1.left))
-    (λ over. omega (arith, over.left, e, (start l).requires.0.a-within))
-    c.loop-a-test.branch)
+    elim c.loop-a-test.branch [
+      | then-loop-a-test+else-out-at-ge-LINE_PLACES full ↦ running-stuck l.loop-a.invariant e (start l).requires.2 full.if-out-at-ge-LINE_PLACES.false
+      | else-loop-a-test over ↦ omega (arith, over.loop-a-test.false, e, (start l).requires.0.a-within)
+    ])

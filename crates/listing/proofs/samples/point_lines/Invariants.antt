@@ -1,22 +1,12 @@
 -- `point_lines` meets its contract: the lines before a are stored, each by the three numbers at its place, and the first one has room.
-use mathlib.Core.Path.{◌≡◌, subst}
-use mathlib.Core.Logic.{⊎_elim}
 use mathlib.Core.List.{List}
-use Prim.Native.Nat.{ℕ, ◌+◌, ◌-◌, ◌*◌, ◌≤◌}
-use native.Mathlib.Omega.{arith}
+use Prim.Native.Nat.{ℕ, ◌+◌, ◌-◌}
 use lib.IntN.{ℤ}
-use lib.ListN.{length, length-take, length-drop}
-use borrow.Author.Rules.{rules}
-use borrow.Author.Tests.{leb-true, leb-false}
 use Rattle.answer.specs.Table.{result}
 use Rattle.line.specs.Line.{point_in}
-use Rattle.sample.specs.Refusal.{max_steps}
-use Rattle.text.specs.Text.{line_places, Printed}
-use Rattle.text.proofs.TextLaws.{printed-within}
 use Rattle.listing.specs.Listing.{line_of}
 use Rattle.listing.specs.declared.model.Place.{Place}
-use Rattle.listing.proofs.StretchLaws.{stored-length}
-use Rattle.listing.proofs.RowLaws.{run-one, Running, running-start, running-ends, running_more, running-stuck, running-end}
+use Rattle.listing.proofs.RowLaws.{Running}
 use Rattle.listing.proofs.samples.point_lines.Given as goal
 
 -- the line of the point that is j places after p

@@ -1,10 +1,8 @@
 -- `row_lines` meets its contract: the points of the row are what the sample call answers at its places; where the row is refused, so is each of them.
 use mathlib.Core.Path.{◌≡◌, sym, ap, ◌∙◌, subst}
-use mathlib.Core.Option.{none}
 use mathlib.Core.List.{List}
 use Prim.Native.Nat.{ℕ, ◌+◌}
 use native.Mathlib.Omega.{arith}
-use borrow.Author.Rules.{rules}
 use Rattle.answer.specs.Table.{Answer, outcome}
 use Rattle.answer.proofs.TableLaws.{result-none, refusal-met}
 use Rattle.sample.specs.Answer.{sample_answer}
@@ -13,7 +11,7 @@ use Rattle.line.proofs.LineAnswerLaws.{line_refused}
 use Rattle.text.specs.Text.{Printed}
 use Rattle.listing.specs.Listing.{line_of}
 use Rattle.listing.proofs.RowLaws.{run-ext, run-one}
-use Rattle.listing.proofs.samples.row_lines.Goals.{After-point_lines, After-refusal_line, After-sample_line, In-Done, In-Refused-2, Start}
+use Rattle.listing.proofs.samples.row_lines.Goals.{After-sample_line, Start}
 use Rattle.listing.proofs.samples.row_lines.Goals as goal
 
 -- ---- the line call is made
@@ -28,42 +26,26 @@ module _ (c : After-sample_line) where
   abbrev line : Answer Point → ℕ → List ℕ
   line r j = let p = start.args.p in line_of r p.face (p.a + j) p.b
 
--- ---- it is done
-abbrev done : After-point_lines → In-Done
-done c = (goal.at.After-point_lines c).In-Done
-
-abbrev sampled : In-Done → After-sample_line
-sampled c = (goal.at.In-Done c).After-sample_line
-
 -- ---- it is refused
 -- a line by an answer that is known
 printed-as : (line : Answer Point → List ℕ) {a b : Answer Point} {l m : List ℕ} {r : ℕ} → a ≡ b → Printed (line a) l m r → Printed (line b) l m r
 printed-as line {l = l} {m = m} {r = r} e q = subst (λ (t : Answer Point). Printed (line t) l m r) e q
 
-abbrev refused : After-refusal_line → In-Refused-2
-refused c = (goal.at.After-refusal_line c).In-Refused-2
-
-abbrev not-sampled : In-Refused-2 → After-sample_line
-not-sampled c = (goal.at.In-Refused-2 c).After-sample_line
-
 pub returns-in-Done : goal.returns-in-Done
 returns-in-Done c =
-    let w : After-point_lines = (goal.at.returns-in-Done c).After-point_lines in
-    let s : After-sample_line = sampled (done w) in
+    let s : After-sample_line = (goal.at.returns-in-Done c).After-sample_line in
     let left = s.sample_line.ensures in
-    let told = sym (ap outcome (done w).enum_told-1.given.1) ∙ left.answer-is in
+    let told = sym (ap outcome c.in-Done.is) ∙ left.answer-is in
     let none = (result-none _ told).0 in
     run-ext (omega arith) (λ j l. ap (λ (r : Answer Point). line s r j) (sym (left.left.samples-are none ((start s).args.p.a + j) (omega (arith, l)))))
-    w.point_lines.ensures
+    c.point_lines.ensures
 
 pub returns-in-Refused : goal.returns-in-Refused
 returns-in-Refused c =
-    let w : After-refusal_line = (goal.at.returns-in-Refused c).After-refusal_line in
-    let k : In-Refused-2 = refused w in
-    let s : After-sample_line = not-sampled k in
-    let told = sym (ap outcome k.k-1.given.1) ∙ s.sample_line.ensures.answer-is in
+    let s : After-sample_line = (goal.at.returns-in-Refused c).After-sample_line in
+    let told = sym (ap outcome c.in-Refused.is) ∙ s.sample_line.ensures.answer-is in
     let p = (start s).args.p in
     let placed = (start s).requires.0 in
     let here = line_refused _ _ _ _ _ (p.a + 0) (omega (arith, placed.a-within)) (omega (arith, placed.steps-few)) (refusal-met tt _ told) in
-    run-one _ _ (omega (arith, placed.a-within)) (start s).requires.1 w.refusal_line.auto.line
-    (printed-as (λ r. line s r 0) (sym here) w.refusal_line.ensures)
+    run-one _ _ (omega (arith, placed.a-within)) (start s).requires.1 c.refusal_line.auto.line
+    (printed-as (λ r. line s r 0) (sym here) c.refusal_line.ensures)

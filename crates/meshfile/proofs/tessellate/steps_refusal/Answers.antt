@@ -4,7 +4,6 @@ use mathlib.Core.Bool.{true}
 use mathlib.Core.List.{[], ◌∷◌}
 use mathlib.Core.Option.{Option, some}
 use Prim.Native.Nat.{ℕ}
-use borrow.Author.Rules.{rules}
 use Rattle.answer.specs.Table.{row}
 use Rattle.answer.proofs.TableLaws.{or_else, result-none, refusal-met}
 use Rattle.mesh.specs.IndexedMesh.{IndexedMesh, indexed}
@@ -25,11 +24,11 @@ pub returns-in-Accepted : goal.returns-in-Accepted
 unfolding mesh_refusal
 returns-in-Accepted c =
     let k = c in
-    with-steps (goal.at.returns-in-Accepted k).After-check_alone (result-none (mesh_refusal (mesh (goal.at.returns-in-Accepted k).After-check_alone) [] []) (sym (ap checked c.enum_told-1.given.1) ∙ k.check_alone.ensures)).0
+    with-steps (goal.at.returns-in-Accepted k).After-check_alone (result-none (mesh_refusal (mesh (goal.at.returns-in-Accepted k).After-check_alone) [] []) (sym (ap checked c.in-Accepted.is) ∙ k.check_alone.ensures)).0
 
 pub returns-in-Refused : goal.returns-in-Refused
 unfolding mesh_refusal
 returns-in-Refused c =
     let k = c in
-    let told = sym (ap checked c.k-1.given.1) ∙ k.check_alone.ensures in
+    let told = sym (ap checked c.in-Refused.is) ∙ k.check_alone.ensures in
     with-steps (goal.at.returns-in-Refused k).After-check_alone (refusal-met (counts_of (mesh (goal.at.returns-in-Refused k).After-check_alone)) (mesh_refusal (mesh (goal.at.returns-in-Refused k).After-check_alone) [] []) told)

@@ -7,7 +7,6 @@ use Prim.Native.Nat.{ℕ}
 use native.Mathlib.Omega.{arith}
 use lib.IntN.{ℤ}
 use borrow.Author.Tests.{lt-ltb, le-ltb}
-use borrow.Author.Rules.{rules}
 use Rattle.answer.proofs.TableLaws.{result-none, refusal-met}
 use Rattle.mesh.specs.IndexedMesh.{IndexedMesh, indexed}
 use Rattle.mesh.specs.Answer.{counts_of, checked, mesh_refusal}
@@ -72,7 +71,7 @@ pub returns-in-Accepted : goal.returns-in-Accepted
 returns-in-Accepted c =
     let p = called (goal.at.returns-in-Accepted c).After-marks-2-1 in
     let said = p.patches.ensures in
-    let r = result-none (met p) (sym (ap checked c.mesh-1.given.1) ∙ said.answer-is) in
+    let r = result-none (met p) (sym (ap checked c.in-Accepted.is) ∙ said.answer-is) in
     let unmet = same p ∙ r.0 in
     record { answer-is = rw (unmet, r.1); patches-are = said.patches-are ∙ rw (r.0, unmet) }
 
@@ -80,6 +79,6 @@ pub returns-in-Refused : goal.returns-in-Refused
 returns-in-Refused c =
     let p = called (goal.at.returns-in-Refused c).After-marks-2-1 in
     let said = p.patches.ensures in
-    let r = refusal-met (counts_of (mesh (begin p))) (met p) (sym (ap checked c.k-1.given.1) ∙ said.answer-is) in
+    let r = refusal-met (counts_of (mesh (begin p))) (met p) (sym (ap checked c.in-Refused.is) ∙ said.answer-is) in
     let refused = same p ∙ r in
     record { answer-is = rw refused; patches-are = said.patches-are ∙ rw (r, refused) }
