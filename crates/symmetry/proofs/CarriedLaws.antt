@@ -6,7 +6,6 @@ use mathlib.Core.List.{List}
 use Prim.Native.Nat.{ℕ, ◌+◌, ◌*◌, ◌/◌, ◌%◌, ◌<◌}
 use native.Mathlib.Omega.{arith}
 use lib.ListN.{length, get_or}
-use Rattle.finite.specs.Filled.{list_below}
 use Rattle.finite.specs.Permutation.{Permutation}
 use Rattle.finite.proofs.FilledLaws.{length-list_below, list_below-at, list-below}
 use Rattle.symmetry.specs.Carried.{Carried, threes, list_from}

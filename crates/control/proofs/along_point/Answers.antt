@@ -1,7 +1,5 @@
 -- `along_point` meets its contract: each coordinate has its own call, with the weight and the twin of the tables.
 use mathlib.Core.Path.{◌∙◌}
-use native.Mathlib.Omega.{arith}
-use borrow.Author.Rules.{rules}
 use Rattle.control.specs.Control.{along_at}
 use Rattle.control.proofs.ControlLaws.{point-of}
 use Rattle.control.proofs.along_point.Goals as goal

@@ -2,9 +2,7 @@
 use mathlib.Core.Path.{◌≡◌, ap, ap₂, ◌∙◌}
 use mathlib.Core.List.{List}
 use Prim.Native.Nat.{ℕ}
-use native.Mathlib.Omega.{arith}
 use lib.IntN.{ℤ}
-use borrow.Author.Rules.{rules}
 use Rattle.control.specs.Control.{before_at, linked_before, weight_at, link_at, value_of}
 use Rattle.control.specs.declared.model.Value.{Value}
 use Rattle.control.proofs.ControlLaws.{point-of}

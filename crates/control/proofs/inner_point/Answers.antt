@@ -1,7 +1,5 @@
 -- `inner_point` meets its contract: each coordinate has its own call, with the weight of the tables.
 use mathlib.Core.Path.{◌∙◌}
-use native.Mathlib.Omega.{arith}
-use borrow.Author.Rules.{rules}
 use Rattle.control.specs.Control.{inner_at, weight_at}
 use Rattle.control.proofs.ControlLaws.{point-of}
 use Rattle.control.proofs.inner_point.Goals as goal

@@ -7,7 +7,6 @@ use Prim.Native.Nat.{ℕ, ◌+◌, ◌*◌}
 use native.Mathlib.Omega.{arith}
 use lib.Dec.{ltb}
 use lib.ListN.{length, get_or}
-use borrow.Author.Rules.{rules}
 use Rattle.finite.specs.Filled.{filled}
 use Rattle.answer.specs.Table.{first_met, refusal_of}
 use Rattle.answer.proofs.TableLaws.{refusal-some}

@@ -1,5 +1,4 @@
 -- `check` meets its contract: it is `check_after` for a call that has met none of its own causes.
-use borrow.Author.Rules.{rules}
 use Rattle.mesh.specs.Answer.{mesh_refusal, twins_after}
 use Rattle.mesh.proofs.check.Goals as goal
 

@@ -11,7 +11,6 @@ use native.Mathlib.Omega.{arith}
 use lib.Dec.{eqb}
 use lib.ListN.{length, get_or, get_or-replicate}
 use borrow.Author.Tests.{ltb-false}
-use borrow.Author.Rules.{rules}
 use Rattle.answer.specs.Table.{Row, first_met, refusal_of}
 use Rattle.finite.proofs.FilledLaws.{filled_at, filled-again}
 use Rattle.answer.proofs.TableLaws.{none-met, refusal-some, next_row}

@@ -9,7 +9,6 @@ use native.Mathlib.Omega.{arith}
 use lib.ListN.{length, replicate, length-replicate}
 use lib.Dec.{eqb}
 use borrow.Author.Tests.{le-ltb}
-use borrow.Author.Rules.{rules}
 use Rattle.answer.specs.Table.{first_met, answer_by}
 use Rattle.answer.proofs.TableLaws.{skipped}
 use Rattle.limits.specs.Limits.{max_faces}

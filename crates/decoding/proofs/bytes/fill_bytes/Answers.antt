@@ -1,10 +1,7 @@
 -- `fill_bytes` meets its contract: the places passed hold their bytes, and the others what they held.
-use mathlib.Core.Path.{◌≡◌, refl}
-use Prim.Native.Nat.{◌+◌, ◌-◌, ◌≤◌}
+use mathlib.Core.Path.{refl}
 use native.Mathlib.Omega.{arith}
-use lib.ListN.{length, get_or}
 use borrow.Author.Rules.{rules}
-use Rattle.finite.specs.Filled.{filled}
 use Rattle.finite.proofs.FilledLaws.{filled-start, filled_more, filled-all}
 use Rattle.decoding.proofs.bytes.fill_bytes.Goals as goal
 

@@ -1,11 +1,8 @@
 -- `fill_bytes` meets its contract: the places passed hold their bytes, and the others what they held.
-use mathlib.Core.Path.{◌≡◌, refl}
+use mathlib.Core.Path.{◌≡◌}
 use Prim.Native.Nat.{◌+◌, ◌-◌, ◌≤◌}
-use native.Mathlib.Omega.{arith}
 use lib.ListN.{length, get_or}
-use borrow.Author.Rules.{rules}
 use Rattle.finite.specs.Filled.{filled}
-use Rattle.finite.proofs.FilledLaws.{filled-start, filled_more, filled-all}
 use Rattle.decoding.proofs.bytes.fill_bytes.Given as goal
 
 abbrev pub invariant-loop-i : goal.invariant-loop-i

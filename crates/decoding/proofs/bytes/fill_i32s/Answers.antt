@@ -1,14 +1,10 @@
 -- `fill_i32s` meets its contract: the places passed hold their numbers, and the others what they held.
-use mathlib.Core.Path.{◌≡◌, refl}
-use Prim.Native.Nat.{◌+◌, ◌*◌, ◌-◌, ◌≤◌}
+use mathlib.Core.Path.{refl}
 use native.Mathlib.Omega.{arith}
-use lib.ListN.{length}
 use mir.Syntax.{w32}
 use borrow.Author.Rules.{rules}
 use Rattle.integer.proofs.Laws.{read_back}
-use Rattle.finite.specs.Filled.{filled}
 use Rattle.finite.proofs.FilledLaws.{filled-start, filled_more, filled-all}
-use Rattle.decoding.specs.Bytes.{le32, signed32}
 use Rattle.decoding.proofs.bytes.fill_i32s.Goals as goal
 
 pub loop-i-init : goal.loop-i-init

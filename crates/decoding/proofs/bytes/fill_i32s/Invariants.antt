@@ -1,13 +1,8 @@
 -- `fill_i32s` meets its contract: the places passed hold their numbers, and the others what they held.
-use mathlib.Core.Path.{◌≡◌, refl}
+use mathlib.Core.Path.{◌≡◌}
 use Prim.Native.Nat.{◌+◌, ◌*◌, ◌-◌, ◌≤◌}
-use native.Mathlib.Omega.{arith}
 use lib.ListN.{length}
-use mir.Syntax.{w32}
-use borrow.Author.Rules.{rules}
-use Rattle.integer.proofs.Laws.{read_back}
 use Rattle.finite.specs.Filled.{filled}
-use Rattle.finite.proofs.FilledLaws.{filled-start, filled_more, filled-all}
 use Rattle.decoding.specs.Bytes.{le32, signed32}
 use Rattle.decoding.proofs.bytes.fill_i32s.Given as goal
 

@@ -1,11 +1,8 @@
 -- `fill_u16s` meets its contract: the places passed hold their numbers, and the others what they held.
-use mathlib.Core.Path.{◌≡◌, refl}
+use mathlib.Core.Path.{◌≡◌}
 use Prim.Native.Nat.{◌+◌, ◌*◌, ◌-◌, ◌≤◌}
-use native.Mathlib.Omega.{arith}
 use lib.ListN.{length}
-use borrow.Author.Rules.{rules}
 use Rattle.finite.specs.Filled.{filled}
-use Rattle.finite.proofs.FilledLaws.{filled-start, filled_more, filled-all}
 use Rattle.decoding.specs.Bytes.{le16}
 use Rattle.decoding.proofs.bytes.fill_u16s.Given as goal
 

@@ -1,7 +1,6 @@
 -- `i32_at` meets its contract: the four bytes as a number, then with its sign.
 use mathlib.Core.Path.{ap, ◌∙◌}
 use mir.Syntax.{w32}
-use borrow.Author.Rules.{rules}
 use Rattle.integer.proofs.Laws.{read_back}
 use Rattle.decoding.specs.Bytes.{signed32}
 use Rattle.decoding.proofs.bytes.i32_at.Goals as goal

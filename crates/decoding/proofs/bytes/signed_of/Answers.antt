@@ -1,5 +1,4 @@
 -- `signed_of` meets its contract: below 2^31 it is the number, from there on -1 less what is missing to 2^32 - 1.
-use borrow.Author.Rules.{rules}
 use Rattle.decoding.proofs.ByteLaws.{signed_low, high_fits, signed_high}
 use Rattle.decoding.proofs.bytes.signed_of.Goals as goal
 

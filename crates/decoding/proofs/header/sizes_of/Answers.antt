@@ -1,6 +1,5 @@
 -- `sizes_of` meets its contract: the three sizes stand one after the other.
 use mathlib.Core.Path.{refl}
-use borrow.Author.Rules.{rules}
 use Rattle.decoding.proofs.header.sizes_of.Goals as goal
 
 pub returns : goal.returns

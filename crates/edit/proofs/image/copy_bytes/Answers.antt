@@ -1,10 +1,7 @@
 -- `copy_bytes` meets its contract: the places passed hold their bytes, and the others what they held.
 use mathlib.Core.Path.{refl}
-use Prim.Native.Nat.{◌-◌}
 use native.Mathlib.Omega.{arith}
-use lib.ListN.{get_or}
-use borrow.Author.Rules.{rules}
-use Rattle.edit.proofs.FillingLaws.{Filling, filling-start, filling-more, filling-all}
+use Rattle.edit.proofs.FillingLaws.{filling-start, filling-more, filling-all}
 use Rattle.edit.proofs.image.copy_bytes.Goals as goal
 
 pub loop-i-init : goal.loop-i-init

@@ -1,11 +1,10 @@
 -- `reflect_faces` meets its contract: the places passed hold the vertices of their reflected corners, and the others what they held.
 use mathlib.Core.Path.{◌≡◌, ap}
-use Prim.Native.Nat.{ℕ, ◌-◌, ◌%◌, ◌<◌}
+use Prim.Native.Nat.{ℕ, ◌%◌, ◌<◌}
 use native.Mathlib.Omega.{arith}
 use lib.ListN.{get_or}
-use borrow.Author.Rules.{rules}
 use Rattle.edit.specs.Mirror.{reflected_corner}
-use Rattle.edit.proofs.FillingLaws.{Filling, filling-start, filling-more, filling-all}
+use Rattle.edit.proofs.FillingLaws.{filling-start, filling-more, filling-all}
 use Rattle.edit.proofs.image.reflect_faces.Goals as goal
 
 -- a reflected corner is in the same face

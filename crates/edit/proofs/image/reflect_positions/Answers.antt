@@ -1,16 +1,15 @@
 -- `reflect_positions` meets its contract: the places passed hold their coordinates reflected, and the others what they held.
 use mathlib.Core.Path.{ap, ◌∙◌}
-use Prim.Native.Nat.{◌-◌, ◌%◌}
+use Prim.Native.Nat.{◌%◌}
 use native.Mathlib.Omega.{arith}
 use lib.IntN.{ℤ, pos}
 use lib.ListN.{get_or}
 use mir.Syntax.{w32}
 use mir.Val.{SFits}
 use mir.Facts.{to_z-of_z}
-use borrow.Author.Rules.{rules}
 use Rattle.integer.proofs.Laws.{read_back}
 use Rattle.edit.specs.Mirror.{reflected}
-use Rattle.edit.proofs.FillingLaws.{Filling, filling-start, filling-more, filling-all}
+use Rattle.edit.proofs.FillingLaws.{filling-start, filling-more, filling-all}
 use Rattle.edit.proofs.image.reflect_positions.Goals.{After-reflected_coordinate-arg-1, At-loop-i}
 use Rattle.edit.proofs.image.reflect_positions.Goals as goal
 

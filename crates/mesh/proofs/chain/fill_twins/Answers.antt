@@ -1,14 +1,8 @@
 -- `fill_twins` meets its contract: the places passed hold their twins, and the others what they held.
-use mathlib.Core.Path.{◌≡◌}
-use Prim.Native.Nat.{◌-◌, ◌≤◌}
 use native.Mathlib.Numerals.{add-one-le, add-one-dec}
 use native.Mathlib.Omega.{arith}
-use lib.ListN.{length}
 use borrow.Author.Rules.{rules}
 use Rattle.finite.proofs.FilledLaws.{filled-start, filled_more, filled-all}
-use Rattle.finite.specs.Filled.{filled}
-use Rattle.mesh.specs.HalfEdge.{twin}
-use Rattle.mesh.specs.Tables.{vertex_of}
 use Rattle.mesh.proofs.chain.fill_twins.Goals as goal
 
 pub loop-c-init : goal.loop-c-init

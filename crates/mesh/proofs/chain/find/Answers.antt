@@ -8,7 +8,7 @@ use native.Mathlib.Omega.{arith}
 use lib.Dec.{eqb}
 use lib.ListN.{length, get_or}
 use Rattle.corner.specs.Corner.{next}
-use Rattle.mesh.proofs.ChainLaws.{latest-le, Walked, walked_start, walked-found, walked_none, walked_more}
+use Rattle.mesh.proofs.ChainLaws.{latest-le, walked_start, walked-found, walked_none, walked_more}
 use Rattle.mesh.proofs.SizeLaws.{indices-corners}
 use Rattle.mesh.proofs.CornerLaws.{next-below}
 use Rattle.mesh.specs.Tables.{Holds, vertex_of, latest}

@@ -1,23 +1,17 @@
 -- `link_corners` meets its contract: the corners passed are chained and no half-edge among them runs as an earlier one does; the loop stops at
 -- the first that does.
-use mathlib.Core.Bool.{true≢false, false}
-use mathlib.Core.List.{List}
+use mathlib.Core.Bool.{true≢false}
 use mathlib.Core.Path.{◌≡◌, refl, sym, ap, ◌∙◌, subst}
-use Prim.Native.Nat.{ℕ, ◌-◌, ◌<◌, ◌≤◌}
+use Prim.Native.Nat.{ℕ, ◌<◌}
 use native.Mathlib.Nat.{le_antisymm}
 use native.Mathlib.Numerals.{add-one-le, add-one-dec}
 use native.Mathlib.Omega.{arith}
 use lib.Dec.{eqb}
-use lib.ListN.{length, get_or, length-set}
-use borrow.Author.Rules.{rules}
-use Rattle.finite.specs.Fold.{any_below}
+use lib.ListN.{get_or, length-set}
 use Rattle.finite.proofs.AnyAll.{any-start, any-more, any_found, any-not}
 use Rattle.limits.specs.Limits.{max_vertices}
-use Rattle.corner.specs.Corner.{next}
-use Rattle.mesh.specs.HalfEdge.{runs}
 use Rattle.mesh.proofs.ChainLaws.{chained-start, chained_more, doubled-earlier}
 use Rattle.mesh.specs.Tables.{vertex_of, latest, Chained}
-use Rattle.mesh.proofs.chain.link_corners.Invariants.{Linking}
 use Rattle.mesh.proofs.chain.link_corners.Goals.{After-occurs_before, After-wide-p, At-loop-c, In-loop-c, Start}
 use Rattle.mesh.proofs.chain.link_corners.Goals as goal
 

@@ -1,15 +1,12 @@
 -- `count_edges` meets its contract: the count is that of the half-edges passed.
 use mathlib.Core.List.{List}
 use mathlib.Core.Path.{◌≡◌, ap}
-use mathlib.Core.Bool.{Bool}
-use Prim.Native.Nat.{ℕ, ◌-◌, ◌≤◌}
+use Prim.Native.Nat.{ℕ}
 use native.Mathlib.Numerals.{add-one-le, add-one-dec}
 use native.Mathlib.Omega.{arith}
 use lib.Dec.{ltb}
 use borrow.Author.Rules.{rules}
 use Rattle.finite.proofs.Counting.{count-start, count-bit, count-all, count-le, indicator-le}
-use Rattle.finite.specs.Fold.{count_below}
-use Rattle.mesh.specs.Tables.{twin_of}
 use Rattle.mesh.proofs.count.count_edges.Invariants.{leads}
 use Rattle.mesh.proofs.count.count_edges.Goals.{After-bit-count, At-loop-c, In-loop-c}
 use Rattle.mesh.proofs.count.count_edges.Goals as goal

@@ -1,15 +1,9 @@
 -- `any_fan_broken` meets its contract: the loop goes on only past vertices whose corners form a fan, and stops at the first whose corners do not.
-use mathlib.Core.Path.{◌≡◌}
-use mathlib.Core.Bool.{false, not}
-use Prim.Native.Nat.{◌-◌, ◌≤◌}
 use native.Mathlib.Numerals.{add-one-le, add-one-dec}
 use native.Mathlib.Omega.{arith}
 use borrow.Author.Rules.{rules}
-use Rattle.finite.specs.Fold.{any_below}
 use Rattle.finite.proofs.AnyAll.{any-start, any-more, any_found, any-not}
-use Rattle.mesh.specs.Fan.{fan}
 use Rattle.mesh.specs.Refusal.{fan_broken}
-use Rattle.mesh.specs.Tables.{vertex_of}
 use Rattle.mesh.proofs.fan.any_fan_broken.Goals.{After-shared_slice_known-4-1, In-loop-p, Start}
 use Rattle.mesh.proofs.fan.any_fan_broken.Goals as goal
 

@@ -2,13 +2,8 @@
 use mathlib.Core.Path.{◌≡◌}
 use mathlib.Core.Bool.{false, not}
 use Prim.Native.Nat.{◌-◌, ◌≤◌}
-use native.Mathlib.Numerals.{add-one-le, add-one-dec}
-use native.Mathlib.Omega.{arith}
-use borrow.Author.Rules.{rules}
 use Rattle.finite.specs.Fold.{any_below}
-use Rattle.finite.proofs.AnyAll.{any-start, any-more, any_found, any-not}
 use Rattle.mesh.specs.Fan.{fan}
-use Rattle.mesh.specs.Refusal.{fan_broken}
 use Rattle.mesh.specs.Tables.{vertex_of}
 use Rattle.mesh.proofs.fan.any_fan_broken.Given as goal
 

@@ -1,17 +1,8 @@
 -- `any_inner_tagged` meets its contract: the loop goes on only past vertices whose tag is no fault, and stops at the first whose is.
-use mathlib.Core.Path.{◌≡◌}
-use mathlib.Core.Bool.{false, not, ◌&&◌}
-use Prim.Native.Nat.{◌-◌, ◌≤◌}
 use native.Mathlib.Numerals.{add-one-le, add-one-dec}
 use native.Mathlib.Omega.{arith}
-use lib.Dec.{eqb}
-use lib.ListN.{get_or}
 use borrow.Author.Rules.{rules}
-use Rattle.finite.specs.Fold.{any_below}
 use Rattle.finite.proofs.AnyAll.{any-start, any-more, any_found, any-not}
-use Rattle.limits.specs.Limits.{corner_tag}
-use Rattle.mesh.specs.Fan.{on_boundary}
-use Rattle.mesh.specs.Tables.{vertex_of}
 use Rattle.mesh.proofs.fan.any_inner_tagged.Goals.{After-shared_slice_known-4-1, In-loop-p, Start}
 use Rattle.mesh.proofs.fan.any_inner_tagged.Goals as goal
 

@@ -1,11 +1,9 @@
 -- `any_valence_off` meets its contract: the loop goes on only past vertices whose valence is in its range, and stops at the first whose is not.
 use mathlib.Core.Path.{◌≡◌, ap, ◌∙◌}
-use mathlib.Core.Bool.{false}
-use Prim.Native.Nat.{ℕ, ◌-◌, ◌≤◌, ◌<◌}
+use Prim.Native.Nat.{ℕ, ◌<◌}
 use native.Mathlib.Numerals.{add-one-le, add-one-dec}
 use native.Mathlib.Omega.{arith}
 use borrow.Author.Rules.{rules}
-use Rattle.finite.specs.Fold.{any_below}
 use Rattle.finite.proofs.AnyAll.{any-start, any-more, any_found, any-not}
 use Rattle.limits.specs.Limits.{max_vertices}
 use Rattle.limits.specs.Range.{valence_bad}

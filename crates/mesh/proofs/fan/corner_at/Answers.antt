@@ -2,7 +2,6 @@
 use mathlib.Core.Path.{◌≡◌, ◌∙◌}
 use Prim.Native.Nat.{ℕ, ◌-◌, ◌<◌}
 use native.Mathlib.Omega.{arith}
-use borrow.Author.Rules.{rules}
 use Rattle.mesh.proofs.ChainLaws.{latest-corner}
 use Rattle.mesh.specs.Tables.{vertex_of}
 use Rattle.mesh.proofs.fan.corner_at.Goals.{After-wide, Start}

@@ -2,7 +2,6 @@
 use mathlib.Core.Path.{ap, ◌∙◌}
 use mathlib.Core.Bool.{not}
 use lib.Dec.{eqb}
-use borrow.Author.Rules.{rules}
 use Rattle.mesh.proofs.ConnectedLaws.{corners-whole, twins-paired, fan-told}
 use Rattle.mesh.proofs.fan.fan_broken.Goals.{After-corner_at-start, Start}
 use Rattle.mesh.proofs.fan.fan_broken.Goals as goal

@@ -2,7 +2,6 @@
 use mathlib.Core.Path.{◌≡◌, refl, sym, ap, ◌∙◌}
 use mathlib.Core.Bool.{Bool, true, false, not, ◌&&◌, true≢false}
 use lib.Dec.{eqb}
-use borrow.Author.Rules.{rules}
 use Rattle.limits.specs.Limits.{corner_tag}
 use Rattle.mesh.proofs.fan.tag_off.Goals.{After-inner_tagged, Start}
 use Rattle.mesh.proofs.fan.tag_off.Goals as goal

@@ -1,7 +1,6 @@
 -- `valence_off` meets its contract: where the two ranges say the same, the boundary does not matter, and where they do not, it is told.
 use mathlib.Core.Path.{◌≡◌, refl, sym, ap, ◌∙◌}
 use mathlib.Core.Bool.{Bool, beq, true, false}
-use borrow.Author.Rules.{rules}
 use Rattle.limits.specs.Range.{valence_bad}
 use Rattle.mesh.specs.Fan.{on_boundary}
 use Rattle.mesh.specs.Tables.{vertex_of}

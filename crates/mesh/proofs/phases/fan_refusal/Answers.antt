@@ -5,7 +5,6 @@ use mathlib.Core.List.{List, [], ◌∷◌}
 use Prim.Native.Nat.{ℕ, ◌*◌}
 use native.Mathlib.Omega.{arith}
 use lib.ListN.{get_or-replicate}
-use borrow.Author.Rules.{rules}
 use Rattle.answer.specs.Table.{Row, row}
 use Rattle.answer.proofs.TableLaws.{From, all-rows, row-met, row-passed}
 use Rattle.limits.specs.Limits.{max_vertices}

@@ -1,7 +1,6 @@
 -- `list_refusal` meets its contract: each row's test is that of the mesh, since the lists have the lengths of the sizes.
 use Rattle.answer.proofs.TableLaws.{no_row, next_row}
 use mathlib.Core.Path.{refl, ◌∙◌}
-use borrow.Author.Rules.{rules}
 use Rattle.mesh.specs.IndexedMesh.{IndexedMesh, indexed}
 use Rattle.mesh.proofs.SizeLaws.{coordinates-sized, tags-sized, vertices-sized, twice-sized}
 use Rattle.mesh.proofs.phases.list_refusal.Goals.{Start}

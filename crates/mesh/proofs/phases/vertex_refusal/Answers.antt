@@ -1,12 +1,7 @@
 -- `vertex_refusal` meets its contract: a row at a time.
-use mathlib.Core.Path.{◌≡◌, refl}
+use mathlib.Core.Path.{refl}
 use native.Mathlib.Omega.{arith}
-use Prim.Native.Nat.{◌*◌}
-use lib.IntN.{ℤ}
-use mathlib.Core.List.{List}
-use borrow.Author.Rules.{rules}
 use Rattle.answer.proofs.TableLaws.{no_row, next_row}
-use Rattle.mesh.specs.IndexedMesh.{indexed}
 use Rattle.mesh.specs.Refusal.{inner_tagged}
 use Rattle.mesh.proofs.phases.vertex_refusal.Goals.{After-shared_slice_known-4-1, Start}
 use Rattle.mesh.proofs.phases.vertex_refusal.Goals as goal

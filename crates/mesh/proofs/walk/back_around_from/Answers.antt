@@ -1,5 +1,4 @@
 -- `back_around_from` meets its contract: the corner before c is the one after its twin, where it has one.
-use native.Mathlib.Omega.{arith}
 use borrow.Author.Rules.{rules}
 use Rattle.mesh.proofs.CirculationLaws.{back-read-none, back-read-some}
 use Rattle.mesh.proofs.walk.back_around_from.Goals as goal

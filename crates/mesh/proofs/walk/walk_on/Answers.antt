@@ -1,9 +1,6 @@
 -- `walk_on` meets its contract: the corners met are different, and the walk stops back at its start or where no corner comes next.
-use Prim.Native.Nat.{◌-◌}
-use native.Mathlib.Omega.{arith}
 use borrow.Author.Rules.{rules}
-use Rattle.mesh.proofs.WalkLaws.{Onward, onward-start, onward-in, onward-more, onward-less, onward-run}
-use Rattle.mesh.specs.Tables.{twin_of}
+use Rattle.mesh.proofs.WalkLaws.{onward-start, onward-in, onward-more, onward-less, onward-run}
 use Rattle.mesh.proofs.walk.walk_on.Goals as goal
 
 pub loop-on-init : goal.loop-on-init

@@ -1,6 +1,6 @@
 -- `count_faces` meets its contract: each place has the counts of the corners passed at its vertex, and no count of 1024 corners overflows.
 use mathlib.Core.Path.{◌≡◌, refl, ap, ◌∙◌}
-use Prim.Native.Nat.{ℕ, ◌+◌, ◌-◌, ◌<◌, ◌≤◌}
+use Prim.Native.Nat.{ℕ, ◌+◌, ◌<◌, ◌≤◌}
 use native.Mathlib.Numerals.{add-one-le, add-one-dec}
 use native.Mathlib.Omega.{arith}
 use lib.Dec.{eqb}
@@ -11,7 +11,7 @@ use Rattle.limits.specs.Limits.{max_vertices}
 use Rattle.mesh.specs.Fan.{valence, on_boundary}
 use Rattle.mesh.specs.Tables.{vertex_of}
 use Rattle.patch.specs.Lists.{boundary_in}
-use Rattle.patch.proofs.SumLaws.{Passed, scattered-none, scattered-place, scattered-more, scattered-all, scattered-few, gather_ext, count_none}
+use Rattle.patch.proofs.SumLaws.{scattered-none, scattered-place, scattered-more, scattered-all, scattered-few, gather_ext, count_none}
 use Rattle.patch.proofs.FacePointLaws.{boundary-in}
 use Rattle.patch.proofs.counts.count_faces.Goals.{After-count_at, After-count_at-arg-in-loop-c-1, After-count_at-in-loop-c, After-one_if, After-slice_known-2-1, After-slice_known-in-loop-c-2-1, After-wide-p, At-loop-c, Start}
 use Rattle.patch.proofs.counts.count_faces.Goals as goal

@@ -1,18 +1,9 @@
 -- `count_faces` meets its contract: each place has the counts of the corners passed at its vertex, and no count of 1024 corners overflows.
-use mathlib.Core.Path.{◌≡◌, refl, ap, ◌∙◌}
-use Prim.Native.Nat.{ℕ, ◌+◌, ◌-◌, ◌<◌, ◌≤◌}
-use native.Mathlib.Numerals.{add-one-le, add-one-dec}
-use native.Mathlib.Omega.{arith}
-use lib.Dec.{eqb}
-use lib.ListN.{length, get_or}
+use Prim.Native.Nat.{◌+◌, ◌-◌}
 use Rattle.finite.specs.Fold.{indicator}
-use Rattle.finite.proofs.Counting.{sum-monoid, indicator-le}
-use Rattle.limits.specs.Limits.{max_vertices}
-use Rattle.mesh.specs.Fan.{valence, on_boundary}
 use Rattle.mesh.specs.Tables.{vertex_of}
 use Rattle.patch.specs.Lists.{boundary_in}
-use Rattle.patch.proofs.SumLaws.{Passed, scattered-none, scattered-place, scattered-more, scattered-all, scattered-few, gather_ext, count_none}
-use Rattle.patch.proofs.FacePointLaws.{boundary-in}
+use Rattle.patch.proofs.SumLaws.{Passed}
 use Rattle.patch.proofs.counts.count_faces.Given as goal
 
 abbrev pub invariant-loop-c : goal.invariant-loop-c

@@ -1,12 +1,12 @@
 -- `fill_ends` meets its contract: each byte is made of what the twins tell of half-edge c and of the one before it.
 use mathlib.Core.Path.{◌≡◌, ap, ap₂, ◌∙◌}
-use Prim.Native.Nat.{◌-◌, ◌<◌}
+use Prim.Native.Nat.{◌<◌}
 use native.Mathlib.Numerals.{add-one-dec}
 use native.Mathlib.Omega.{arith}
 use Rattle.corner.specs.Corner.{prev}
 use Rattle.mesh.proofs.CornerLaws.{prev-below}
 use Rattle.patch.specs.Lists.{boundary_in, ends_byte, ends_in}
-use Rattle.patch.proofs.FillingLaws.{Filling, filling-none, filling-room, filling-more, filling-all}
+use Rattle.patch.proofs.FillingLaws.{filling-none, filling-room, filling-more, filling-all}
 use Rattle.patch.proofs.counts.fill_ends.Goals.{After-ends_byte, After-is_boundary-enters, At-loop-c, In-loop-c, Start}
 use Rattle.patch.proofs.counts.fill_ends.Goals as goal
 

@@ -1,11 +1,9 @@
 -- `fill_links` meets its contract: the first c places hold the twins of the half-edges passed.
 use mathlib.Core.Path.{refl}
-use Prim.Native.Nat.{◌-◌, ◌<◌}
+use Prim.Native.Nat.{◌<◌}
 use native.Mathlib.Numerals.{add-one-dec}
 use native.Mathlib.Omega.{arith}
-use borrow.Author.Rules.{rules}
-use Rattle.mesh.specs.Tables.{twin_of}
-use Rattle.patch.proofs.FillingLaws.{Filling, filling-none, filling-room, filling-more, filling-all}
+use Rattle.patch.proofs.FillingLaws.{filling-none, filling-room, filling-more, filling-all}
 use Rattle.patch.proofs.counts.fill_links.Goals.{After-shared_slice_known-1, At-loop-c, In-loop-c, Start}
 use Rattle.patch.proofs.counts.fill_links.Goals as goal
 

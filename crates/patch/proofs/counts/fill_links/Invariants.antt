@@ -1,11 +1,7 @@
 -- `fill_links` meets its contract: the first c places hold the twins of the half-edges passed.
-use mathlib.Core.Path.{refl}
-use Prim.Native.Nat.{◌-◌, ◌<◌}
-use native.Mathlib.Numerals.{add-one-dec}
-use native.Mathlib.Omega.{arith}
-use borrow.Author.Rules.{rules}
+use Prim.Native.Nat.{◌-◌}
 use Rattle.mesh.specs.Tables.{twin_of}
-use Rattle.patch.proofs.FillingLaws.{Filling, filling-none, filling-room, filling-more, filling-all}
+use Rattle.patch.proofs.FillingLaws.{Filling}
 use Rattle.patch.proofs.counts.fill_links.Given as goal
 
 abbrev pub invariant-loop-c : goal.invariant-loop-c

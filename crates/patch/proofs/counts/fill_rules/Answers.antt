@@ -1,12 +1,11 @@
 -- `fill_rules` meets its contract: each rule is made of what the three lists have at the place of its vertex.
-use Prim.Native.Nat.{◌-◌, ◌<◌}
+use Prim.Native.Nat.{◌<◌}
 use native.Mathlib.Numerals.{add-one-dec}
 use native.Mathlib.Omega.{arith}
 use lib.Dec.{eqb}
 use lib.ListN.{length, get_or}
 use Rattle.mask.proofs.RuleLaws.{rule-most}
-use Rattle.patch.specs.PatchTables.{rule_by}
-use Rattle.patch.proofs.FillingLaws.{Filling, filling-none, filling-room, filling-more, filling-all}
+use Rattle.patch.proofs.FillingLaws.{filling-none, filling-room, filling-more, filling-all}
 use Rattle.patch.proofs.counts.fill_rules.Goals.{After-corner_rule, At-loop-p, In-loop-p, Start}
 use Rattle.patch.proofs.counts.fill_rules.Goals as goal
 

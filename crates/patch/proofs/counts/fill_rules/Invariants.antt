@@ -1,12 +1,7 @@
 -- `fill_rules` meets its contract: each rule is made of what the three lists have at the place of its vertex.
-use Prim.Native.Nat.{◌-◌, ◌<◌}
-use native.Mathlib.Numerals.{add-one-dec}
-use native.Mathlib.Omega.{arith}
-use lib.Dec.{eqb}
-use lib.ListN.{length, get_or}
-use Rattle.mask.proofs.RuleLaws.{rule-most}
+use Prim.Native.Nat.{◌-◌}
 use Rattle.patch.specs.PatchTables.{rule_by}
-use Rattle.patch.proofs.FillingLaws.{Filling, filling-none, filling-room, filling-more, filling-all}
+use Rattle.patch.proofs.FillingLaws.{Filling}
 use Rattle.patch.proofs.counts.fill_rules.Given as goal
 
 abbrev pub invariant-loop-p : goal.invariant-loop-p

@@ -1,15 +1,11 @@
 -- `write_patches` meets its contract: 48 numbers and 16 marks are written for each face, from 48 and 16 times its number on.
-use mathlib.Core.Path.{◌≡◌, refl}
+use mathlib.Core.Path.{◌≡◌}
 use mathlib.Core.List.{List}
-use Prim.Native.Nat.{ℕ, ◌<◌, ◌+◌, ◌*◌, ◌-◌, ◌≤◌}
-use native.Mathlib.Numerals.{add-one-le}
-use native.Mathlib.Omega.{arith}
+use Prim.Native.Nat.{ℕ, ◌*◌, ◌-◌, ◌≤◌}
 use lib.IntN.{ℤ}
 use lib.ListN.{length}
 use Rattle.finite.specs.Filled.{filled}
-use Rattle.finite.proofs.FilledLaws.{filled-start, filled-all, stretch-long, filled-stretch}
 use Rattle.patch.specs.Written.{PatchLists, patch_lists, written_number, written_mark}
-use Rattle.patch.proofs.SourceLaws.{number-placed, mark-placed}
 use Rattle.patch.proofs.fill.write_patches.Given as goal
 
 -- what is written after g patches

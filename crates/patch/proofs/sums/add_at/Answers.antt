@@ -5,7 +5,6 @@ use lib.ListN.{get_or, set}
 use mir.Syntax.{w64}
 use mir.Val.{SFits}
 use mir.Facts.{to_z-of_z}
-use borrow.Author.Rules.{rules}
 use Rattle.integer.proofs.Laws.{read_back}
 use Rattle.patch.proofs.sums.add_at.Goals as goal
 

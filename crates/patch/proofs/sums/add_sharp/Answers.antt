@@ -7,7 +7,6 @@ use lib.ListN.{get_or, set}
 use lib.Seq.{set-get_or}
 use mir.Syntax.{w64}
 use mir.Val.{to_z, of_z}
-use borrow.Author.Rules.{rules}
 use Rattle.integer.proofs.Laws.{read_back}
 use Rattle.limits.specs.Limits.{max_coordinate}
 use Rattle.patch.specs.Lists.{sharp_term_by}

@@ -1,6 +1,6 @@
 -- `add_sums` meets its contract: each place has the sums of the terms passed at its vertex, and no sum of 1024 terms overflows.
 use mathlib.Core.Path.{◌≡◌, refl, ap}
-use Prim.Native.Nat.{ℕ, ◌-◌, ◌*◌, ◌<◌, ◌≤◌}
+use Prim.Native.Nat.{ℕ, ◌*◌, ◌<◌, ◌≤◌}
 use native.Mathlib.Nat.{lt_of_lt_of_le}
 use native.Mathlib.Numerals.{add-one-le, add-one-dec}
 use native.Mathlib.Omega.{arith}
@@ -13,7 +13,7 @@ use Rattle.finite.proofs.IntegerSum.{sum_ℤ-monoid}
 use Rattle.limits.specs.Limits.{max_vertices, max_coordinate}
 use Rattle.mesh.specs.Tables.{vertex_of}
 use Rattle.patch.specs.Lists.{ring_term_by, sharp_term_by, ring_sum_by, sharp_sum_by}
-use Rattle.patch.proofs.SumLaws.{Passed, scattered-none, scattered-place, scattered-more, scattered-all, scattered-bound}
+use Rattle.patch.proofs.SumLaws.{scattered-none, scattered-place, scattered-more, scattered-all, scattered-bound}
 use Rattle.patch.proofs.TableLaws.{ring-by-size, sharp-by-size}
 use Rattle.patch.proofs.sums.add_sums.Goals.{After-add_at, After-add_sharp-arg-1, After-ring_term, After-sharp-1, After-wide-p, At-loop-c, Start}
 use Rattle.patch.proofs.sums.add_sums.Goals as goal

@@ -8,7 +8,6 @@ use lib.IntN.{ℤ, pos, nat_abs}
 use lib.ListN.{get_or}
 use mir.Syntax.{w64}
 use mir.Val.{to_z, of_z}
-use borrow.Author.Rules.{rules}
 use Rattle.integer.proofs.Laws.{read_back}
 use Rattle.limits.specs.Limits.{max_coordinate}
 use Rattle.corner.specs.Corner.{next, prev}

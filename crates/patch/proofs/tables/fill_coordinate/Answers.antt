@@ -2,7 +2,7 @@
 use mathlib.Core.Path.{◌≡◌, refl, ap, ◌∙◌}
 use mathlib.Core.Bool.{cond}
 use mathlib.Core.List.{List}
-use Prim.Native.Nat.{ℕ, ◌+◌, ◌-◌, ◌*◌, ◌<◌, ◌≤◌}
+use Prim.Native.Nat.{ℕ, ◌+◌, ◌*◌, ◌<◌}
 use native.Mathlib.Nat.{lt_of_lt_of_le, le_antisymm}
 use native.Mathlib.Numerals.{add-one-le, add-one-dec}
 use native.Mathlib.Omega.{arith}
@@ -15,11 +15,10 @@ use Rattle.limits.specs.Limits.{max_vertices}
 use Rattle.mask.specs.Mask.{Fraction}
 use Rattle.control.specs.Control.{units}
 use Rattle.patch.specs.Lists.{ring_sum_by, sharp_sum_by}
-use Rattle.patch.specs.PatchTables.{CornerLists, corner_lists, Coordinate, stored_of, ruled_point}
+use Rattle.patch.specs.PatchTables.{CornerLists, corner_lists, stored_of, ruled_point}
 use Rattle.patch.specs.declared.tables.Stored.{Stored}
 use Rattle.patch.proofs.TableLaws.{blank}
 use Rattle.patch.proofs.CornerTableLaws.{ruled-entries, coordinate-none, coordinate-more}
-use Rattle.patch.proofs.tables.fill_coordinate.Invariants.{Passed}
 use Rattle.patch.proofs.tables.fill_coordinate.Goals.{After-add_sums, After-corner_point-arg-in-loop-p-1, After-kept, After-position-x, After-ring-1, After-struct_told-1, At-loop-p, In-loop-p, Start}
 use Rattle.patch.proofs.tables.fill_coordinate.Goals as goal
 

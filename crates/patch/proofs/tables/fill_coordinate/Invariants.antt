@@ -1,24 +1,11 @@
 -- `fill_coordinate` meets its contract: coordinate k of the corner points passed is written, by the rule of each vertex and its two sums.
-use mathlib.Core.Path.{◌≡◌, refl, ap, ◌∙◌}
-use mathlib.Core.Bool.{cond}
+use mathlib.Core.Path.{◌≡◌}
 use mathlib.Core.List.{List}
-use Prim.Native.Nat.{ℕ, ◌+◌, ◌-◌, ◌*◌, ◌<◌, ◌≤◌}
-use native.Mathlib.Nat.{lt_of_lt_of_le, le_antisymm}
-use native.Mathlib.Numerals.{add-one-le, add-one-dec}
-use native.Mathlib.Omega.{arith}
-use lib.IntN.{ℤ, pos}
-use lib.ListN.{length, get_or, length-set}
-use mir.Syntax.{w32, w64}
-use mir.Val.{to_z, of_z}
-use Rattle.integer.proofs.Laws.{read_back}
-use Rattle.limits.specs.Limits.{max_vertices}
+use Prim.Native.Nat.{ℕ, ◌-◌, ◌≤◌}
+use lib.IntN.{ℤ}
+use lib.ListN.{length}
 use Rattle.mask.specs.Mask.{Fraction}
-use Rattle.control.specs.Control.{units}
-use Rattle.patch.specs.Lists.{ring_sum_by, sharp_sum_by}
-use Rattle.patch.specs.PatchTables.{CornerLists, corner_lists, Coordinate, stored_of, ruled_point}
-use Rattle.patch.specs.declared.tables.Stored.{Stored}
-use Rattle.patch.proofs.TableLaws.{blank}
-use Rattle.patch.proofs.CornerTableLaws.{ruled-entries, coordinate-none, coordinate-more}
+use Rattle.patch.specs.PatchTables.{corner_lists, Coordinate, ruled_point}
 use Rattle.patch.proofs.tables.fill_coordinate.Given as goal
 
 -- what is written after p vertices

@@ -1,17 +1,12 @@
 -- `fill_corners` meets its contract: each pass writes one coordinate of the corner points, and takes marks away.
 use mathlib.Core.Path.{◌≡◌, refl, ◌∙◌}
-use mathlib.Core.List.{List}
-use Prim.Native.Nat.{ℕ, ◌-◌, ◌<◌, ◌≤◌}
+use Prim.Native.Nat.{◌<◌}
 use native.Mathlib.Nat.{not-suc-le-zero, le_antisymm}
 use native.Mathlib.Numerals.{add-one-le, add-one-dec}
 use native.Mathlib.Omega.{arith}
-use lib.IntN.{ℤ}
-use lib.ListN.{length}
 use Rattle.finite.specs.Fold.{fold_below}
-use Rattle.mask.specs.Mask.{Fraction}
-use Rattle.patch.specs.PatchTables.{CornerLists, corner_lists, CornerPoints, ruled_point}
+use Rattle.patch.specs.PatchTables.{CornerLists, corner_lists, ruled_point}
 use Rattle.patch.proofs.CornerTableLaws.{corners-more}
-use Rattle.patch.proofs.tables.fill_corners.Invariants.{Passed}
 use Rattle.patch.proofs.tables.fill_corners.Goals.{After-fill_coordinate, After-slice_known-in-loop-k-1, At-loop-k, In-loop-k, Start}
 use Rattle.patch.proofs.tables.fill_corners.Goals as goal
 

@@ -1,16 +1,11 @@
 -- `fill_corners` meets its contract: each pass writes one coordinate of the corner points, and takes marks away.
-use mathlib.Core.Path.{◌≡◌, refl, ◌∙◌}
+use mathlib.Core.Path.{◌≡◌}
 use mathlib.Core.List.{List}
-use Prim.Native.Nat.{ℕ, ◌-◌, ◌<◌, ◌≤◌}
-use native.Mathlib.Nat.{not-suc-le-zero, le_antisymm}
-use native.Mathlib.Numerals.{add-one-le, add-one-dec}
-use native.Mathlib.Omega.{arith}
+use Prim.Native.Nat.{ℕ, ◌-◌, ◌≤◌}
 use lib.IntN.{ℤ}
 use lib.ListN.{length}
-use Rattle.finite.specs.Fold.{fold_below}
 use Rattle.mask.specs.Mask.{Fraction}
-use Rattle.patch.specs.PatchTables.{CornerLists, corner_lists, CornerPoints, ruled_point}
-use Rattle.patch.proofs.CornerTableLaws.{corners-more}
+use Rattle.patch.specs.PatchTables.{corner_lists, CornerPoints, ruled_point}
 use Rattle.patch.proofs.tables.fill_corners.Given as goal
 
 -- what is written after k coordinates

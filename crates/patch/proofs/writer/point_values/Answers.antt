@@ -1,6 +1,5 @@
 -- `point_values` meets its contract: each kind of point has its own function, or its table.
 use mathlib.Core.Path.{ap, ◌∙◌}
-use borrow.Author.Rules.{rules}
 use Rattle.finite.specs.Fold.{fold_below}
 use Rattle.control.specs.Control.{weight_at, inner_at, along_at, before_at}
 use Rattle.patch.specs.Written.{PatchLists, patch_lists, stored, point_from, exact_from}

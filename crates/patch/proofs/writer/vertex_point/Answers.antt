@@ -4,7 +4,6 @@ use Prim.Native.Nat.{ℕ, ◌+◌, ◌*◌}
 use lib.IntN.{pos}
 use lib.ListN.{get_or}
 use mir.Syntax.{w32}
-use borrow.Author.Rules.{rules}
 use Rattle.integer.proofs.Laws.{read_back}
 use Rattle.patch.proofs.writer.vertex_point.Goals as goal
 

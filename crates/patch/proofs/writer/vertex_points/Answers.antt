@@ -5,7 +5,6 @@ use native.Mathlib.Omega.{arith}
 use lib.Dec.{eqb}
 use lib.ListN.{get_or}
 use mir.Syntax.{w32}
-use borrow.Author.Rules.{rules}
 use Rattle.integer.proofs.Laws.{read_back}
 use Rattle.patch.proofs.FacePointLaws.{same_point}
 use Rattle.patch.proofs.writer.vertex_points.Goals.{After-vertex_point, Start}

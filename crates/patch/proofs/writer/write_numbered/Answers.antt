@@ -2,7 +2,6 @@
 use mathlib.Core.Path.{sym, ◌∙◌}
 use Prim.Native.Nat.{◌<◌}
 use native.Mathlib.Omega.{arith}
-use borrow.Author.Rules.{rules}
 use Rattle.finite.proofs.FilledLaws.{filled-ext}
 use Rattle.patch.specs.Point.{inner}
 use Rattle.patch.specs.Patch.{owner, kind}

@@ -1,14 +1,10 @@
 -- `write_patch` meets its contract: each point fills the next three places and its mark the next byte, and what stands behind the sixteenth is as it was.
-use mathlib.Core.Path.{◌≡◌, refl, ◌∙◌}
-use mathlib.Core.List.{List}
-use Prim.Native.Nat.{ℕ, ◌+◌, ◌*◌, ◌-◌, ◌≤◌}
+use mathlib.Core.Path.{refl, ◌∙◌}
+use Prim.Native.Nat.{◌+◌, ◌*◌, ◌≤◌}
 use native.Mathlib.Omega.{arith}
-use lib.IntN.{ℤ}
 use lib.ListN.{length, length-set}
-use Rattle.finite.specs.Filled.{filled}
 use Rattle.finite.proofs.FilledLaws.{filled-start, filled_more, filled-all, stretch-long, filled-stretch}
 use Rattle.patch.specs.Written.{PatchLists, patch_lists, number_from, mark_from}
-use Rattle.patch.proofs.writer.write_patch.Invariants.{Written}
 use Rattle.patch.proofs.writer.write_patch.Goals.{At-loop-m, In-loop-m, Start}
 use Rattle.patch.proofs.writer.write_patch.Goals as goal
 

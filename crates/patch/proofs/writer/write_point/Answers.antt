@@ -5,7 +5,6 @@ use native.Mathlib.Omega.{arith}
 use lib.IntN.{ℤ}
 use lib.ListN.{length-set}
 use mir.Syntax.{w32}
-use borrow.Author.Rules.{rules}
 use Rattle.integer.proofs.Laws.{read_back}
 use Rattle.finite.specs.Fold.{indicator}
 use Rattle.patch.specs.Written.{PatchLists, patch_lists, kind_of, point_from}
