@@ -1,5 +1,6 @@
 //! The calls of the library for C: each returns a number, and the results go into numbers that the caller lends.
 #![tactic(auto)]
+
 pub mod samples;
 
 ghost use Rattle.std.specs.Prelude.{◌≡◌, ◌∷◌, []};

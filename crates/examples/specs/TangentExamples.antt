@@ -3,7 +3,6 @@ use Rattle.std.specs.Prelude.{List, [], ◌∷◌, ◌++◌, ◌≡◌, refl, �
 use Rattle.integer.specs.Nearest.{half_even, nearest_ℕ, nearest}
 use Rattle.finite.specs.Fold.{fold_below}
 use Rattle.finite.specs.Filled.{list_below}
-use Rattle.answer.specs.Table.{Answer, result, refusal}
 use Rattle.mesh.specs.IndexedMesh.{IndexedMesh}
 use Rattle.mesh.specs.HalfEdge.{is_twin, twin, boundary, same_way, doubled}
 use Rattle.mesh.specs.Fan.{valence, on_boundary, around, iterate, fan_by, fan}

@@ -1,5 +1,4 @@
 -- `rusketja_check` meets its contract: the answer of the check is stored, and the list of twins is as the check left it.
-use borrow.Author.Rules.{rules}
 use Rattle.capi.proofs.rusketja_check.Goals as goal
 
 pub returns : goal.returns

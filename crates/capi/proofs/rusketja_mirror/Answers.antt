@@ -1,6 +1,5 @@
 -- `rusketja_mirror` meets its contract: the answer of the mirror call is returned as a number, and the lists are as that call left them.
 use mathlib.Core.Path.{ap, ◌∙◌}
-use borrow.Author.Rules.{rules}
 use Rattle.capi.specs.Answer.{code}
 use Rattle.capi.proofs.rusketja_mirror.Goals as goal
 

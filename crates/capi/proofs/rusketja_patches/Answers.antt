@@ -1,5 +1,4 @@
 -- `rusketja_patches` meets its contract: the answer of the patch call is stored, and the three lists are as the patch call left them.
-use borrow.Author.Rules.{rules}
 use Rattle.capi.proofs.rusketja_patches.Goals as goal
 
 pub returns : goal.returns

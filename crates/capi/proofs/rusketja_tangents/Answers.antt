@@ -1,6 +1,5 @@
 -- `rusketja_tangents` meets its contract: the answer of the tangent call is returned as a number, and the list is as that call left it.
 use mathlib.Core.Path.{ap, ◌∙◌}
-use borrow.Author.Rules.{rules}
 use Rattle.capi.specs.Answer.{code}
 use Rattle.capi.proofs.rusketja_tangents.Goals as goal
 

@@ -1,5 +1,5 @@
 -- `write_stretches` ends: the buffer has room for a line, so each stretch leads on, and none leads beyond the last line.
-use Rattle.std.proofs.Common.{◌≡◌, ◌∙◌, ◌≤◌, ◌<◌, length, arith}
+use Rattle.std.proofs.Common.{◌∙◌, ◌≤◌, ◌<◌, length, arith}
 use Rattle.meshfile.specs.Answer.{opened}
 use Rattle.text.specs.Text.{line_places}
 use Rattle.listing.specs.Listing.{handed_count}
@@ -12,7 +12,7 @@ loop-line-smaller g c =
     let room : line_places ≤ length c.loop-line.out = omega (arith, c.requires, c.loop-line.invariant.1) in
     let leads = leads-on c.stretch-next.ensures more room in
     let within : c.stretch-next.result.line ≤ c.line_count-lines.result =
-        rw c.line_count-lines.ensures (leads-within c.stretch-next.ensures (omega (arith, more)))
+    rw c.line_count-lines.ensures (leads-within c.stretch-next.ensures (omega (arith, more)))
     in
     omega (arith, leads, within)
 

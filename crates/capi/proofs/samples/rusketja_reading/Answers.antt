@@ -2,7 +2,6 @@
 use mathlib.Core.Path.{refl, subst}
 use Prim.Native.Nat.{ℕ}
 use lib.Ieee.{Float}
-use borrow.Author.Rules.{rules}
 use Rattle.sample.specs.declared.model.Micrometres.{Micrometres}
 use Rattle.sample.specs.declared.model.Reading.{Reading}
 use Rattle.sample.specs.declared.model.Reading.TheVariants.{At, Refused}
