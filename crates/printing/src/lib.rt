@@ -1,9 +1,11 @@
-//! The text of a file, on a writer, as standard output. The answer that is handed back is proved, and so is every stretch that is passed to the write call;
-//! that the writes come out in this order is the loop below, as no contract can speak of standard output.
+//! The text of a file, on a writer, as standard output. The answer that is handed back is proved, and so is the text that is written, at each writer whose
+//! bytes a contract can name; of standard output none can.
 #![tactic(auto)]
 
-ghost use Rattle.std.specs.Prelude.{◌≤◌, length};
-ghost use Rattle.meshfile.specs.Answer.{FileOpened};
+ghost use Rattle.std.specs.Prelude.{◌≤◌, length, OnOk};
+ghost use Rattle.std.specs.Io.KnownBytes.{Appends};
+ghost use Rattle.listing.specs.Listing.{joined, line_at, handed_count};
+ghost use Rattle.meshfile.specs.Answer.{opened, FileOpened};
 ghost use Rattle.text.specs.Text.{line_places};
 
 use decoding::model::Header;
@@ -22,6 +24,7 @@ pub const FILE_PLACES: usize = Header::MAX_BYTES + 1;
 const STRETCH_PLACES: usize = 65536;
 
 // Writes the stretches of the text one after the other, up to its end. At the first write that is not taken whole it stops.
+// Writes: to `to`, where no write fails, the lines that are handed out, all of them and in their order; to out, as `listing::stretch`.
 fn write_stretches<W: Write>(
     file: Opened,
     patches: &[i32],
@@ -29,6 +32,8 @@ fn write_stretches<W: Write>(
     to: &mut W,
 ) -> io::Result<()>
     requires { line_places ≤ length out.old }
+    ensures { let text = joined (line_at (opened file) patches.now) (handed_count (opened file)) in
+        OnOk result (Appends (W.contents to.old) (W.contents to.new) text) }
 {
     let lines = listing::line_count(file);
     let mut line: usize = 0;
