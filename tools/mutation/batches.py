@@ -4,9 +4,8 @@ The proof of a function cites the contracts of those that it calls and never the
 A run over several says of a mutant that it is refused only on evidence of its own:
 
 1. A message of the compiler in the lines of its function: no program.
-2. Messages of proofs, where each is of one of the changed functions: in the file of its proof, in its lines of the code, or by its name. They are
-   judged as those of a run over one (verdicts), but for two things. A message of the last definition of a proof, `..-spec`, which cites the proofs
-   of the functions called, is none. And a text that no longer fits says nothing of a function that calls another one of the run.
+2. Messages of proofs, where each is of one of the changed functions: in a file of its proof, in its lines of the code, or by its name. They are
+   judged as those of a run over one (verdicts), but that a text that no longer fits says nothing of a function that calls another one of the run.
 3. Anything else says nothing: those mutants are tried again, as halves or alone.
 
 Constants and definitions, which several functions read, and the edits of tools/edits/ are tried alone, as are mutants that are known to survive.
@@ -20,8 +19,6 @@ from mutation.items import function_lines
 from mutation.verdicts import FALSE, MISFIT, NONE, Verdict, messages, of_compiler, of_proofs
 
 MOST = 12
-
-LAST = re.compile(r"^`[^`]+-spec`: ")
 
 
 # ---- Which mutants go together.
@@ -59,8 +56,8 @@ def merged(text, mutants):
 
 
 class Place(NamedTuple):
-    """Where the messages of a function are: its name in the prover's lines, the file of its proof (if it calls itself, another one), its file of the
-    code, and its lines there; and whether it calls another one of the batch."""
+    """Where the messages of a function are: its name in the prover's lines, the folder of its proof (if it calls itself, another one), its file of the
+    code, and its lines there; and whether it calls another one of the batch. Folder and file are of the crate, as the prover names them."""
 
     name: str
     proofs: tuple
@@ -69,9 +66,14 @@ class Place(NamedTuple):
     is_calling: bool
 
 
+def in_crate(path):
+    """The path in its crate of a file of the repository."""
+    return PurePosixPath(*PurePosixPath(path).parts[2:])
+
+
 def modules(path):
     """The modules of a file of the code, from the root of its crate."""
-    parts = PurePosixPath(path).with_suffix("").parts[3:]
+    parts = in_crate(path).with_suffix("").parts[1:]
     return parts[:-1] if parts[-1] in ("lib", "main", "mod") else parts
 
 
@@ -85,21 +87,16 @@ def places(batch, texts):
         first, last = lines[mutant.path][mutant.function]
         body = "\n".join(texts[mutant.path].split("\n")[first - 1 : last])
         called = names & set(re.findall(r"\w+", body)) - {parts[-1]}
-        proofs = tuple("/".join(("crates", mutant.crate, "proofs", *parts[:-1], name, "Proof.antt")) for name in (parts[-1], f"+{parts[-1]}"))
-        found[mutant.key] = Place("::".join((mutant.crate, *parts)), proofs, mutant.path, (first, last), bool(called))
+        proofs = tuple("/".join(("proofs", *parts[:-1], name)) for name in (parts[-1], f"+{parts[-1]}"))
+        found[mutant.key] = Place("::".join((mutant.crate, *parts)), proofs, str(in_crate(mutant.path)), (first, last), bool(called))
     return found
-
-
-def is_file(file, path):
-    """Whether a file that a message names is the one at this path of the repository."""
-    return f"/{file}".endswith(f"/{path}")
 
 
 def owner(message, known):
     """The key of the mutant whose function a message is of; None where it is of none of them."""
     for key, place in known.items():
-        here = is_file(message.file, place.path) and place.lines[0] <= message.line <= place.lines[1]
-        if here or message.file == place.name or any(is_file(message.file, path) for path in place.proofs):
+        here = message.file == place.path and place.lines[0] <= message.line <= place.lines[1]
+        if here or message.file == place.name or str(PurePosixPath(message.file).parent) in place.proofs:
             return key
     return None
 
@@ -114,7 +111,7 @@ def decided(status, output, known):
     if status != 1 or compiler:
         refused = [(owner(message, known), message.words) for message in reversed(compiler)] if status == 1 else []
         return {key: Verdict(NONE, words) for key, words in refused if key is not None}, False
-    of_functions = [(owner(message, known), message) for message in found if not LAST.match(message.words)]
+    of_functions = [(owner(message, known), message) for message in found]
     if "logic=not-proved" not in output or any(key is None for key, _ in of_functions):
         return {}, True
     own = {key: of_proofs([message for other, message in of_functions if other == key]) for key, _ in of_functions}

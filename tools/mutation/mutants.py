@@ -19,6 +19,9 @@ CODE, DEFINITIONS, EDITS = KINDS = ("code", "definitions", "edits")
 
 LONGEST = 240
 
+# The module that a crate names which prints.
+PRINTS = "std::io"
+
 
 @dataclass(frozen=True)
 class Mutant:
@@ -58,6 +61,12 @@ def above(listed, crate):
 def is_program(root, crate):
     """Whether a crate is a program."""
     return (root / "crates" / crate / "src" / "main.rt").exists()
+
+
+@lru_cache(maxsize=None)
+def is_printing(root, crate):
+    """Whether the code of a crate writes: what it writes is no part of a contract."""
+    return any(PRINTS in path.read_text(encoding="utf-8") for path in (root / "crates" / crate / "src").rglob("*.rt"))
 
 
 def sum_of(root, crate):

@@ -1,10 +1,13 @@
 """Mutants tried in copies of the repository, which stand outside of it and are removed in the end.
 
-A copy has crates.txt, crates/ and of target/ what the incremental check starts from. The mutants of a batch are written into their files, tried by
-one run, and undone; those of which it says nothing are tried again, as smaller batches or alone. A constant or a definition that survives in its
-crate is tried by `rt check` in the libraries above, in the order of crates.txt, until one refuses it. A constant that survives there, too, is tried by
-running the programs above, as is a function that prints: no contract says how large the buffers of a program are, and what is printed. A survivor of a
-program is tried by running it.
+A copy has crates.txt and crates/, without out/ and must-fail/: `rt check` begins there with what checks of other copies kept. The mutants of a batch are
+written into their files, tried by one run, and undone; those of which it says nothing are tried again, as smaller batches or alone. A constant or a
+definition that survives in its crate is tried by `rt check` in the libraries above, in the order of crates.txt, until one refuses it. A constant that
+survives there, too, is tried by running the programs above, as is a function that prints: no contract says how large the buffers of a program are, and
+what is printed. A survivor of a program is tried by running it.
+
+A program is proved and linked by `rt run`, and then run as `rt ci` does it: in a copy of its folder data/, over its file stdin and with the words of its
+file args. What it writes is to be what its file stdout has, and its status what its file status has.
 """
 
 import os
@@ -23,17 +26,16 @@ from typing import NamedTuple
 from command import Failure
 from mutation.batches import decided, left, merged, places
 from mutation.mutants import CODE, above, crates, is_program
-from mutation.verdicts import SURVIVED, Verdict, verdict
+from mutation.verdicts import FALSE, SURVIVED, UNKNOWN, Verdict, verdict
 
-TARGET = ("rlib", "stamp", "inc")
 LIMIT = 240
 
-# A folder in memory: a check writes thousands of small files.
-MEMORY = "/dev/shm"
+# What a copy goes without: what checks left, and the edits of the gate, of which each check would say that they no longer fit.
+LEFT_OUT = ("out", "must-fail")
 
 SIGNALS = (signal.SIGINT, signal.SIGTERM, signal.SIGHUP)
 
-# The runs of rt that are under way, in all threads.
+# The runs of rt and of programs that are under way, in all threads.
 running = set()
 
 
@@ -49,22 +51,14 @@ class Outcome(NamedTuple):
     seconds: float
 
 
-def temporary():
-    """The folder for temporary files: the one that the environment names, else one in memory, if programs can be run from there."""
-    if "TMPDIR" in os.environ or not os.access(MEMORY, os.W_OK | os.X_OK) or os.statvfs(MEMORY).f_flag & os.ST_NOEXEC:
-        return tempfile.gettempdir()
-    return MEMORY
-
-
-def run_rt(folder, words, limit):
-    """The exit status and the output of a run of rt, None for the status where the time was up."""
-    environment = {**os.environ, "RT_JOBS": "1", "RT_CUT": "0", "TMPDIR": temporary()}
-    pipes = {"stdin": subprocess.DEVNULL, "stdout": subprocess.PIPE, "stderr": subprocess.STDOUT}
-    # rt and what it starts are a session of their own, to be ended together
-    with subprocess.Popen(["rt", *words], cwd=folder, env=environment, start_new_session=True, **pipes) as child:
+def run_words(folder, words, limit, given=b"", errors=subprocess.STDOUT):
+    """The exit status and the output of a run in a folder over what it is given, None for the status where the time was up."""
+    pipes = {"stdin": subprocess.PIPE, "stdout": subprocess.PIPE, "stderr": errors}
+    # what is run and what it starts are a session of their own, to be ended together
+    with subprocess.Popen(words, cwd=folder, start_new_session=True, **pipes) as child:
         running.add(child)
         try:
-            output, _ = child.communicate(timeout=limit)
+            output, _ = child.communicate(given, timeout=limit)
             status = child.returncode
         except subprocess.TimeoutExpired:
             end(child)
@@ -74,11 +68,11 @@ def run_rt(folder, words, limit):
             raise
         finally:
             running.discard(child)
-    return status, output.decode(errors="replace")
+    return status, output
 
 
 def end(child):
-    """Ends a run of rt with all that it started."""
+    """Ends a run with all that it started."""
     with suppress(ProcessLookupError):
         os.killpg(child.pid, signal.SIGKILL)
 
@@ -97,17 +91,20 @@ def undisturbed():
             signal.signal(number, handler)
 
 
+def bytes_of(path):
+    """The bytes of a file; none of a file that is not there."""
+    return path.read_bytes() if path.is_file() else b""
+
+
 class Copy:
     """A copy of a repository in a temporary folder, with the crates that are known to pass as they stand."""
 
     def __init__(self, root, limit=LIMIT):
         self.limit, self.listed, self.passed, self.is_over = limit, crates(root), set(), threading.Event()
-        self.folder = Path(tempfile.mkdtemp(prefix="mutants.", dir=temporary()))
+        self.folder = Path(tempfile.mkdtemp(prefix="mutants."))
         try:
             shutil.copy(root / "crates.txt", self.folder)
-            for name in ("crates", *(f"target/{name}" for name in TARGET)):
-                if (root / name).is_dir():
-                    shutil.copytree(root / name, self.folder / name, symlinks=True)
+            shutil.copytree(root / "crates", self.folder / "crates", symlinks=True, ignore=shutil.ignore_patterns(*LEFT_OUT))
         except BaseException:
             with undisturbed():
                 self.remove()
@@ -117,14 +114,19 @@ class Copy:
         """Removes the copy."""
         shutil.rmtree(self.folder, ignore_errors=True)
 
-    def run(self, *words, limit):
-        """The exit status and the output of a run of rt in the copy."""
+    def run(self, folder, words, limit, *more):
+        """The exit status and the output of a run in a folder."""
         if self.is_over.is_set():
             raise Over
-        found = run_rt(self.folder, words, limit)
+        found = run_words(folder, words, limit, *more)
         if self.is_over.is_set():
             raise Over
         return found
+
+    def rt(self, verb, crate, limit):
+        """The exit status and the output of a run of rt in a crate."""
+        status, output = self.run(self.folder / "crates" / crate, ["rt", verb, "--jobs", "1"], limit)
+        return status, output.decode(errors="replace")
 
     @contextmanager
     def changed(self, texts):
@@ -142,38 +144,56 @@ class Copy:
         """That a crate passes as it stands, asked once: without that no verdict on a mutant says anything."""
         if crate in self.passed:
             return
-        status, output = self.run("dev", crate, limit=None)
+        status, output = self.rt("check", crate, None)
         if status != 0:
-            last = output.strip().splitlines()[-1:] or ["nothing was said"]
-            raise Failure(f"{crate}: rt dev does not pass before any edit: {last[0]}")
+            # what rt itself says comes before and behind what it runs
+            last = [line for line in output.strip().splitlines() if not line.startswith("rt: ")][-1:] or ["nothing was said"]
+            raise Failure(f"{crate}: rt check does not pass before any edit: {last[0]}")
         self.passed.add(crate)
 
+    def checked(self, crate):
+        """The verdict of the prover on a crate."""
+        return verdict(*self.rt("check", crate, self.limit))
+
+    def ran(self, crate):
+        """The verdict on a program: of the prover, and then by what it writes and its status."""
+        found = self.checked(crate)
+        if found.kind != SURVIVED:
+            return found
+        folder = self.folder / "crates" / crate
+        program = folder / "out" / crate
+        for path in (program, program.with_name(f"{crate}.stamp")):
+            path.unlink(missing_ok=True)
+        status, _ = self.rt("run", crate, self.limit)
+        if status is None or not program.exists():
+            return Verdict(UNKNOWN, "the time limit" if status is None else "the program is not linked")
+        with tempfile.TemporaryDirectory(prefix="mutants.") as room:
+            data = shutil.copytree(folder / "data", f"{room}/data") if (folder / "data").is_dir() else room
+            words = [str(program), *bytes_of(folder / "args").decode().splitlines()]
+            status, output = self.run(data, words, self.limit, bytes_of(folder / "stdin"), subprocess.DEVNULL)
+        if status is None:
+            return Verdict(UNKNOWN, "the time limit")
+        if (status, output) != (int(bytes_of(folder / "status") or b"0"), bytes_of(folder / "stdout")):
+            return Verdict(FALSE, "the program writes something else than its file stdout, or ends with another status")
+        return Verdict(SURVIVED)
+
     def tried_above(self, crate, runs):
-        """The verdict of the libraries above and, with runs, of the programs above (of a program, of its own run), and which gave it; what they leave in
-        target/ is undone."""
-        target, kept = self.folder / "target", self.folder / "kept"
-        for name in ("rlib", "stamp"):
-            shutil.copytree(target / name, kept / name, symlinks=True)
-        try:
-            own = [crate] if is_program(self.folder, crate) else []
-            libraries = [name for name in above(self.listed, crate) if not is_program(self.folder, name)]
-            programs = [name for name in above(self.listed, crate) if runs and is_program(self.folder, name)]
-            for name in own + libraries + programs:
-                found = verdict(*self.run("check", name, limit=self.limit))
-                if found.kind != SURVIVED:
-                    return found, name
-        finally:
-            for name in ("rlib", "stamp"):
-                shutil.rmtree(target / name)
-                shutil.move(str(kept / name), str(target / name))
-            shutil.rmtree(kept)
+        """The verdict of the libraries above and, with runs, of the programs above (of a program, of its own run), and which gave it."""
+        own = [crate] if is_program(self.folder, crate) else []
+        higher = above(self.listed, crate)
+        libraries = [name for name in higher if not is_program(self.folder, name)]
+        programs = [name for name in higher if runs and is_program(self.folder, name)]
+        for name in own + libraries + programs:
+            found = self.ran(name) if is_program(self.folder, name) else self.checked(name)
+            if found.kind != SURVIVED:
+                return found, name
         return Verdict(SURVIVED), crate
 
     def tried(self, mutant, climb):
         """What becomes of a mutant; with climb a survivor is tried in the crates above."""
         began, crate = time.monotonic(), mutant.crate
         with self.changed({mutant.path: mutant.text}):
-            found = verdict(*self.run("dev", crate, limit=self.limit))
+            found = self.checked(crate)
             if found.kind == SURVIVED and climb:
                 found, crate = self.tried_above(crate, mutant.kind == CODE)
         return Outcome(found, crate, time.monotonic() - began)
@@ -191,7 +211,7 @@ class Copy:
             return
         began, texts = time.monotonic(), self.merged(batch)
         with self.changed(texts):
-            status, output = self.run("dev", batch[0].crate, limit=self.limit)
+            status, output = self.rt("check", batch[0].crate, self.limit)
         seconds = time.monotonic() - began
         found, came_to_proofs = decided(status, output, places(batch, texts))
         for mutant in batch:

@@ -6,13 +6,12 @@ The rule, from the exit status and the messages, each an `error` line or a note 
 2. Status 1 with an error of the compiler (it has a code, as in `error[mismatched-types]`), or with no `logic=` line: no program. So is a
    definition that does not parse or type: an error in a file of specs/.
 3. `logic=not-proved`. A message says that a fact is not proved, or that the text of a proof no longer fits:
-   - it fits no longer where a name, a field or a need that it cites is gone or takes no invariant any more, or where the proofs are no longer all
-     and in the order that is asked for (a message of the last definition of the file, `..-spec`, which puts them together);
+   - it fits no longer where a name, a field or a goal that it cites is gone or takes no invariant any more;
    - in a file with such a message a term of another type than the goal's is a misfit too, since it was written for another program; what a tactic
      (`omega`, `search`, `simp`, ..) says of a goal is a fact all the same;
    - every other message is a fact that is not proved.
    One such fact: refused by a false fact. None: refused because the proof text no longer fits.
-4. A program whose output is not what its file `stdout` has: refused by a false fact.
+4. A program that writes something else than its file `stdout`, or ends with another status: refused by a false fact (runs).
 5. Any other end, the time limit among them: could not tell.
 
 A fact that is not proved is not always false: a goal may hold that this text does not prove. The rule tells what was asked from what was named.
@@ -25,19 +24,19 @@ FALSE, MISFIT, NONE, SURVIVED, UNKNOWN = "false fact", "text no longer fits", "n
 
 UNPROVED = "it is not proved"
 ERROR = re.compile(rf"^(?:note: )?(?P<file>\S+?\.(?:antt|rt)):(?P<line>\d+):\d+: (?P<kind>error(?:\[[\w-]+\])?|{UNPROVED})(?P<words>.*)$")
-UNCLOSED = re.compile(r"^fn (?P<file>\S+): no proof: .*`search` does not close (?P<words>.*)$")
+UNCLOSED = re.compile(r"^fn (?P<file>\S+): no proof: .*`search` did not prove (?P<words>.*)$")
 
-CONSEQUENCE = "was not admitted (it has holes or undetermined implicits, or was rejected), so this cannot be checked"
+CONSEQUENCE = re.compile(r"error: \d+ declarations? that depends? on .*(?:was|were) not checked")
 
 # What a proof says whose text does not fit the program.
 GONE = re.compile(
     r"that can be named from here|has no field|is not in scope|has no module|there is no module|is not a field"
-    r"|expected type `tie\.Need-|^`[^`]+-spec`: |is applied to an argument but has type|too many arguments|too few arguments"
+    r"|is applied to an argument but has type|too many arguments|too few arguments"
 )
 
 # What a term says that is of another type than the goal's.
 OTHER_TYPE = re.compile(r"expected type|the two types|the two sides|but this has type|is not the type|does not have the type|is expected here")
-TACTIC = re.compile(r"`(?:omega|search|simp|rw|cc|refl|decide|ring|induction)`")
+TACTIC = re.compile(r"`(?:omega|search|grind|simp|rw|cc|refl|decide|ring|induction)`")
 
 
 class Verdict(NamedTuple):
@@ -48,7 +47,7 @@ class Verdict(NamedTuple):
 
 
 class Message(NamedTuple):
-    """A message: the file that it is of (the function, of a search), its kind, its words, and its line in the file (0, of a search)."""
+    """A message: the file of the crate that it is of (the function, of a search), its kind, its words, and its line in the file (0, of a search)."""
 
     file: str
     kind: str
@@ -61,11 +60,11 @@ def messages(output):
     found, lines = [], output.splitlines()
     for line, second in zip(lines, [*lines[1:], ""]):
         match = ERROR.match(line) or UNCLOSED.match(line)
-        if match and CONSEQUENCE not in line:
+        if match and not CONSEQUENCE.search(line):
             parts = {"kind": "search", "line": 0, **match.groupdict()}
             said = f"{parts['kind']}{parts['words']}" if parts["kind"] == UNPROVED else parts["words"].lstrip(": ")
             words = f"{said} {second.strip()}" if second.startswith("  ") else said
-            found.append(Message(parts["file"], parts["kind"], words, int(parts["line"])))
+            found.append(Message(parts["file"][2 * parts["file"].startswith("./") :], parts["kind"], words, int(parts["line"])))
     return found
 
 
@@ -87,7 +86,7 @@ def of_proofs(found):
 
 def of_compiler(found, output):
     """The messages that say that there is no program; a definition that does not parse or type is among them."""
-    compiler = [message for message in found if "[" in message.kind or "/specs/" in message.file]
+    compiler = [message for message in found if "[" in message.kind or message.file.startswith("specs/")]
     return compiler or ([] if "logic=" in output else found)
 
 
@@ -99,8 +98,6 @@ def verdict(status, output):
         return Verdict(UNKNOWN, "the time limit")
     if status == 0:
         return Verdict(SURVIVED)
-    if status == 1 and "is not what its file 'stdout' has" in output:
-        return Verdict(FALSE, "the program writes something else than its file 'stdout'")
     if status == 1 and compiler:
         return Verdict(NONE, compiler[0].words)
     if status == 1 and "logic=not-proved" in output:

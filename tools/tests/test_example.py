@@ -9,7 +9,7 @@ from pathlib import Path
 ROOT = Path(__file__).resolve().parent.parent.parent
 EXAMPLE = ROOT / "examples" / "square.c"
 HEADER = ROOT / "include" / "rusketja.h"
-ARCHIVE = ROOT / "target" / "staticlib" / "libcapi.a"
+ARCHIVE = ROOT / "crates" / "capi" / "out" / "libcapi.a"
 STRICT = ["-Wall", "-Wextra", "-Wconversion", "-Werror"]
 
 
@@ -29,7 +29,7 @@ class Example(unittest.TestCase):
     def test_example(self):
         self.compiles("cc", "-std=c99", "-pedantic", "-fsyntax-only", EXAMPLE)
 
-    @unittest.skipUnless(ARCHIVE.is_file(), "no target/staticlib/libcapi.a: `rt staticlib capi` writes it")
+    @unittest.skipUnless(ARCHIVE.is_file(), "no crates/capi/out/libcapi.a: `rt lib` in crates/capi writes it")
     def test_run(self):
         with tempfile.TemporaryDirectory() as folder:
             self.compiles("cc", "-std=c99", EXAMPLE, ARCHIVE, "-o", f"{folder}/square")

@@ -67,27 +67,26 @@ class Together(unittest.TestCase):
 
 # ---- What a run says.
 
-PROOF = "m/crates/a/proofs"
+PROOF = "./proofs"
 TAIL = "fn a::f: not proved\nlogic=not-proved\n"
-LATER = "was not admitted (it has holes or undetermined implicits, or was rejected), so this cannot be checked"
 
 
 def omega(folder):
-    return f"{PROOF}/{folder}/Proof.antt:23:21: error: `part-end`: `omega`: the goal does not follow from what it read\n"
+    return f"{PROOF}/{folder}/Answers.antt:23:21: error: `part-end`: `omega`: the goal does not follow from what it read\n"
 
 
 def gone(folder):
-    return f"{PROOF}/{folder}/Proof.antt:13:14: error: `mul`: `tie.Need-mul`: module `proofs.{folder}.Tie` has no `Need-mul` that can be named from here\n"
+    return f"{PROOF}/{folder}/Invariants.antt:13:14: error: `n`: record `Rattle.a.proofs.{folder}.Lts.Start` has no field `before`\n"
 
 
 def compiler(line, file="lib"):
-    return f"m/crates/a/src/{file}.rt:{line}:17: error[mismatched-types]: expected `bool`, found `usize`\n"
+    return f"src/{file}.rt:{line}:17: error[mismatched-types]: expected `bool`, found `usize`\n"
 
 
 def search(name, file, line):
     return (
-        f"note: m/crates/a/src/{file}.rt:{line}:1: it is not proved that what the function ensures holds when it returns (`returns`)\n"
-        f"fn a::{name}: no proof: expected `{name}-spec` in {PROOF}/{name}/Proof.antt; `search` does not close `returns`\n"
+        f"note: src/{file}.rt:{line}:1: it is not proved that what the function ensures holds when it returns (`returns`)\n"
+        f"fn a::{name}: no proof: expected answers in {PROOF}/{name}/Answers.antt; `search` did not prove `returns`\n"
     )
 
 
@@ -105,7 +104,7 @@ class Decided(unittest.TestCase):
     def test_places(self):
         self.assertEqual([place.name for place in self.known.values()], ["a::f", "a::g", "a::walk::h"])
         proofs = [path for place in self.known.values() for path in place.proofs]
-        self.assertEqual(proofs, [f"crates/a/proofs/{name}/Proof.antt" for name in ("f", "+f", "g", "+g", "walk/h", "walk/+h")])
+        self.assertEqual(proofs, [f"proofs/{name}" for name in ("f", "+f", "g", "+g", "walk/h", "walk/+h")])
         # the mutant of g leaves out three lines
         self.assertEqual([place.lines for place in self.known.values()], [(1, 3), (5, 8), (1, 3)])
         self.assertEqual([place.is_calling for place in self.known.values()], [True, False, False])
@@ -120,10 +119,9 @@ class Decided(unittest.TestCase):
         self.assertEqual(self.kinds(gone("f") + omega("g") + TAIL), {"g": FALSE})
 
     def test_what_follows_from_others(self):
-        later = f"{PROOF}/f/Proof.antt:9:5: error: `f-spec`: `close` {LATER}\n"
-        last = f"{PROOF}/f/Proof.antt:9:5: error: `f-spec`: expected type `tie.Need-mul`, but this has type `tie.Need-add`\n"
-        calls = "fn a::f: not proved; it calls `a::g`, which is not proved\n"
-        for follows in (later, last, calls):
+        later = f"{PROOF}/f/Answers.antt:9:5: error: 1 declaration that depends on `close`, which was rejected, was not checked: returns\n"
+        calls = "fn a::f: no proof: it calls `a::g`, which is not proved\n"
+        for follows in (later, calls):
             self.assertEqual(self.kinds(omega("g") + follows + TAIL), {"g": FALSE})
 
     def test_messages_of_others_say_nothing(self):
@@ -161,10 +159,10 @@ class Decided(unittest.TestCase):
 
 PROVER = """#!/bin/sh
 echo run >>{runs}
-proof() { grep -qs "$2" crates/a/src/$1.rt && { echo "$PWD/crates/a/proofs/$3/Proof.antt:1:1: error: omega"; bad=1; }; }
-line=$(grep -n 'return 7' crates/a/src/lib.rt | cut -d: -f1)
-[ "$line" ] && { echo "$PWD/crates/a/src/lib.rt:$line:1: error[wrong]: 7"; exit 1; }
-grep -qs '^    6' crates/a/src/lib.rt && sleep 60
+proof() { grep -qs "$2" src/$1.rt && { echo "./proofs/$3/Answers.antt:1:1: error: omega"; bad=1; }; }
+line=$(grep -n 'return 7' src/lib.rt | cut -d: -f1)
+[ "$line" ] && { echo "src/lib.rt:$line:1: error[wrong]: 7"; exit 1; }
+grep -qs '^    6' src/lib.rt && sleep 60
 proof lib 'g(3)' f
 proof walk 6 walk/h
 [ "$bad" ] && { echo logic=not-proved; exit 1; }

@@ -4,6 +4,7 @@ import os
 import shutil
 import signal
 import subprocess
+import tempfile
 import time
 import unittest
 from pathlib import Path
@@ -16,30 +17,32 @@ from mutation.verdicts import FALSE, MISFIT, NONE, SURVIVED, UNKNOWN, Verdict, m
 
 # ---- What the prover says. The lines are its own, cut short.
 
-PROOF = "/r/crates/corner/proofs/face_corners/Proof.antt"
-LATER = "was not admitted (it has holes or undetermined implicits, or was rejected), so this cannot be checked"
+PROOF = "./proofs/face_corners/Answers.antt"
 TAIL = "fn corner::wide: proved\nlogic=not-proved\n"
 
-OMEGA = f"{PROOF}:23:21: error: `part-result-end`: `omega`: the goal does not follow from what it read. All of that holds, and the goal fails, at `f`\n"
-TYPES = f"{PROOF}:26:13: error: `returns`: expected type `Reads.Post (c .before)`\n  but this has type `_≡_ (take 4 faces)`\n"
-SIDES = f"{PROOF}:26:31: error: `returns`: computed as far as they go, the two sides first differ where one has `_+_` (left)\n"
-NEED = f"{PROOF}:13:14: error: `mul-result`: `tie.Need-mul-result`: module `proofs.face_corners.Tie` has no `Need-mul-result` that can be named from here\n"
-ORDER = f"{PROOF}:46:5: error: `face-corners-spec`: expected type `tie.Need-add-e-2`, but this has type `tie.Need-mul-result`\n"
-GONE_FIELD = f"{PROOF}:26:46: error: `returns`: record `proofs.face_corners.Lts.Joined1·own` has no field `taken`\n"
-TWO_LINES = f"{PROOF}:26:46: error: `next-is`: record `proofs.vertex_twice.Lts.After-across-corner`\n  has no field `next-corner`: it has `c`\n"
+OMEGA = f"{PROOF}:23:21: error: `overflow_add-e`: `omega`: the goal does not follow from what it read. All of that holds, and the goal fails, at `f`\n"
+TYPES = f"{PROOF}:26:13: error: `returns`: expected type `Reads.Post (tt {{0}})`\n  but this has type `mathlib.Core.Path.◌≡◌ (take 4 faces)`\n"
+SIDES = f"{PROOF}:26:31: error: `returns`: as printed, the two types first differ where one has `3` (expected)\n  and the other has `4` (found)\n"
+GOAL = f"{PROOF}:9:28: error: `returns-a`: `goal.returns-a`: module `Rattle.corner.proofs.face_corners.Goals` has no `returns-a` that can be named from here\n"
+GONE_FIELD = f"{PROOF}:26:46: error: `returns`: record `Rattle.corner.proofs.face_corners.Lts.Start` has no field `before`\n"
+TWO_LINES = f"{PROOF}:26:46: error: `next-is`: record `Rattle.entries.proofs.vertex_twice.Lts.After-across_corner`\n  has no field `next_corner`\n"
 INVARIANT = f"{PROOF}:9:9: error: `mul-n`: this is applied to an argument but has type `Type 0`, which is not a function or extension (path) type\n"
-AFTER = f"{PROOF}:50:5: error: `face-corners-spec`: `returns` {LATER}\n"
-LAW = "/r/crates/corner/proofs/FaceLaws.antt:14:5: error: `corners-some`: as printed, the two types differ only where one has `5` (expected)\n"
+GRIND = f"{PROOF}:13:26: error: `nonzero_div-quotient`: `grind`: the goal does not follow. The hypotheses hold, and the goal fails at `n` = `0`\n"
+AFTER = f"{PROOF}:27:5: error: 1 declaration that depends on `returns-a`, which was rejected, was not checked: overflow_add-result\n"
+LATER = f"{PROOF}:64:5: error: 10 declarations that depend on `nearest`, which was not admitted, were not checked: nearest-is and 9 more\n"
+LAW = "./proofs/FaceLaws.antt:14:5: error: `corners-some`: as printed, the two types differ only where one has `5` (expected)\n"
 SEARCH = (
-    "note: /r/crates/corner/src/lib.rt:13:1: it is not proved that what the function ensures holds when it returns (`returns`)\n"
-    "note: what antt said of a `search` in the proof that rattle made: /r/crates/corner/src/lib.rt:13:8: `returns`: `search`: no proof of `x`\n"
-    "fn corner::next_corner: no proof: expected `next-corner-spec` in /r/crates/corner/proofs/next_corner/Proof.antt; `search` does not close `returns`\n"
+    "note: src/lib.rt:14:1: it is not proved that what the function ensures holds when it returns (`returns`)\n"
+    "fn corner::next_corner: no proof: expected answers in ./proofs/next_corner/Answers.antt; `search` did not prove `returns`\n"
+    "note: `returns` of proofs/next_corner/Answers.antt must prove: c.args.c / 4 * 4 + (c.args.c % 4 + 1) % 3 ≡ next c.args.c\n"
 )
-TYPE_ERROR = "/r/crates/corner/src/lib.rt:41:17: error[mismatched-types]: expected `bool`, found `usize`\n"
-UNKNOWN_NAME = "/r/crates/corner/src/lib.rt:42:26: error[unknown-name]: cannot find value `e` in this scope\n"
+CALLER = "fn corner::face: no proof: it calls `corner::next_corner`, which is not proved\n"
+TYPE_ERROR = "src/lib.rt:41:17: error[mismatched-types]: expected `bool`, found `usize`\n"
+UNKNOWN_NAME = "src/lib.rt:42:26: error[unknown-name]: cannot find value `e` in this scope\n"
 DEFINITION = (
-    "/r/crates/corner/specs/Corner.antt:23:15: error: `prev`: expected type `ℕ`, but this has type `Bool`\n"
-    "fn corner::wide: no proof: expected `wide-spec` in /r/crates/corner/proofs/wide/Proof.antt\n"
+    "./specs/Corner.antt:23:15: error: `prev`: expected type `ℕ`, but this has type `Bool`\n"
+    "./proofs/FaceLaws.antt:17:5: error: 2 declarations that depend on `prev`, which was not admitted, were not checked: prev-is, prev-of\n"
+    "fn corner::wide: not proved\n"
 )
 
 
@@ -48,17 +51,17 @@ class Verdicts(unittest.TestCase):
         self.assertEqual(verdict(status, output).kind, kind, output)
 
     def test_false_facts(self):
-        for output in (OMEGA, TYPES, SIDES, SEARCH, LAW + AFTER, OMEGA + AFTER):
+        for output in (OMEGA, TYPES, SIDES, GRIND, SEARCH, SEARCH + CALLER, LAW + LATER, OMEGA + AFTER):
             self.assert_kind(FALSE, output + TAIL)
 
     def test_text_that_no_longer_fits(self):
-        for output in (NEED, GONE_FIELD, TWO_LINES, INVARIANT, ORDER, NEED + TYPES, TWO_LINES + TYPES, ORDER + SIDES, NEED + GONE_FIELD + AFTER):
+        for output in (GOAL, GONE_FIELD, TWO_LINES, INVARIANT, GOAL + TYPES, TWO_LINES + TYPES, GOAL + SIDES, GOAL + GONE_FIELD + AFTER):
             self.assert_kind(MISFIT, output + TAIL)
 
     def test_false_fact_beside_a_text_that_no_longer_fits(self):
         """What a tactic says of a goal counts in such a file, and every message of another file."""
-        self.assert_kind(FALSE, NEED + OMEGA + TAIL)
-        self.assert_kind(FALSE, NEED + LAW + TAIL)
+        for output in (GOAL + OMEGA, GOAL + GRIND, GOAL + LAW):
+            self.assert_kind(FALSE, output + TAIL)
 
     def test_no_program(self):
         for output in (TYPE_ERROR, UNKNOWN_NAME, DEFINITION + TAIL):
@@ -66,9 +69,6 @@ class Verdicts(unittest.TestCase):
 
     def test_survivors(self):
         self.assert_kind(SURVIVED, "fn corner::wide: proved\nlogic=proved functions=5\n", 0)
-
-    def test_programs(self):
-        self.assert_kind(FALSE, "rt: vectors: what the program wrote is not what its file 'stdout' has\n")
 
     def test_what_cannot_be_told(self):
         self.assert_kind(UNKNOWN, "", None)
@@ -78,9 +78,9 @@ class Verdicts(unittest.TestCase):
         self.assert_kind(UNKNOWN, TAIL)
 
     def test_messages(self):
-        self.assertEqual(len(messages(OMEGA + AFTER + TAIL)), 1)
+        self.assertEqual([message.file for message in messages(OMEGA + AFTER + LATER + CALLER + TAIL)], ["proofs/face_corners/Answers.antt"])
         self.assertEqual(verdict(1, SEARCH + TAIL).words, "it is not proved that what the function ensures holds when it returns (`returns`)")
-        self.assertTrue(verdict(1, TYPES + NEED + TAIL).words.startswith("`mul-result`"))
+        self.assertTrue(verdict(1, TYPES + GOAL + TAIL).words.startswith("`returns-a`"))
 
 
 # ---- Reports.
@@ -115,13 +115,20 @@ class Reports(unittest.TestCase):
 # ---- Runs, over a prover that only looks for words in the files of a crate.
 
 PROVER = """#!/bin/sh
-# dev refuses what is wrong, and a line 5; check refuses what is below, in the crate a; what is slow takes its time
-file=crates/$2/src/lib.rt
-[ -f crates.txt ] && [ "$RT_JOBS" = 1 ] || exit 2
+# check refuses what is wrong, a line 5, and in a library above what is below in the crate a; what is slow takes its time. run links a program that prints
+# the line that is below.
+[ -f ../../crates.txt ] && [ "$2 $3" = "--jobs 1" ] || exit 2
+file=src/lib.rt name=${PWD##*/}
+refused() { echo "./$file:1:1: error: omega"; echo logic=not-proved; exit 1; }
 grep -qs slow $file && sleep 60
 case $1 in
-dev) grep -qsE 'wrong|^    5' $file && { echo "$file:1:1: error: omega"; echo logic=not-proved; exit 1; } ;;
-check) echo changed >target/rlib/$2; grep -qs below crates/a/src/lib.rt && { echo "$file:1:1: error: omega"; echo logic=not-proved; exit 1; } ;;
+check)
+    grep -qsE 'wrong|^    5' $file && refused
+    [ $name != a ] && [ ! -f src/main.rt ] && grep -qs below ../a/$file && refused ;;
+run)
+    mkdir -p out
+    printf '#!/bin/sh\\necho "%s"\\ncat "$@"\\n' "$(grep -hs below ../a/$file)" >out/$name
+    chmod +x out/$name ;;
 esac
 exit 0
 """
@@ -132,16 +139,22 @@ class Fake(Case):
 
     def setUp(self):
         super().setUp()
-        for name in ("bin", "r/crates/a/src", "r/crates/b/src", "r/target/rlib", "r/target/stamp"):
+        for name in ("bin", "r/crates/a/src", "r/crates/b/src", "r/crates/a/out", "r/crates/a/must-fail"):
             (self.folder / name).mkdir(parents=True)
         self.root = self.folder / "r"
-        files = {"crates.txt": "a:\nb: a # over it\n", "crates/a/src/lib.rt": "fine\n", "crates/b/src/lib.rt": "fine\n", "target/rlib/b": "b\n"}
+        files = {"crates.txt": "a:\nb: a # over it\n", "crates/a/src/lib.rt": "fine\n", "crates/b/src/lib.rt": "fine\n"}
         for name, text in files.items():
             (self.root / name).write_text(text)
         self.file("bin/rt", PROVER).chmod(0o755)
         path = os.environ["PATH"]
         self.addCleanup(os.environ.__setitem__, "PATH", path)
         os.environ["PATH"] = f"{self.folder / 'bin'}:{path}"
+
+    def program(self, name):
+        """Makes a crate a program: it prints a line, which is empty where nothing is below, and what it is given."""
+        (self.root / "crates" / name / "src/main.rt").write_text("fine\n")
+        for file, text in (("stdin", "given\n"), ("stdout", "\ngiven\n"), ("status", "0\n")):
+            (self.root / "crates" / name / file).write_text(text)
 
 
 class Runs(Fake):
@@ -166,8 +179,8 @@ class Runs(Fake):
         copy = runs.Copy(self.root)
         self.addCleanup(copy.remove)
         copy.tried(self.mutant("below"), True)
-        for name in ("crates/a/src/lib.rt", "target/rlib/b"):
-            self.assertEqual((copy.folder / name).read_text(), (self.root / name).read_text())
+        self.assertEqual((copy.folder / "crates/a/src/lib.rt").read_text(), (self.root / "crates/a/src/lib.rt").read_text())
+        self.assertEqual([path.name for path in (copy.folder / "crates/a").iterdir()], ["src"])
         copy.remove()
         self.assertFalse(copy.folder.exists())
 
@@ -178,29 +191,47 @@ class Runs(Fake):
 
     def test_base_that_does_not_pass(self):
         (self.root / "crates/a/src/lib.rt").write_text("wrong\n")
-        with self.assertRaisesRegex(command.Failure, "^a: rt dev does not pass before any edit: logic=not-proved$"):
+        with self.assertRaisesRegex(command.Failure, "^a: rt check does not pass before any edit: logic=not-proved$"):
             self.outcomes("good")
 
     def test_programs_are_run(self):
-        """A survivor of a program is tried by rt check in its own crate first."""
-        (self.root / "crates/a/src/main.rt").write_text("fine\n")
-        self.assertEqual(self.outcomes("below"), {"below": (FALSE, "a")})
+        """A survivor of a program is judged by what it writes: it is run over its file stdin, with the words of its file args, beside the files of data/."""
+        self.program("a")
+        self.assertEqual(self.outcomes("good", "below"), {"good": (SURVIVED, "a"), "below": (FALSE, "a")})
+        for name, text in (("stdin", "other\n"), ("status", "3\n"), ("stdout", "")):
+            self.program("a")
+            (self.root / "crates/a" / name).write_text(text)
+            self.assertEqual(self.outcomes("good"), {"good": (FALSE, "a")}, name)
+
+    def test_words_and_files_of_a_program(self):
+        self.program("a")
+        (self.root / "crates/a/data").mkdir()
+        (self.root / "crates/a/data/one").write_text("1\n")
+        (self.root / "crates/a/args").write_text("one\n-\n")
+        self.assertEqual(self.outcomes("good"), {"good": (FALSE, "a")})
+        (self.root / "crates/a/stdout").write_text("\n1\ngiven\n")
+        self.assertEqual(self.outcomes("good"), {"good": (SURVIVED, "a")})
+
+    def test_program_that_is_not_linked(self):
+        self.program("a")
+        self.file("bin/rt", "#!/bin/sh\nexit 0\n")
+        self.assertEqual(self.outcomes("good"), {"good": (UNKNOWN, "a")})
 
     def test_programs_above_are_run_for_constants(self):
         """No contract says how large the buffers of a program are; of a definition a program sees nothing that its libraries do not."""
-        (self.root / "crates/b/src/main.rt").write_text("fine\n")
+        self.program("b")
         self.assertEqual(self.outcomes("below"), {"below": (FALSE, "b")})
         self.assertEqual(self.outcomes("below", kind=mutants.DEFINITIONS), {"below": (SURVIVED, "a")})
 
     def test_end_of_a_run_that_is_left(self):
         """What is under way ends with the run, and the copies go."""
-        before, began = set(Path(runs.temporary()).glob("mutants.*")), time.monotonic()
+        before, began = set(Path(tempfile.gettempdir()).glob("mutants.*")), time.monotonic()
         found = runs.outcomes(self.root, [[self.mutant("wrong")], [self.mutant("slow")]], 1, lambda mutant: True, 50)
         next(found)
-        self.assertEqual(len(set(Path(runs.temporary()).glob("mutants.*")) - before), 1)
+        self.assertEqual(len(set(Path(tempfile.gettempdir()).glob("mutants.*")) - before), 1)
         found.close()
         self.assertLess(time.monotonic() - began, 15)
-        self.assertEqual(set(Path(runs.temporary()).glob("mutants.*")) - before, set())
+        self.assertEqual(set(Path(tempfile.gettempdir()).glob("mutants.*")) - before, set())
 
 
 class Whole(Fake):
@@ -240,10 +271,9 @@ class Whole(Fake):
 
     def test_function_that_prints(self):
         """What it prints is no part of its contract: the programs above show it."""
-        (self.root / "crates/a/src/lib.rt").write_text("fn f() -> u8 {\n    4 // below\n}\n")
-        (self.root / "crates/b/src/main.rt").write_text("fine\n")
-        for below, status in (("", 1), ("io", 0)):
-            (self.root / "crates.txt").write_text(f"a: {below}\nb: a\n")
+        self.program("b")
+        for named, status in (("", 1), ("use std::io;\n", 0)):
+            (self.root / "crates/a/src/lib.rt").write_text(f"{named}fn f() -> u8 {{\n    4 // below\n}}\n")
             self.assertEqual(self.tried("a")[0], status)
 
     def test_named_mutant_that_is_refused_or_is_none(self):
@@ -274,7 +304,7 @@ class Whole(Fake):
     def test_crate_that_changed_is_tried_again(self):
         """Whatever file of it changed; one of another crate does not matter."""
         self.file("report", "half a li")
-        for name, lines in (("crates/b/src/lib.rt", 3), ("crates/b/src/lib.rt", 3), ("crates/a/proofs/f/Proof.antt", 5), ("crates/a/specs/Lib.antt", 7)):
+        for name, lines in (("crates/b/src/lib.rt", 3), ("crates/b/src/lib.rt", 3), ("crates/a/proofs/f/Answers.antt", 5), ("crates/a/specs/Lib.antt", 7)):
             (self.root / name).parent.mkdir(parents=True, exist_ok=True)
             (self.root / name).write_text("fine, too\n")
             self.tried("a", "--report", "report")
@@ -326,7 +356,7 @@ class Whole(Fake):
         (self.root / "crates/a/src/lib.rt").write_text("fn f() -> u8 {\n    5\n}\n")
         status, lines, error = self.tried("a")
         self.assertEqual((status, lines), (2, []))
-        self.assertIn("mutants: a: rt dev does not pass before any edit: logic=not-proved\n", error)
+        self.assertIn("mutants: a: rt check does not pass before any edit: logic=not-proved\n", error)
 
 
 # ---- The command.

@@ -22,7 +22,7 @@ COMMANDS = ("obj2mesh", "explain", "survey", "listing2obj", "preview")
 README_LINES, C_LINES, RUST_LINES = 120, 15, 10
 
 # What stands on a page for a name of its form.
-FORMS = {"crate/specs/File.antt", "proofs/MODULE/FUNCTION/Proof.antt", "rusketja_call"}
+FORMS = {"crate/specs/File.antt", "proofs/MODULE/FUNCTION/Answers.antt", "proofs/MODULE/FUNCTION/Invariants.antt", "rusketja_call"}
 
 # The model that the page shows a refusal of.
 PYRAMID = "v 0 0 0\nv 9 0 0\nv 9 9 0\nv 0 9 0\nv 4 4 9\nf 4 3 2 1\nf 1 2 5\nf 2 3 5\nf 3 4 5\nf 4 1 5\n"

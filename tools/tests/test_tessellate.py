@@ -303,13 +303,15 @@ class Pipes(Case):
 
 # An `rt` that notes how it was called and links the program that copies the square's lines.
 RT = """\
-open("calls", "a").write(" ".join(sys.argv[1:]) + "\\n")
-if os.path.exists("broken"):
+root = os.path.dirname(os.path.dirname(os.getcwd()))
+open(f"{root}/calls", "a").write(" ".join([os.path.basename(os.getcwd()), *sys.argv[1:]]) + "\\n")
+if os.path.exists(f"{root}/broken"):
     print("one\\ntwo\\nthree\\nfour")
     sys.exit(1)
-os.makedirs("target/bin", exist_ok=True)
-if not os.path.exists("target/bin/tessellate"):
-    os.symlink(PROGRAM, "target/bin/tessellate")
+os.makedirs("out", exist_ok=True)
+open("out/stamp", "w").close()
+if not os.path.exists("out/tessellate"):
+    os.symlink(PROGRAM, "out/tessellate")
 """
 
 
@@ -319,7 +321,7 @@ class Building(Case):
     def setUp(self):
         super().setUp()
         self.tool = self.folder / "tools" / "tessellate"
-        for name in ("tools", "docs", "crates/mesh", "bin"):
+        for name in ("tools", "docs", "crates/mesh", "crates/tessellate", "bin"):
             (self.folder / name).mkdir(parents=True)
         for name in ("tessellate", "command.py"):
             shutil.copy(TOOL.with_name(name), self.folder / "tools")
@@ -332,7 +334,7 @@ class Building(Case):
         found = self.run_tool(SQUARE, tool=self.tool, environment={"PATH": f"{self.folder / 'bin'}:{os.environ['PATH']}"})
         self.assertEqual(found, (0, SQUARE_LINES, ""))
         calls = (self.folder / "calls").read_text().splitlines()
-        self.assertEqual(set(calls), {"check tessellate"})
+        self.assertEqual(set(calls), {"tessellate run"})
         return len(calls)
 
     def test_missing_or_older(self):
@@ -345,13 +347,16 @@ class Building(Case):
         self.assertEqual(self.built(), 2)
         (self.folder / "crates" / "mesh" / "to-nowhere").symlink_to("nothing")
         self.assertEqual(self.built(), 2)
+        # what rt leaves is no source
+        os.utime(self.folder / "crates" / "tessellate" / "out" / "stamp", (later + 9, later + 9))
+        self.assertEqual(self.built(), 2)
 
     def test_build_that_fails(self):
         (self.folder / "broken").write_text("")
         path = f"{self.folder / 'bin'}:{os.environ['PATH']}"
         status, output, error = self.run_tool(SQUARE, "--to", "out", tool=self.tool, environment={"PATH": path})
         self.assertEqual((status, output), (2, b""))
-        self.assertEqual(error, "tessellate: target/bin/tessellate cannot be built: rt check tessellate ended with 1\ntwo\nthree\nfour\n")
+        self.assertEqual(error, "tessellate: crates/tessellate/out/tessellate cannot be built: rt run ended with 1\ntwo\nthree\nfour\n")
         self.assertNotIn("out", self.files())
 
     def test_no_toolchain(self):
@@ -359,7 +364,7 @@ class Building(Case):
         bare.mkdir()
         (bare / "python3").symlink_to(sys.executable)
         status, _, error = self.run_tool(SQUARE, tool=self.tool, environment={"PATH": str(bare)})
-        self.assertEqual((status, error), (2, "tessellate: target/bin/tessellate cannot be built: rt: No such file or directory\n"))
+        self.assertEqual((status, error), (2, "tessellate: crates/tessellate/out/tessellate cannot be built: rt: No such file or directory\n"))
 
 
 if __name__ == "__main__":
