@@ -2,9 +2,9 @@
  * square has none, and some entries of the tables for tangents, by the others: prints what the library gives, and returns 0 where it is
  * right.
  *
- *     rt staticlib capi
- *     cc -std=c99 -Wall -Wextra -Wconversion -Werror -Iinclude examples/square.c target/staticlib/libcapi.a -o target/square
- *     target/square */
+ *     (cd crates/capi && rt lib)
+ *     cc -std=c99 -Wall -Wextra -Wconversion -Werror -Iinclude examples/square.c crates/capi/out/libcapi.a -o square
+ *     ./square */
 #include <stdio.h>
 
 #include "rusketja.h"

@@ -1,8 +1,8 @@
 /* Rusketja: the calls of the library for C and C++.
  *
- * Link with target/staticlib/libcapi.a, which `rt staticlib capi` writes (x86-64 Linux); it needs memset of the C library and nothing
- * else. examples/square.c makes every call. The contracts are in crates/capi/src, and every call meets its contract for every
- * input; what C itself must keep to is this:
+ * Link with crates/capi/out/libcapi.a, which `rt lib` writes in crates/capi (x86-64 Linux); it needs memcpy and memset of the C
+ * library and nothing else. examples/square.c makes every call. The contracts are in crates/capi/src, and every call meets its
+ * contract for every input; what C itself must keep to is this:
  *
  * - A list is passed as a pointer to its first element and its length, which counts elements. The pointer is not null and is
  *   aligned, also where the length is 0, and that many elements may be read (and written, where it is not const).

@@ -1,6 +1,6 @@
 //! Bicubic patches of a quad mesh and their exact samples, by a library that is proved in Rattle.
 //!
-//! Each function here calls the one of its name in the static library (`rt staticlib capi`), whose contract, for every input, is
+//! Each function here calls the one of its name in the static library (`rt lib` in crates/capi), whose contract, for every input, is
 //! in `crates/capi/src`. These wrappers pass the lists and turn a returned number that may be a refusal into a `Result`; nothing
 //! proves the wrappers themselves, and no input is refused by them.
 //!

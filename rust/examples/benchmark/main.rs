@@ -52,7 +52,7 @@ fn main() -> io::Result<()> {
         Some(form) if form == TESSELLATE[1] => return tessellate::run::<Unchecked>(),
         _ => {}
     }
-    let tessellate = PathBuf::from(env!("CARGO_MANIFEST_DIR")).join("../target/bin/tessellate");
+    let tessellate = PathBuf::from(env!("CARGO_MANIFEST_DIR")).join("../crates/tessellate/out/tessellate");
     let before = load();
     let (meshes, weights) = (meshes::all(), Weights::new());
     for named in &meshes {

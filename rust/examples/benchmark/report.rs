@@ -191,7 +191,7 @@ impl Report {
                 &format!("{ms:.1} ms"),
             ),
             None => {
-                println!("goal not measured: the whole program is left out, since target/bin/tessellate is missing")
+                println!("goal not measured: the whole program is left out, since crates/tessellate/out/tessellate is missing")
             }
         }
         for phase in [Phase::Check, Phase::Patches] {
