@@ -9,6 +9,8 @@ The rule, from the exit status and the messages, each an `error` line or a note 
    - it fits no longer where a name, a field or a goal that it cites is gone or takes no invariant any more;
    - in a file with such a message a term of another type than the goal's is a misfit too, since it was written for another program; what a tactic
      (`omega`, `search`, `simp`, ..) says of a goal is a fact all the same;
+   - beside such a message a goal without an answer is a misfit, since goals have their names from the conditions that lead there, and its answer may
+     stand under the name that it had; where values are known at which the goal is false it is a fact all the same;
    - every other message is a fact that is not proved.
    One such fact: refused by a false fact. None: refused because the proof text no longer fits.
 4. A program that writes something else than its file `stdout`, or ends with another status: refused by a false fact (runs).
@@ -22,9 +24,12 @@ from typing import NamedTuple
 
 FALSE, MISFIT, NONE, SURVIVED, UNKNOWN = "false fact", "text no longer fits", "no program", "survived", "could not tell"
 
-UNPROVED = "it is not proved"
+UNPROVED, SEARCH = "it is not proved", "search"
 ERROR = re.compile(rf"^(?:note: )?(?P<file>\S+?\.(?:antt|rt)):(?P<line>\d+):\d+: (?P<kind>error(?:\[[\w-]+\])?|{UNPROVED})(?P<words>.*)$")
 UNCLOSED = re.compile(r"^fn (?P<file>\S+): no proof: .*`search` did not prove (?P<words>.*)$")
+
+# What is said of a goal that is false, not only without a proof.
+FALSIFIED = "allow values at which this goal is false"
 
 CONSEQUENCE = re.compile(r"error: \d+ declarations? that depends? on .*(?:was|were) not checked")
 
@@ -61,7 +66,7 @@ def messages(output):
     for line, second in zip(lines, [*lines[1:], ""]):
         match = ERROR.match(line) or UNCLOSED.match(line)
         if match and not CONSEQUENCE.search(line):
-            parts = {"kind": "search", "line": 0, **match.groupdict()}
+            parts = {"kind": SEARCH, "line": 0, **match.groupdict()}
             said = f"{parts['kind']}{parts['words']}" if parts["kind"] == UNPROVED else parts["words"].lstrip(": ")
             words = f"{said} {second.strip()}" if second.startswith("  ") else said
             found.append(Message(parts["file"][2 * parts["file"].startswith("./") :], parts["kind"], words, int(parts["line"])))
@@ -69,9 +74,11 @@ def messages(output):
 
 
 def is_misfit(message, misfitting):
-    """Whether a message says that the text no longer fits; in a file that does not, a term of another type says so too."""
+    """Whether a message says that the text no longer fits; where files do not, a goal without an answer says so too, and in them a term of another type."""
     if GONE.search(message.words):
         return True
+    if message.kind in (UNPROVED, SEARCH):
+        return bool(misfitting) and FALSIFIED not in message.words
     return message.file in misfitting and bool(OTHER_TYPE.search(message.words)) and not TACTIC.search(message.words)
 
 

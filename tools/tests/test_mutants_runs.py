@@ -36,6 +36,7 @@ SEARCH = (
     "fn corner::next_corner: no proof: expected answers in ./proofs/next_corner/Answers.antt; `search` did not prove `returns`\n"
     "note: `returns` of proofs/next_corner/Answers.antt must prove: c.args.c / 4 * 4 + (c.args.c % 4 + 1) % 3 ≡ next c.args.c\n"
 )
+FALSIFIED = SEARCH.replace("(`returns`)\n", "(`returns`); the facts known there allow values at which this goal is false\n")
 CALLER = "fn corner::face: no proof: it calls `corner::next_corner`, which is not proved\n"
 TYPE_ERROR = "src/lib.rt:41:17: error[mismatched-types]: expected `bool`, found `usize`\n"
 UNKNOWN_NAME = "src/lib.rt:42:26: error[unknown-name]: cannot find value `e` in this scope\n"
@@ -55,12 +56,12 @@ class Verdicts(unittest.TestCase):
             self.assert_kind(FALSE, output + TAIL)
 
     def test_text_that_no_longer_fits(self):
-        for output in (GOAL, GONE_FIELD, TWO_LINES, INVARIANT, GOAL + TYPES, TWO_LINES + TYPES, GOAL + SIDES, GOAL + GONE_FIELD + AFTER):
+        for output in (GOAL, GONE_FIELD, TWO_LINES, INVARIANT, GOAL + TYPES, TWO_LINES + TYPES, GOAL + SIDES, GOAL + GONE_FIELD + AFTER, GOAL + SEARCH):
             self.assert_kind(MISFIT, output + TAIL)
 
     def test_false_fact_beside_a_text_that_no_longer_fits(self):
-        """What a tactic says of a goal counts in such a file, and every message of another file."""
-        for output in (GOAL + OMEGA, GOAL + GRIND, GOAL + LAW):
+        """What a tactic says of a goal counts in such a file, every message of another file, and a goal that is known to be false."""
+        for output in (GOAL + OMEGA, GOAL + GRIND, GOAL + LAW, GOAL + FALSIFIED):
             self.assert_kind(FALSE, output + TAIL)
 
     def test_no_program(self):
