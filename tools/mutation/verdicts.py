@@ -35,7 +35,7 @@ CONSEQUENCE = re.compile(r"error: \d+ declarations? that depends? on .*(?:was|we
 
 # What a proof says whose text does not fit the program.
 GONE = re.compile(
-    r"that can be named from here|has no field|is not in scope|has no module|there is no module|is not a field"
+    r"that can be named from here|has no field|is not in scope(?! here)|has no module|there is no module|is not a field"
     r"|is applied to an argument but has type|too many arguments|too few arguments"
 )
 

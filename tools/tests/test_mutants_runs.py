@@ -23,6 +23,7 @@ TAIL = "fn corner::wide: proved\nlogic=not-proved\n"
 OMEGA = f"{PROOF}:23:21: error: `overflow_add-e`: `omega`: the goal does not follow from what it read. All of that holds, and the goal fails, at `f`\n"
 TYPES = f"{PROOF}:26:13: error: `returns`: expected type `Reads.Post (tt {{0}})`\n  but this has type `mathlib.Core.Path.◌≡◌ (take 4 faces)`\n"
 SIDES = f"{PROOF}:26:31: error: `returns`: as printed, the two types first differ where one has `3` (expected)\n  and the other has `4` (found)\n"
+SHOWN = f"{PROOF}:63:21: error: `refused`: expected type `a ≡ some k`, but this has type `b ≡ ?8 M d e`\n  here `?8` is implicit; `k` is not in scope here\n"
 GOAL = f"{PROOF}:9:28: error: `returns-a`: `goal.returns-a`: module `Rattle.corner.proofs.face_corners.Goals` has no `returns-a` that can be named from here\n"
 GONE_FIELD = f"{PROOF}:26:46: error: `returns`: record `Rattle.corner.proofs.face_corners.Lts.Start` has no field `before`\n"
 TWO_LINES = f"{PROOF}:26:46: error: `next-is`: record `Rattle.entries.proofs.vertex_twice.Lts.After-across_corner`\n  has no field `next_corner`\n"
@@ -52,7 +53,7 @@ class Verdicts(unittest.TestCase):
         self.assertEqual(verdict(status, output).kind, kind, output)
 
     def test_false_facts(self):
-        for output in (OMEGA, TYPES, SIDES, GRIND, SEARCH, SEARCH + CALLER, LAW + LATER, OMEGA + AFTER):
+        for output in (OMEGA, TYPES, SIDES, SHOWN, GRIND, SEARCH, SEARCH + CALLER, LAW + LATER, OMEGA + AFTER):
             self.assert_kind(FALSE, output + TAIL)
 
     def test_text_that_no_longer_fits(self):
