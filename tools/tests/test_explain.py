@@ -33,7 +33,7 @@ class Program(unittest.TestCase):
     def setUpClass(cls):
         # the tool builds the program where it is missing
         subprocess.run([ROOT / "tools" / "tessellate", SQUARE], stdout=subprocess.DEVNULL, check=True)
-        cls.program = ROOT / "target" / "bin" / "tessellate"
+        cls.program = ROOT / "crates" / "tessellate" / "out" / "tessellate"
 
     def test_every_vector(self):
         names = (VECTORS / "args").read_text().split()

@@ -17,7 +17,7 @@ class FailedWrite(unittest.TestCase):
     def setUpClass(cls):
         # the tool builds the program where it is missing
         cls.listing = subprocess.run([ROOT / "tools" / "tessellate", CUBE], stdout=subprocess.PIPE, check=True).stdout
-        cls.program = ROOT / "target" / "bin" / "tessellate"
+        cls.program = ROOT / "crates" / "tessellate" / "out" / "tessellate"
 
     def said(self, output):
         """What the program says on standard error with this output."""
