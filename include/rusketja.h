@@ -15,11 +15,11 @@
  * State: none. A call keeps nothing between calls, allocates nothing and has no data of its own that is written; it may be made again
  * before another has returned, and from several threads at once, as long as none writes a list or a number that another is handed.
  *
- * Stack: have 64 KiB free. Found in two ways, which agree within 100 bytes, on the archive of this version: by the frames and calls
- * in its machine code, and by how much of a painted stack the calls wrote over. rusketja_patches takes fewer than 41,600 bytes,
- * rusketja_tangents fewer than 26,000, rusketja_mirror fewer than 6,600, rusketja_check fewer than 4,500, rusketja_edge_weight
- * and rusketja_face_weight fewer than 1,000, the others fewer than 256, whatever the sizes; no call recurses. The arrays in
- * crates/mesh/src, crates/patch/src and crates/tangent/src and the tables in crates/cosine/src make up nearly all of it.
+ * Stack: have 64 KiB free. Found by how much of a painted stack the calls wrote over, with the archive of this version, on closed
+ * and open meshes of 16 to 256 faces, all of which took the same. rusketja_patches takes fewer than 41,600 bytes,
+ * rusketja_tangents fewer than 26,000, rusketja_mirror fewer than 6,600, rusketja_check fewer than 4,500, rusketja_edge_weight and
+ * rusketja_face_weight fewer than 1,000, the others fewer than 256; no call recurses. The arrays in crates/mesh/src,
+ * crates/patch/src and crates/tangent/src make up nearly all of it.
  *
  * Lengths, for V vertices, F faces and n steps:
  *

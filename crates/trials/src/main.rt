@@ -1,7 +1,7 @@
 // Runs the calls on each trial that an argument names (a file, see reading.rt), and prints one line for it, which begins with the
 // name; a patch trial, a mirror trial, a line trial, a weight trial and a tangent trial have more lines. mesh_trial.rt, patch_trial.rt,
 // mirror_trial.rt, sample_trial.rt, marked_trial.rt, line_trial.rt, weight_trial.rt and tangent_trial.rt say what follows the name. `no
-// file` says that none has that name, `not whole` that the file is longer or shorter than its sizes and lists, and `too long` that a list
+// file` says that none has that name, as a name that is no UTF-8 text, `not whole` that the file is longer or shorter than its sizes and lists, and `too long` that a list
 // has more places than reading.rt has for it.
 #![tactic(auto)]
 

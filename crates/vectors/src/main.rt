@@ -20,7 +20,7 @@ fn read_file(rt: HostRuntime, file: File) -> io::Result<Vec<u8>> {
     }
 }
 
-// The lines of an open file. Of a write that fails nothing is said.
+// The lines of an open file. Of a write of these lines that fails nothing is said.
 fn print_file(rt: HostRuntime, file: File) -> io::Result<()> {
     let input = read_file(rt, file)?;
     let mut patches = [0i32; printing::PATCH_PLACES];
