@@ -8,7 +8,7 @@ CONTRACTS = ("requires", "ensures", "invariant", "decreases")
 
 
 class Item(NamedTuple):
-    """A function or a constant: its kind, its name, where its words start, and where those of its body or value start and stop."""
+    """A function or a constant, a `static` among them: its kind, its name, where its words start, and where those of its body or value start and stop."""
 
     kind: str
     name: str
@@ -55,6 +55,16 @@ def constant_value(words, at):
     return here[0] + 1, here[1]
 
 
+def owner_of(words, at, brace):
+    """The name of the type of the `impl` at this place, whose body begins at the brace."""
+    depth, name = 0, ""
+    for word in words[at + 1 : brace]:
+        depth += word.text.count("<") - word.text.count(">")
+        if depth == 0 and word.kind == "name":
+            name = word.text
+    return name
+
+
 def items(words, start=0, stop=None, owner=""):
     """The functions and constants of a file, those of an `impl` with the name of its type."""
     at, stop = start, len(words) if stop is None else stop
@@ -68,13 +78,13 @@ def items(words, start=0, stop=None, owner=""):
             end = closing(words, body)
             yield Item("fn", name, at, body, end + 1)
             at = end + 1
-        elif text == "const" and words[at + 1].text != "fn":
+        elif text in ("const", "static") and words[at + 1].text != "fn":
             begin, end = constant_value(words, at)
             yield Item("const", owner + words[at + 1].text, at, begin, end)
             at = end + 1
         elif text == "impl":
             brace = function_body(words, at)
-            yield from items(words, brace + 1, closing(words, brace), f"{words[brace - 1].text}::")
+            yield from items(words, brace + 1, closing(words, brace), f"{owner_of(words, at, brace)}::")
             at = closing(words, brace) + 1
         else:
             at = closing(words, at) + 1 if text in ("{", "(", "[") else at + 1

@@ -163,7 +163,7 @@ class Tables(unittest.TestCase):
     def table(self, file, name, length):
         """The numbers of a table in the code."""
         code = (ROOT / "crates" / "cosine" / "src" / file).read_text(encoding="utf-8")
-        found = re.search(rf"^pub\(crate\) const {name}: \[i32; {length}\] = \[\n((?:    -?\d+,(?: -?\d+,)*\n)*)\];$", code, re.MULTILINE)
+        found = re.search(rf"^pub\(crate\) static {name}: \[i32; (?:{length}|TABLE_LENGTH)\] = \[\n((?:    -?\d+,(?: -?\d+,)*\n)*)\];$", code, re.MULTILINE)
         self.assertIsNotNone(found, name)
         return [int(x) for x in found[1].replace(",", " ").split()]
 

@@ -41,15 +41,22 @@ def is_public(words, at):
     return before[-1:] == ["pub"] or before == ["pub", "extern", '"C"']
 
 
+def called(words, at):
+    """Whether the name at this place is called, with its types or without them."""
+    return words[at + 1].text == "(" or [word.text for word in words[at + 1 : at + 3]] == ["::", "<"]
+
+
 def within(words, item, names, others):
-    """The functions that a body calls and the constants that it names, but for those of other crates."""
+    """The functions that a body calls and the constants that it names, but for those of other crates; of a method each of its name."""
     found = set()
     for at in range(item.start, item.stop):
         word, before = words[at].text, [word.text for word in words[max(at - 2, 0) : at]]
         owner = before[0] if before[1:] == ["::"] else None
-        if names.get(f"{owner}::{word}") == "const":
+        if f"{owner}::{word}" in names:
             found.add(f"{owner}::{word}")
-        elif before[-1:] != ["."] and owner not in others and (names.get(word) == "const" or names.get(word) == "fn" and words[at + 1].text == "("):
+        elif (before[-1:] == ["."] or owner and owner not in others) and called(words, at) or owner == "Self":
+            found |= {name for name in names if name.endswith(f"::{word}")}
+        elif before[-1:] != ["."] and owner not in others and (names.get(word) == "const" or names.get(word) == "fn" and called(words, at)):
             found.add(word)
     return found
 
@@ -195,8 +202,12 @@ class Edits(unittest.TestCase):
 LIB = """
 const LIMIT: usize = 4;
 
-impl Size {
+impl<'a> Size<'a> {
     pub const MOST: usize = 9;
+
+    fn twice(&self) -> usize {
+        2 * self.n
+    }
 }
 
 pub fn first(n: usize) -> bool
@@ -206,7 +217,7 @@ pub fn first(n: usize) -> bool
 }
 
 pub fn second(n: usize) -> usize {
-    let q = other::third(n);
+    let q = other::third(n).twice();
     Found { below: n.below, most: Size::MOST + q }
 }
 
@@ -255,7 +266,7 @@ class Faults(unittest.TestCase):
     def test_code(self):
         self.assertEqual(self.code.public, {"first", "second", "third"})
         self.assertEqual(reached(self.code, "first"), {"first", "below", "LIMIT"})
-        self.assertEqual(reached(self.code, "second"), {"second", "Size::MOST"})
+        self.assertEqual(reached(self.code, "second"), {"second", "Size::MOST", "Size::twice"})
         self.assertEqual(reached(self.code, "third"), {"third", "fourth"})
 
     def test_nothing(self):

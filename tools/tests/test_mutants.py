@@ -256,7 +256,7 @@ class Repository(unittest.TestCase):
         kept = re.compile(r"^\s*(//|use |ghost use |pub use |mod |pub mod |requires |ensures |pub struct|pub enum)")
         for crate in ("corner", "limits", "mask", "entries", "integer"):
             made = mutants.of_crate(ROOT, crate, 0, False)
-            self.assertGreater(len(made), 40)
+            self.assertGreater(len(made), 20)
             for mutant in made:
                 before = (ROOT / mutant.path).read_text(encoding="utf-8").splitlines()
                 after = mutant.text.splitlines()

@@ -379,7 +379,7 @@ class Command(Case):
             self.assertIn(said, done.stderr if status else done.stdout)
 
     def test_list(self):
-        for words, least in ((["corner"], 50), (["corner", "--specs"], 80), (["corner", "mask", "--specs", "--sample", "3"], 6)):
+        for words, least in ((["corner"], 40), (["corner", "--specs"], 70), (["corner", "mask", "--specs", "--sample", "3"], 6)):
             lines = self.done("mutants", *words, "--list").decode().splitlines()
             self.assertGreaterEqual(len(lines), least)
             self.assertEqual({line.split()[0] for line in lines}, {word for word in words if word in ("corner", "mask")})

@@ -131,7 +131,7 @@ def anchors(path):
 
 def current():
     """The pages that speak of the repository as it is."""
-    return [ROOT / "README.md", *(page for page in sorted((ROOT / "docs").glob("*.md")) if page.name not in ("CHANGES.md", "PORT.md"))]
+    return [ROOT / "README.md", *(page for page in sorted((ROOT / "docs").glob("*.md")) if page.name not in ("CHANGES.md", "DESIGN-PASS.md", "PORT.md"))]
 
 
 class Links(unittest.TestCase):

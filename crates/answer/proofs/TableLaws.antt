@@ -3,18 +3,18 @@
 --
 --   From rows rest   what is first met of rows is what is first met of rest, the rows that are not checked yet
 --   or_else m m'    the first of two numbers, where it is there, else the second
---   Met rows met   `met` is the number of the first cause met of the rows, 0 for none
 --   over g answer  the answer with g of its result, or the same refusal
 --   `first_met (row b k ∷ rows)` is `cond b (some k) (first_met rows)`; the laws speak of that form, with m what the rows after it give.
 use mathlib.Core.Path.{◌≡◌, refl, sym, ap, ◌∙◌}
 use mathlib.Core.Bool.{Bool, true, false, cond}
 use mathlib.Core.List.{List, [], ◌∷◌, ◌++◌}
 use mathlib.Core.Option.{Option, none, some}
-use Prim.Native.Nat.{ℕ, zero, suc}
-use native.Mathlib.Nat.{suc-ne-zero}
+use Prim.Native.Nat.{ℕ}
 use native.Mathlib.Omega.{arith}
-use borrow.Author.Tests.{ne_eqb}
-use Rattle.answer.specs.Table.{Row, row, first_met, Answer, result, refusal, answer_by, refusal_of, met_or, outcome, outcome_of}
+use Rattle.std.specs.Prelude.{Ok, Err}
+use Rattle.answer.specs.declared.refusal.Refusal.{Refusal}
+use Rattle.answer.specs.Number.{number}
+use Rattle.answer.specs.Table.{Row, row, first_met, Answer, result, refusal, answer_by, answered, refused, result_of, refuse_by}
 
 -- ---- one row
 module _ (k : ℕ) (m : Option ℕ) {b : Bool} where
@@ -76,10 +76,10 @@ pub refusal-met : {A : Type 0} (x : A) {k : ℕ} (met : Option ℕ) → refusal 
 refusal-met x none e = let z : ◌≡◌ {A = ℕ} 0 1 = cc in absurd (omega arith)
 refusal-met x (some j) e = cc
 
--- the code's enum has a case for each answer
-pub outcome-of : (a : Answer Unit) → outcome (outcome_of a) ≡ a
-outcome-of (result done) = refl
-outcome-of (refusal k) = refl
+-- the code's `Result` has a value for each answer
+pub result-of : {A : Type 0} (a : Answer A) → answered (result_of a) ≡ a
+result-of (result a) = refl
+result-of (refusal k) = refl
 
 -- another result, by the same causes
 abbrev pub over : {A B : Type 0} → (A → B) → Answer A → Answer B
@@ -89,11 +89,6 @@ over g (refusal k) = refusal k
 pub over_by : {A B : Type 0} (g : A → B) (met : Option ℕ) (a : A) → over g (answer_by met a) ≡ answer_by met (g a)
 over_by g none a = refl
 over_by g (some k) a = refl
-
--- a refusal that is handed on as a number
-pub refusal-some : (r : ℕ) → (r ≡ 0 → ⊥) → refusal_of r ≡ some r
-refusal-some zero h = absurd (h refl)
-refusal-some (suc k) h = refl
 
 -- ---- checking row by row
 pub record From (rows rest : List Row) : Type 0 where
@@ -109,23 +104,39 @@ module _ {rows rest : List Row} {b : Bool} {k : ℕ} (l : From rows (row b k ∷
   pub row-passed : b ≡ false → From rows rest
   row-passed e = record { same = l.same ∙ rw e }
 
--- ---- a table that the code checks a row at a time, each by `first_met`
-pub record Met (rows : List Row) (met : ℕ) : Type 0 where
-  pub first : first_met rows ≡ refusal_of met
+-- ---- a row that the code checks by `refuse`
+-- it refuses: its cause is met, and the refusal is the row's
+pub refuse-met : (b : Bool) (r : Refusal) {e : Refusal} → refuse_by b r ≡ Err e → (b ≡ true) × (e ≡ r)
+refuse-met true r h = (refl, cc)
+refuse-met false r h = cc
 
-pub no_row : Met [] 0
-no_row = record { first = refl }
+-- it does not: its cause is not met
+pub refuse-passed : (b : Bool) (r : Refusal) {u : Unit {0}} → refuse_by b r ≡ Ok u → b ≡ false
+refuse-passed true r h = cc
+refuse-passed false r h = refl
 
--- one row more: its cause b is what the code tested, and its number is not 0
-pub next_row : {rows : List Row} {met r k : ℕ} {b b' : Bool} → Met rows met → r ≡ met_or met b' k → b' ≡ b → refusal_of k ≡ some k
-    → Met (rows ++ (row b k ∷ [])) r
-next_row {rows} {met} {r} {k} {b} {b'} m said same some-k = record {
-  first =
-      first-append rows (row b k ∷ []) ∙ ap (λ (x : Option ℕ). or_else x (first_met (row b k ∷ []))) m.first ∙ go met b
-      ∙ sym (ap refusal_of (said ∙ ap (λ (x : Bool). met_or met x k) same));
-}
+module _ {rows rest : List Row} {b : Bool} (r : Refusal) (l : From rows (row b (number r) ∷ rest)) where
+  pub row-refused : {e : Refusal} → refuse_by b r ≡ Err e → first_met rows ≡ some (number e)
+  row-refused h = let q = refuse-met b r h in row-met l q.0 ∙ ap (λ (x : Refusal). some (number x)) (sym q.1)
+
+  pub row-let-through : {u : Unit {0}} → refuse_by b r ≡ Ok u → From rows rest
+  row-let-through h = row-passed l (refuse-passed b r h)
+
+-- the last row: what it gives is what the table gives
+pub last-row : {rows : List Row} {b : Bool} (r : Refusal) → From rows (row b (number r) ∷ []) → first_met rows ≡ refused (refuse_by b r)
+last-row {rows} {b} r l = l.same ∙ go b
   where
-    go : (m : ℕ) (x : Bool) → or_else (refusal_of m) (first_met (row x k ∷ [])) ≡ refusal_of (met_or m x k)
-    go zero true = sym some-k
-    go zero false = refl
-    go (suc j) x = simp (ne_eqb (suc j) 0 (suc-ne-zero j))
+    go : (x : Bool) → first_met (row x (number r) ∷ []) ≡ refused (refuse_by x r)
+    go true = refl
+    go false = refl
+
+-- ---- the same, where the code tests b', which says what the row's cause b says
+module _ {rows rest : List Row} {b : Bool} (r : Refusal) (l : From rows (row b (number r) ∷ rest)) {b' : Bool} (same : b' ≡ b) where
+  pub told-refused : {e : Refusal} → refuse_by b' r ≡ Err e → first_met rows ≡ some (number e)
+  told-refused h = row-refused r l (sym (ap (λ (x : Bool). refuse_by x r) same) ∙ h)
+
+  pub told-through : {u : Unit {0}} → refuse_by b' r ≡ Ok u → From rows rest
+  told-through h = row-let-through r l (sym (ap (λ (x : Bool). refuse_by x r) same) ∙ h)
+
+pub told-last : {rows : List Row} {b b' : Bool} (r : Refusal) → From rows (row b (number r) ∷ []) → b' ≡ b → first_met rows ≡ refused (refuse_by b' r)
+told-last r l same = last-row r l ∙ ap (λ (x : Bool). refused (refuse_by x r)) (sym same)

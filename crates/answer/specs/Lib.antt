@@ -1,2 +1,3 @@
 -- The definitions of the crate: tables of causes, and answers.
+pub mod Number
 pub mod Table

@@ -5,14 +5,16 @@
 --   Answer A             what a call returns: its result, or the number of a refusal
 --   answer_by met a       the refusal that was met, else the result a
 --   written_by met before after   a lent list afterwards: as it was before after a refusal, else what was written
---   refusal_of r          a refusal as functions hand it on: its number, 0 for none
---   met_or met cause number   the number of the first cause met after one more row, where `met` says which of the rows before it was
---   outcome r            the answer of a call without a result, for each case of the code's enum `Outcome`
---   outcome_of a          the case of the enum that an answer is
-use Rattle.std.specs.Prelude.{Bool, cond, List, [], ◌∷◌, ℕ, zero, suc, eqb}
+--   answered r            the answer that the code's `Result` is: its value, or the number of its refusal
+--   refused r             the number of the refusal that the code's `Result` is, if it is one
+--   result_of a           a `Result` that is the answer a
+--   refuse_by cause r     what checking one row gives: the refusal r where its cause is met
+--   met_or met cause r    the first refusal met after one more row, where `met` says which of the rows before it was
+use Rattle.std.specs.Prelude.{Bool, cond, List, [], ◌∷◌, ℕ, Result, Ok, Err}
 use Rattle.std.proofs.Math.Option.{Option, none, some}
-use Rattle.answer.specs.declared.model.Outcome.{Outcome}
-use Rattle.answer.specs.declared.model.Outcome.TheVariants.{Done, Refused}
+use Rattle.answer.specs.declared.refusal.Refusal.{Refusal}
+use Rattle.answer.specs.declared.refusal.Refusal.TheVariants.{Other}
+use Rattle.answer.specs.Number.{number}
 
 -- a row of the table
 pub record Row : Type 0 where
@@ -38,17 +40,21 @@ abbrev pub written_by : {A : Type 0} → Option ℕ → A → A → A
 written_by none before after = after
 written_by (some k) before after = before
 
-abbrev pub refusal_of : ℕ → Option ℕ
-refusal_of zero = none
-refusal_of (suc k) = some (suc k)
+abbrev pub answered : {A : Type 0} → Result A Refusal → Answer A
+answered (Ok a) = result a
+answered (Err r) = refusal (number r)
 
-abbrev pub met_or : ℕ → Bool → ℕ → ℕ
-met_or met cause number = cond (eqb met 0) (cond cause number 0) met
+abbrev pub refused : {A : Type 0} → Result A Refusal → Option ℕ
+refused (Ok a) = none
+refused (Err r) = some (number r)
 
-abbrev pub outcome : Outcome → Answer Unit
-outcome Done = result tt
-outcome (Refused k) = refusal k
+abbrev pub result_of : {A : Type 0} → Answer A → Result A Refusal
+result_of (result a) = Ok a
+result_of (refusal k) = Err (Other k)
 
-abbrev pub outcome_of : Answer Unit → Outcome
-outcome_of (result done) = Done
-outcome_of (refusal k) = Refused k
+abbrev pub refuse_by : Bool → Refusal → Result Unit Refusal
+refuse_by cause r = cond cause (Err r) (Ok tt)
+
+abbrev pub met_or : Result Unit Refusal → Bool → Refusal → Result Unit Refusal
+met_or (Ok done) cause r = refuse_by cause r
+met_or (Err first) cause r = Err first

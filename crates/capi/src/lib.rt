@@ -4,15 +4,15 @@
 pub mod samples;
 
 ghost use Rattle.std.specs.Prelude.{◌≡◌, ◌∷◌, []};
-ghost use Rattle.answer.specs.Table.{outcome};
+ghost use Rattle.answer.specs.Table.{answered};
 ghost use Rattle.mesh.specs.IndexedMesh.{indexed};
-ghost use Rattle.mesh.specs.Answer.{checked};
 ghost use Rattle.cosine.specs.Cosine.{Entry};
 ghost use Rattle.cosine.specs.Weight.{edge_weight, face_weight};
-ghost use Rattle.capi.specs.Answer.{code, CornersTold, CountsStored, CheckStored, PatchesStored, MirrorStored, TangentsStored};
+ghost use Rattle.capi.specs.Answer.{code, counted, CornersTold, CheckStored, PatchesStored, MirrorStored, TangentsStored};
 
-use answer::model::Outcome;
-use limits::model::Checked;
+use answer::refusal::Refusal;
+use limits::model::Mesh;
+use mesh::model::MeshLists;
 
 // The corners of face f: `corner::face_corners`, whose part of the face list C is told by its first place and its length.
 // Returns: the number of corners, 4, or 0 where 4f + 4 is above the length of indices.
@@ -30,27 +30,32 @@ pub extern "C" fn rusketja_face_corners(indices: &[u16], f: usize, first: &mut u
     n
 }
 
-// The number that a mesh call returns, with the counts of an accepted mesh stored into the four lent numbers.
+// The number that a call returns: 0, or that of the refusal.
+pub(crate) fn code<T: Drop>(answer: Result<T, Refusal>) -> u8
+    ensures { result ≡ code (answered answer) }
+{
+    match answer {
+        Ok(_) => 0,
+        Err(refusal) => u8::from(refusal),
+    }
+}
+
+// Stores the counts of an accepted mesh into the four lent numbers.
 fn store_counts(
-    answer: Checked,
+    answer: Result<Mesh, Refusal>,
     vertices: &mut usize,
     faces: &mut usize,
     edges: &mut usize,
     boundary: &mut usize,
-) -> u8
-    ensures { CountsStored (checked answer)
-        (vertices.old ∷ (faces.old ∷ (edges.old ∷ (boundary.old ∷ [])))) result
-        (vertices.new ∷ (faces.new ∷ (edges.new ∷ (boundary.new ∷ [])))) }
+)
+    ensures { vertices.new ∷ (faces.new ∷ (edges.new ∷ (boundary.new ∷ [])))
+        ≡ counted (answered answer) (vertices.old ∷ (faces.old ∷ (edges.old ∷ (boundary.old ∷ [])))) }
 {
-    match answer {
-        Checked::Accepted(m) => {
-            *vertices = m.vertices;
-            *faces = m.faces;
-            *edges = m.edges;
-            *boundary = m.boundary;
-            0
-        }
-        Checked::Refused(k) => k,
+    if let Ok(mesh) = answer {
+        *vertices = mesh.vertices;
+        *faces = mesh.faces;
+        *edges = mesh.edges;
+        *boundary = mesh.boundary;
     }
 }
 
@@ -76,8 +81,17 @@ pub extern "C" fn rusketja_check(
         (vertices.old ∷ (faces.old ∷ (edges.old ∷ (boundary.old ∷ [])))) result twins.new
         (vertices.new ∷ (faces.new ∷ (edges.new ∷ (boundary.new ∷ [])))) }
 {
-    let answer = mesh::check(v, f, positions, tags, indices, twins);
-    store_counts(answer, vertices, faces, edges, boundary)
+    // Here and in the three calls below the five parameters become one: they are C's interface, and a function that only names them would be no plainer.
+    let mesh = MeshLists {
+        vertices: v,
+        faces: f,
+        positions,
+        tags,
+        indices,
+    };
+    let checked = mesh::check(mesh, twins);
+    store_counts(checked, vertices, faces, edges, boundary);
+    code(checked)
 }
 
 // The patches of a mesh of v vertices and f faces, which is checked first: `patch::patches`.
@@ -107,18 +121,16 @@ pub extern "C" fn rusketja_patches(
         twins.new patches.new exact.new
         (vertices.new ∷ (faces.new ∷ (edges.new ∷ (boundary.new ∷ [])))) }
 {
-    let answer = patch::patches(v, f, positions, tags, indices, twins, patches, exact);
-    store_counts(answer, vertices, faces, edges, boundary)
-}
-
-// The number that a call without a result returns: 0 where it is done, or the number of the refusal.
-pub(crate) fn outcome_code(answer: Outcome) -> u8
-    ensures { result ≡ code (outcome answer) }
-{
-    match answer {
-        Outcome::Done => 0,
-        Outcome::Refused(k) => k,
-    }
+    let mesh = MeshLists {
+        vertices: v,
+        faces: f,
+        positions,
+        tags,
+        indices,
+    };
+    let patched = patch::patches(mesh, twins, patches, exact);
+    store_counts(patched, vertices, faces, edges, boundary);
+    code(patched)
 }
 
 // The mirror image of a mesh of v vertices and f faces, which is checked first: `edit::mirror`.
@@ -139,17 +151,15 @@ pub extern "C" fn rusketja_mirror(
         out_positions.old out_tags.old out_indices.old result
         out_positions.new out_tags.new out_indices.new }
 {
-    let answer = edit::mirror(
-        v,
-        f,
+    let mesh = MeshLists {
+        vertices: v,
+        faces: f,
         positions,
         tags,
         indices,
-        out_positions,
-        out_tags,
-        out_indices,
-    );
-    outcome_code(answer)
+    };
+    let answer = edit::mirror(mesh, out_positions, out_tags, out_indices);
+    code(answer)
 }
 
 // The tangent vectors of face g of a mesh of v vertices and f faces, which is checked first: `tangent::tangents`.
@@ -168,8 +178,15 @@ pub extern "C" fn rusketja_tangents(
     ensures { TangentsStored (indexed v f positions.now tags.now indices.now) g
         tangents.old result tangents.new }
 {
-    let answer = tangent::tangents(v, f, positions, tags, indices, g, tangents);
-    outcome_code(answer)
+    let mesh = MeshLists {
+        vertices: v,
+        faces: f,
+        positions,
+        tags,
+        indices,
+    };
+    let answer = tangent::tangents(mesh, g, tangents);
+    code(answer)
 }
 
 // The cosine of 2 pi / m (rules D1 and D5): `cosine::cosine`.

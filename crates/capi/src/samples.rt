@@ -1,23 +1,46 @@
 // The samples of a patch list for C: one by one, with a mark, in micrometres, and by lines.
 ghost use Rattle.std.specs.Prelude.{◌≡◌, ◌∷◌, []};
-ghost use Rattle.finite.specs.Fold.{indicator};
-ghost use Rattle.sample.specs.Answer.{sample_answer};
+ghost use Rattle.answer.specs.Table.{Answer, answered};
+ghost use Rattle.sample.specs.Answer.{sample_answer, Reads};
+ghost use Rattle.sample.specs.declared.model.Point.{Point};
 ghost use Rattle.sample.specs.Marked.{marked_answer};
-ghost use Rattle.capi.specs.Answer.{coordinates, SampleStored, MarkedStored, ReadingStored, LineStored};
+ghost use Rattle.capi.specs.Answer.{placed, mark_stored, Read, SampleStored, MarkedStored, ReadingStored, LineStored};
 
-use crate::outcome_code;
-use sample::model::{Marked, Point, Reading, Sampled};
+use crate::code;
+use answer::refusal::Refusal;
+use sample::model::{MarkedPoint, Micrometres, Place, Point};
 
-// Stores a sample into the three lent numbers.
-fn store_point(p: Point, x: &mut i32, y: &mut i32, z: &mut i32)
-    ensures { x.new ∷ (y.new ∷ (z.new ∷ [])) ≡ coordinates p }
+// Stores a sample into the three lent numbers, where there is one.
+fn store_sample(answer: Result<Point, Refusal>, x: &mut i32, y: &mut i32, z: &mut i32)
+    ensures { x.new ∷ (y.new ∷ (z.new ∷ []))
+        ≡ placed (answered answer) (x.old ∷ (y.old ∷ (z.old ∷ []))) }
 {
-    let px = p.x;
-    let py = p.y;
-    let pz = p.z;
-    *x = px;
-    *y = py;
-    *z = pz;
+    if let Ok(point) = answer {
+        *x = point.x;
+        *y = point.y;
+        *z = point.z;
+    }
+}
+
+// Stores the mark of a marked sample into the lent byte, where there is one: 1 for an exact sample, else 0.
+fn store_mark(answer: Result<MarkedPoint, Refusal>, mark: &mut u8)
+    ensures { mark.new ≡ mark_stored (answered answer) mark.old }
+{
+    if let Ok(sample) = answer {
+        *mark = u8::from(sample.exact);
+    }
+}
+
+// Stores a reading into the three lent doubles, where there is one. A sample is stored as it is and told by its numbers, a reading by what its doubles mean:
+// one generic function would promise neither.
+fn store_reading(answer: Result<Micrometres, Refusal>, x: &mut f64, y: &mut f64, z: &mut f64)
+    ensures { (held : Answer Point) → Reads answer held → Read held x.old y.old z.old x.new y.new z.new }
+{
+    if let Ok(reading) = answer {
+        *x = reading.x;
+        *y = reading.y;
+        *z = reading.z;
+    }
 }
 
 // The sample of face f at (a, b), for N = n (rules S1 to S4): `sample::sample`.
@@ -39,23 +62,9 @@ pub extern "C" fn rusketja_sample(
         (x.old ∷ (y.old ∷ (z.old ∷ []))) result
         (x.new ∷ (y.new ∷ (z.new ∷ []))) }
 {
-    match sample::sample(patches, f, n, a, b) {
-        Sampled::At(p) => {
-            store_point(p, x, y, z);
-            0
-        }
-        Sampled::Refused(k) => k,
-    }
-}
-
-// A mark as a byte: 1 for yes, 0 for no.
-fn mark_byte(exact: bool) -> u8
-    ensures { result ≡ indicator exact }
-{
-    if exact {
-        return 1;
-    }
-    0
+    let sampled = sample::sample(patches, n, Place { face: f, a, b });
+    store_sample(sampled, x, y, z);
+    code(sampled)
 }
 
 // The sample of face f at (a, b), for N = n, and whether it is exact (rule S7): `sample::marked_sample`.
@@ -80,15 +89,10 @@ pub extern "C" fn rusketja_marked_sample(
         (x.old ∷ (y.old ∷ (z.old ∷ []))) mark.old result
         (x.new ∷ (y.new ∷ (z.new ∷ []))) mark.new }
 {
-    match sample::marked_sample(patches, exact, f, n, a, b) {
-        Marked::At(p) => {
-            let whole = p.exact;
-            store_point(p.point, x, y, z);
-            *mark = mark_byte(whole);
-            0
-        }
-        Marked::Refused(k) => k,
-    }
+    let marked = sample::marked_sample(patches, exact, n, Place { face: f, a, b });
+    store_sample(marked.map(|sample| sample.point), x, y, z);
+    store_mark(marked, mark);
+    code(marked)
 }
 
 // The sample of face f at (a, b), for N = n, in micrometres (rule S5): `sample::reading`.
@@ -110,15 +114,9 @@ pub extern "C" fn rusketja_reading(
         x.old y.old z.old result
         x.new y.new z.new }
 {
-    match sample::reading(patches, f, n, a, b) {
-        Reading::At(p) => {
-            *x = p.x;
-            *y = p.y;
-            *z = p.z;
-            0
-        }
-        Reading::Refused(k) => k,
-    }
+    let reading = sample::reading(patches, n, Place { face: f, a, b });
+    store_reading(reading, x, y, z);
+    code(reading)
 }
 
 // All samples of face f with one b, for N = n, a from 0 to n (rule S6): `line::sample_line`.
@@ -135,5 +133,5 @@ pub extern "C" fn rusketja_sample_line(
     ensures { LineStored patches.now f n b line.old result line.new }
 {
     let answer = line::sample_line(patches, f, n, b, line);
-    outcome_code(answer)
+    code(answer)
 }

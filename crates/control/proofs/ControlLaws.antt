@@ -1,47 +1,18 @@
--- Values, faces and points are the same where their parts are; and the fractions of the masks are small for all numbers of 32 bits and all weights of 16.
+-- The fractions of the masks are small for all numbers of 32 bits and all weights of 16.
 --
 --   Narrow a       the four values of a face are of 32 bits
-use mathlib.Core.Path.{◌≡◌}
-use mathlib.Core.Bool.{Bool, ◌&&◌}
 use Prim.Native.Nat.{ℕ, ◌*◌, ◌+◌, ◌-◌, ◌≤◌, ◌<◌, ◌^◌}
 use native.Mathlib.Nat.{mul-le-mul}
 use native.Mathlib.Omega.{arith}
 use lib.Dec.{ltb}
 use lib.IntN.{ℤ, pos, negsuc, nat_abs, ◌*ℤ◌}
 use lib.Signed.{mag}
-use borrow.Author.Tests.{eq-eqb, ne_eqb, ltb-false}
+use borrow.Author.Tests.{ltb-false}
 use Rattle.integer.proofs.Laws.{abs-+, abs-*}
 use Rattle.finite.proofs.FoldLaws.{bool_cases}
-use Rattle.limits.specs.Limits.{no_twin}
 use Rattle.mask.specs.Mask.{Fraction, inner_mask, edge_mask, boundary_edge_mask, smooth_corner_mask, sharp_corner_mask, max_sharpness, corner_mask}
 use Rattle.mask.specs.declared.model.FaceValues.{FaceValues}
 use Rattle.mask.proofs.LinearLaws.{Related, bounds, inner-mask, edge-mask, boundary-edge-mask}
-use Rattle.control.specs.Control.{value_of, point_of, linked}
-use Rattle.control.specs.declared.model.Value.{Value}
-use Rattle.control.specs.declared.model.ControlPoint.{ControlPoint}
-
--- ---- part by part
-pub same-value : {u u' : ℤ} {e e' : Bool} → u ≡ u' → e ≡ e' → ◌≡◌ {A = Value} (record { units = u; exact = e }) (record { units = u'; exact = e' })
-same-value p q = cc
-
-pub same_point : {x y z x' y' z' : ℤ} {e e' : Bool} → x ≡ x' → y ≡ y' → z ≡ z' → e ≡ e'
-    → ◌≡◌ {A = ControlPoint} (record { x = x; y = y; z = z; exact = e }) (record { x = x'; y = y'; z = z'; exact = e' })
-same_point p q r s = cc
-
-pub same-face : {h n a p h' n' a' p' : ℤ} → h ≡ h' → n ≡ n' → a ≡ a' → p ≡ p'
-    → ◌≡◌ {A = FaceValues} (record { here = h; next = n; across = a; prev = p }) (record { here = h'; next = n'; across = a'; prev = p' })
-same-face e f g h = cc
-
-pub point-of : (q : ℕ → Fraction) {x y z : Value} → x ≡ value_of (q 0) → y ≡ value_of (q 1) → z ≡ value_of (q 2)
-    → ◌≡◌ {A = ControlPoint} (record { x = x.units; y = y.units; z = z.units; exact = (x.exact && y.exact) && z.exact }) (point_of q)
-point-of q e f g = rw (e, f, g)
-
--- ---- a half-edge without a twin, and with one
-pub linked-sharp : (d : ℕ) (p q : Fraction) → d ≡ no_twin → linked d p q ≡ p
-linked-sharp d p q e = rw (eq-eqb d no_twin e)
-
-pub linked-smooth : (d : ℕ) (p q : Fraction) → (d ≡ no_twin → ⊥) → linked d p q ≡ q
-linked-smooth d p q e = rw (ne_eqb d no_twin e)
 
 -- ---- numbers of 32 bits
 pub abs-narrow : (z : ℤ) → mag z < 2 ^ 31 → nat_abs z ≤ 2 ^ 31 * 1

@@ -32,7 +32,7 @@ exactly q = whole (pos 256 *ℤ q.num) q.den
 abbrev pub value_of : Fraction → Value
 value_of q = record { units = units q; exact = exactly q }
 
-abbrev pub point_of : (ℕ → Fraction) → ControlPoint
+abbrev pub point_of : (ℕ → Fraction) → ControlPoint ℤ
 point_of q = record { x = units (q 0); y = units (q 1); z = units (q 2); exact = (exactly (q 0) && exactly (q 1)) && exactly (q 2) }
 
 abbrev pub value_at : List ℤ → ℕ → ℕ → ℤ

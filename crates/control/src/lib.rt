@@ -8,74 +8,67 @@ pub mod values;
 
 ghost use Rattle.std.specs.Prelude.{◌≡◌, ◌&&◌};
 ghost use Rattle.control.specs.Control.{inner_at, along_at, before_at, weight_at, point_of};
+ghost use Rattle.control.specs.declared.model.Value.{Value};
 
 use crate::model::{ControlPoint, Value};
-use crate::value::{along_value, before_value, inner_value};
-use corner::wide;
+use crate::value::Coordinate;
+use limits::model::Mesh;
 
-// Whether all three hold.
-fn all_three(x: bool, y: bool, z: bool) -> bool
-    ensures { result ≡ (x && y) && z }
-{
-    x & y & z
+// The tables by corner that the control points are made from.
+#[derive(Clone, Copy)]
+pub struct CornerTables<'a> {
+    // Four places a corner: the coordinates of its vertex, and a spare one.
+    pub values: &'a [i32; 16 * Mesh::MAX_FACES],
+    // The twin of each half-edge, `Mesh::NO_TWIN` where it has none: as the lists of twins have it that C is given.
+    pub links: &'a [u16; 4 * Mesh::MAX_FACES],
+    // The weight of each corner.
+    pub weights: &'a [u16; 4 * Mesh::MAX_FACES],
 }
 
-// The point with these three coordinates.
-fn point(x: Value, y: Value, z: Value) -> ControlPoint
-    ensures { result ≡ record { x = x.units; y = y.units; z = z.units; exact = (x.exact && y.exact) && z.exact } }
+// The point whose coordinate k is what a function says of k.
+fn point<F: Fn(usize) -> Value>(value: F) -> ControlPoint<i64>
+    requires { F.IsAlwaysCallable value }
+    ensures { (x : Value) × (y : Value) × (z : Value) × F.post value 0 x × F.post value 1 y × F.post value 2 z
+        × (result ≡ record { x = x.units; y = y.units; z = z.units; exact = (x.exact && y.exact) && z.exact }) }
 {
+    let x = value(0);
+    let y = value(1);
+    let z = value(2);
     ControlPoint {
         x: x.units,
         y: y.units,
         z: z.units,
-        exact: all_three(x.exact, y.exact, z.exact),
+        exact: x.exact & y.exact & z.exact,
     }
 }
 
-// The inner point at corner c. Writes: nothing. Refuses: nothing.
-pub fn inner_point(values: &[i32; 4096], weights: &[u16; 1024], c: usize) -> ControlPoint
-    ensures { result ≡ point_of (λ k. inner_at values.now (weight_at weights.now c) k c) }
-{
-    let w = weights[c % 1024];
-    point(
-        inner_value(values, w, 0, c),
-        inner_value(values, w, 1, c),
-        inner_value(values, w, 2, c),
-    )
-}
+impl<'a> CornerTables<'a> {
+    // The inner point at corner c. Writes: nothing. Refuses: nothing.
+    pub fn inner_point(self, c: usize) -> ControlPoint<i64>
+        ensures { result ≡ point_of (λ k. inner_at self.entry.values.now (weight_at self.entry.weights.now c) k c) }
+    {
+        let values = self.values;
+        let w = self.weights[c % 1024];
+        point(|k| Coordinate { values, k }.inner(w, c))
+    }
 
-// The edge point on half-edge c near its start. Writes: nothing. Refuses: nothing.
-pub fn along_point(
-    values: &[i32; 4096],
-    links: &[u16; 1024],
-    weights: &[u16; 1024],
-    c: usize,
-) -> ControlPoint
-    ensures { result ≡ point_of (λ k. along_at values.now links.now weights.now k c) }
-{
-    let w = weights[c % 1024];
-    let d = links[c % 1024];
-    point(
-        along_value(values, d, w, 0, c),
-        along_value(values, d, w, 1, c),
-        along_value(values, d, w, 2, c),
-    )
-}
+    // The edge point on half-edge c near its start. Writes: nothing. Refuses: nothing.
+    pub fn along_point(self, c: usize) -> ControlPoint<i64>
+        ensures { result ≡ point_of (λ k. along_at self.entry.values.now self.entry.links.now self.entry.weights.now k c) }
+    {
+        let values = self.values;
+        let w = self.weights[c % 1024];
+        let d = self.links[c % 1024];
+        point(|k| Coordinate { values, k }.along(d, w, c))
+    }
 
-// The edge point on the half-edge before c near its end, which is the vertex of c. Writes: nothing. Refuses: nothing.
-pub fn before_point(
-    values: &[i32; 4096],
-    links: &[u16; 1024],
-    weights: &[u16; 1024],
-    c: usize,
-) -> ControlPoint
-    ensures { result ≡ point_of (λ k. before_at values.now links.now weights.now k c) }
-{
-    let d = links[corner::prev_corner(c) % 1024];
-    let w = weights[wide(d) % 1024];
-    point(
-        before_value(values, d, w, 0, c),
-        before_value(values, d, w, 1, c),
-        before_value(values, d, w, 2, c),
-    )
+    // The edge point on the half-edge before c near its end, which is the vertex of c. Writes: nothing. Refuses: nothing.
+    pub fn before_point(self, c: usize) -> ControlPoint<i64>
+        ensures { result ≡ point_of (λ k. before_at self.entry.values.now self.entry.links.now self.entry.weights.now k c) }
+    {
+        let values = self.values;
+        let d = self.links[corner::prev_corner(c) % 1024];
+        let w = self.weights[usize::from(d) % 1024];
+        point(|k| Coordinate { values, k }.before(d, w, c))
+    }
 }

@@ -5,28 +5,9 @@ ghost use Rattle.mask.specs.FractionOf.{fraction_of};
 ghost use Rattle.control.specs.Control.{value_at, face_at, inner_at, edge_at, linked_along, linked_before, value_of};
 
 use crate::model::Value;
-use corner::{across_corner, next_corner, prev_corner, wide};
+use corner::{across_corner, next_corner, prev_corner};
 use limits::model::Mesh;
 use mask::model::{FaceValues, Fraction};
-
-// Coordinate k of the vertex of corner c. Writes: nothing. Refuses: nothing.
-pub fn value(values: &[i32; 4096], k: usize, c: usize) -> i32
-    ensures { result ≡ value_at values.now k c }
-{
-    values[4 * (c % 1024) + k % 4]
-}
-
-// Coordinate k of the four vertices of the face of corner c, seen from there. Writes: nothing. Refuses: nothing.
-pub fn face_values(values: &[i32; 4096], k: usize, c: usize) -> FaceValues
-    ensures { result ≡ face_at values.now k c }
-{
-    FaceValues {
-        here: value(values, k, c),
-        next: value(values, k, next_corner(c)),
-        across: value(values, k, across_corner(c)),
-        prev: value(values, k, prev_corner(c)),
-    }
-}
 
 // A fraction in units, rounded once.
 fn in_units(q: Fraction) -> Value
@@ -38,22 +19,6 @@ fn in_units(q: Fraction) -> Value
         units: rounded.value,
         exact: rounded.exact,
     }
-}
-
-// The inner point at corner c of weight w, coordinate k. Writes: nothing. Refuses: nothing.
-pub fn inner_value(values: &[i32; 4096], w: u16, k: usize, c: usize) -> Value
-    ensures { result ≡ value_of (inner_at values.now w k c) }
-{
-    in_units(mask::inner_mask(w, face_values(values, k, c)))
-}
-
-// The edge point on half-edge c, with twin d, near its start of weight w, coordinate k. Writes: nothing. Refuses: nothing.
-pub fn edge_value(values: &[i32; 4096], w: u16, k: usize, c: usize, d: usize) -> Value
-    ensures { result ≡ value_of (edge_at values.now w k c d) }
-{
-    let a = face_values(values, k, c);
-    let b = face_values(values, k, d);
-    in_units(mask::edge_mask(w, a, b))
 }
 
 // The corner point of a vertex of coordinate p by its rule, from its two sums. Writes: nothing. Refuses: nothing.
@@ -70,23 +35,66 @@ fn sharp_value(p: i32, q: i32) -> Value
     in_units(mask::boundary_edge_mask(p, q))
 }
 
-// The edge point on half-edge c, with the twin d or none, near its start of weight w, coordinate k.
-pub(crate) fn along_value(values: &[i32; 4096], d: u16, w: u16, k: usize, c: usize) -> Value
-    ensures { result ≡ value_of (linked_along values.now d w k c) }
-{
-    if d == Mesh::NO_TWIN {
-        return sharp_value(value(values, k, c), value(values, k, next_corner(c)));
-    }
-    edge_value(values, w, k, c, wide(d))
+// One coordinate of the vertices by corner: number k of the table of values.
+#[derive(Clone, Copy)]
+pub struct Coordinate<'a> {
+    // Four places a corner, as `CornerTables` has them.
+    pub values: &'a [i32; 16 * Mesh::MAX_FACES],
+    pub k: usize,
 }
 
-// The edge point on the half-edge before c, with the twin d or none, near its end of weight w, coordinate k.
-pub(crate) fn before_value(values: &[i32; 4096], d: u16, w: u16, k: usize, c: usize) -> Value
-    ensures { result ≡ value_of (linked_before values.now d w k c) }
-{
-    let h = prev_corner(c);
-    if d == Mesh::NO_TWIN {
-        return sharp_value(value(values, k, c), value(values, k, h));
+impl<'a> Coordinate<'a> {
+    // That of the vertex of corner c. Writes: nothing. Refuses: nothing.
+    pub fn vertex(self, c: usize) -> i32
+        ensures { result ≡ value_at self.entry.values.now self.entry.k c }
+    {
+        self.values[4 * (c % 1024) + self.k % 4]
     }
-    edge_value(values, w, k, wide(d), h)
+
+    // Those of the four vertices of the face of corner c, seen from there. Writes: nothing. Refuses: nothing.
+    pub fn face(self, c: usize) -> FaceValues
+        ensures { result ≡ face_at self.entry.values.now self.entry.k c }
+    {
+        FaceValues {
+            here: self.vertex(c),
+            next: self.vertex(next_corner(c)),
+            across: self.vertex(across_corner(c)),
+            prev: self.vertex(prev_corner(c)),
+        }
+    }
+
+    // That of the inner point at corner c of weight w. Writes: nothing. Refuses: nothing.
+    pub fn inner(self, w: u16, c: usize) -> Value
+        ensures { result ≡ value_of (inner_at self.entry.values.now w self.entry.k c) }
+    {
+        in_units(mask::inner_mask(w, self.face(c)))
+    }
+
+    // That of the edge point on half-edge c, with twin d, near its start of weight w. Writes: nothing. Refuses: nothing.
+    pub fn edge(self, w: u16, c: usize, d: usize) -> Value
+        ensures { result ≡ value_of (edge_at self.entry.values.now w self.entry.k c d) }
+    {
+        in_units(mask::edge_mask(w, self.face(c), self.face(d)))
+    }
+
+    // That of the edge point on half-edge c, with the twin d or none, near its start of weight w.
+    pub(crate) fn along(self, d: u16, w: u16, c: usize) -> Value
+        ensures { result ≡ value_of (linked_along self.entry.values.now d w self.entry.k c) }
+    {
+        if d == Mesh::NO_TWIN {
+            return sharp_value(self.vertex(c), self.vertex(next_corner(c)));
+        }
+        self.edge(w, c, usize::from(d))
+    }
+
+    // That of the edge point on the half-edge before c, with the twin d or none, near its end of weight w.
+    pub(crate) fn before(self, d: u16, w: u16, c: usize) -> Value
+        ensures { result ≡ value_of (linked_before self.entry.values.now d w self.entry.k c) }
+    {
+        let h = prev_corner(c);
+        if d == Mesh::NO_TWIN {
+            return sharp_value(self.vertex(c), self.vertex(h));
+        }
+        self.edge(w, usize::from(d), h)
+    }
 }

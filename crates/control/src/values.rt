@@ -1,27 +1,12 @@
 // The table of values by corner, from the positions and the faces of a mesh.
-ghost use Rattle.std.specs.Prelude.{◌≡◌, ◌+◌, ◌*◌, ◌≤◌, min, pos, length, get_or, set};
+ghost use Rattle.std.specs.Prelude.{◌≡◌, ◌+◌, ◌*◌, ◌≤◌, pos, length, get_or, set};
 ghost use Rattle.control.specs.Control.{values_after};
-
-use corner::wide;
 
 // Number i of the positions, 0 beyond their end. Writes: nothing. Refuses: nothing.
 pub fn position(positions: &[i32], i: usize) -> i32
     ensures { result ≡ get_or positions.now i (pos 0) }
 {
-    if i < positions.len() {
-        return positions[i];
-    }
-    0
-}
-
-// The lesser of two numbers.
-fn lesser(a: usize, b: usize) -> usize
-    ensures { result ≡ min a b }
-{
-    if a < b {
-        return a;
-    }
-    b
+    positions.get(i).copied().unwrap_or(0)
 }
 
 // Writes the coordinates of the vertex of corner c, and a 0 in the spare place.
@@ -31,10 +16,8 @@ fn put(values: &mut [i32], c: usize, x: i32, y: i32, z: i32)
         ≡ set (set (set (set values.old (4 * c) x) (4 * c + 1) y) (4 * c + 2) z) (4 * c + 3) (pos 0) }
 {
     let at = 4 * c;
-    values[at] = x;
-    values[at + 1] = y;
-    values[at + 2] = z;
-    values[at + 3] = 0;
+    let end = at + 4;
+    values[at..end].copy_from_slice(&[x, y, z, 0]);
 }
 
 // The values of all corners, from the lists of a mesh.
@@ -44,9 +27,10 @@ fn put(values: &mut [i32], c: usize, x: i32, y: i32, z: i32)
 pub fn fill_values(positions: &[i32], faces: &[u16], values: &mut [i32])
     ensures { values.new ≡ values_after positions.now faces.now values.old }
 {
-    let n = lesser(faces.len(), values.len() / 4);
+    let n = faces.len().min(values.len() / 4);
+    // By corner: `n` is the bound that the edit more-corners-than-room names, and the four places of a corner are written in one call.
     for c in 0..n {
-        let p = 3 * wide(faces[c]);
+        let p = 3 * usize::from(faces[c]);
         put(
             values,
             c,

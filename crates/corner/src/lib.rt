@@ -2,34 +2,42 @@
 #![tactic(auto)]
 
 ghost use Rattle.std.specs.Prelude.{◌≡◌};
-ghost use Rattle.corner.specs.Corner.{next, across, prev, face_corners};
+ghost use Rattle.corner.specs.Corner.{turn, next, across, prev, face_corners};
 
-// The number of a vertex, a corner or a twin, as an index. Writes: nothing. Refuses: nothing.
+// The number of a vertex, a corner or a twin, as an index. Writes: nothing. Refuses: nothing. It stays beside the library's `From`, since the table of calls
+// of docs/SPECIFICATION.md and the edits high-byte-cut-off and no-twin-is-corner-0 name it.
 pub fn wide(x: u16) -> usize
     ensures { result ≡ x }
 {
-    x as usize
+    usize::from(x)
 }
 
-// The corner after c in its face. Writes: nothing. Refuses: nothing.
+// The corner that is i corners further than c in its face. Writes: nothing. Refuses: nothing.
+pub fn turned(i: usize, c: usize) -> usize
+    ensures { result ≡ turn i c }
+{
+    c / 4 * 4 + (c % 4 + i % 4) % 4
+}
+
+// The corner after c in its face, one of three instances of `turned` that the table of calls names. Writes: nothing. Refuses: nothing.
 pub fn next_corner(c: usize) -> usize
     ensures { result ≡ next c }
 {
-    c / 4 * 4 + (c % 4 + 1) % 4
+    turned(1, c)
 }
 
 // The corner across from c in its face. Writes: nothing. Refuses: nothing.
 pub fn across_corner(c: usize) -> usize
     ensures { result ≡ across c }
 {
-    c / 4 * 4 + (c % 4 + 2) % 4
+    turned(2, c)
 }
 
 // The corner before c in its face. Writes: nothing. Refuses: nothing.
 pub fn prev_corner(c: usize) -> usize
     ensures { result ≡ prev c }
 {
-    c / 4 * 4 + (c % 4 + 3) % 4
+    turned(3, c)
 }
 
 // The corners of face f.

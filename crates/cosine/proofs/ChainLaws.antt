@@ -1,20 +1,17 @@
 -- The recurrence of the cosines of multiples: its steps, and the size of what it gives for every m to 32 and every place to 17.
-use mathlib.Core.Path.{◌≡◌, refl, ap}
+use mathlib.Core.Path.{◌≡◌, refl}
 use mathlib.Core.Bool.{true}
-use Prim.Native.Nat.{ℕ, ◌+◌, ◌-◌, ◌^◌, ◌≤◌, ◌<◌}
+use Prim.Native.Nat.{ℕ, ◌+◌, ◌^◌, ◌≤◌}
 use native.Mathlib.Numerals.{add-one}
 use native.Mathlib.Omega.{arith}
 use lib.Dec.{leb}
 use lib.IntN.{ℤ, pos, nat_abs, ◌-ℤ◌, ◌*ℤ◌}
 use borrow.Author.Tests.{leb-true}
-use mir.Syntax.{w64}
-use mir.Val.{SFits}
 use Rattle.integer.specs.Nearest.{half_even, nearest_ℕ, nearest}
-use Rattle.integer.proofs.Laws.{sfits-abs}
 use Rattle.finite.specs.Fold.{fold_below, all_below}
 use Rattle.finite.proofs.AnyAll.{all_true}
 use Rattle.cosine.specs.Cosine.{scale, cosines, cosine}
-use Rattle.cosine.specs.Weight.{chain, multiple_cosine}
+use Rattle.cosine.specs.Weight.{chain}
 
 -- ---- the steps
 pub chain-zero : (c : ℤ) → chain c 0 ≡ pos scale
@@ -29,15 +26,6 @@ pub chain_next : (c : ℤ) (i : ℕ) → chain c (i + 1 + 1) ≡ nearest (pos 2 
 unfolding chain
 chain_next c i = rw (add-one (i + 1), add-one i)
 
--- ---- the same backwards
-pub multiple-near : (m i : ℕ) → i ≤ m - i → chain (cosine m) i ≡ multiple_cosine m i
-unfolding multiple_cosine
-multiple-near m i l = ap (chain (cosine m)) (omega arith)
-
-pub multiple-far : (m i : ℕ) → m - i < i → chain (cosine m) (m - i) ≡ multiple_cosine m i
-unfolding multiple_cosine
-multiple-far m i l = ap (chain (cosine m)) (omega arith)
-
 -- ---- the size: the largest is 1,048,584, at place 14 for m = 28
 chains-small : all_below (λ m. all_below (λ i. leb (nat_abs (chain (cosine m) i)) (2 ^ 21)) 18) 33 ≡ true
 unfolding fold_below half_even nearest_ℕ nearest cosines cosine chain
@@ -48,6 +36,3 @@ chain-size m i h l =
     leb-true (nat_abs (chain (cosine m) i)) (2 ^ 21)
     (all_true (λ i. leb (nat_abs (chain (cosine m) i)) (2 ^ 21)) 18
     (all_true (λ m. all_below (λ i. leb (nat_abs (chain (cosine m) i)) (2 ^ 21)) 18) 33 chains-small m (omega arith)) i (omega arith))
-
-pub chain_fits : (m i : ℕ) → m ≤ 32 → i ≤ 17 → SFits w64 (chain (cosine m) i)
-chain_fits m i h l = sfits-abs (chain (cosine m) i) (omega (arith, chain-size m i h l))

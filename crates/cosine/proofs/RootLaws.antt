@@ -1,7 +1,6 @@
--- The root by its binary digits is the whole part of the root, for every number below 4^k, and there is no other; and what a loop shows that
--- finds the digits one by one.
-use mathlib.Core.Path.{◌≡◌, ap, ◌∙◌}
-use Prim.Native.Nat.{ℕ, zero, suc, ◌+◌, ◌-◌, ◌*◌, ◌/◌, ◌^◌, ◌≤◌, ◌<◌}
+-- The root by its binary digits is the whole part of the root, for every number below 4^k, and there is no other.
+use mathlib.Core.Path.{◌≡◌}
+use Prim.Native.Nat.{ℕ, zero, suc, ◌+◌, ◌*◌, ◌/◌, ◌^◌, ◌≤◌, ◌<◌}
 use native.Mathlib.Nat.{mul-le-mul, le_antisymm, lt_of_not-le}
 use native.Mathlib.Decide.{dec_le}
 use native.Mathlib.Omega.{arith}
@@ -33,13 +32,3 @@ root-unique x r s v w = by (dec_le r s) (dec_le s r)
     by (yes a) (yes b) = le_antisymm a b
     by (no a) b = absurd (not-less x s r w v (lt_of_not-le a))
     by (yes a) (no b) = absurd (not-less x r s v w (lt_of_not-le b))
-
--- ---- the loop: the value of digit k + 1, from the top, is half that of digit k
-pub digit_value : (k b : ℕ) → k < 22 → b ≡ 2 ^ (22 - k) → (2 * (b / 2) ≡ b) × (b / 2 ≡ 2 ^ (22 - (k + 1)))
-digit_value k b l e =
-    let s : 22 - k ≡ suc (22 - (k + 1)) = omega arith in
-    let h : b ≡ 2 ^ suc (22 - (k + 1)) = e ∙ ap (λ (j : ℕ). 2 ^ j) s in
-    (omega (arith, h), omega (arith, h))
-
-pub last-digit : (k b : ℕ) → k ≤ 22 → 22 ≤ k → b ≡ 2 ^ (22 - k) → b ≡ 1
-last-digit k b l g e = let s : 22 - k ≡ 0 = omega arith in e ∙ ap (λ (j : ℕ). 2 ^ j) s

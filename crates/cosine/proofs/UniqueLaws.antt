@@ -116,7 +116,9 @@ not-below m e f w v h =
     (prove_le (nat 2 ⊛ int e ⊕ nat 1) (nat 2 ⊛ int f ⊝ nat 1) (omega (arith, order))) w.high-above) ∙ v.low-not-above)
 
 pub cosine-unique : (m : ℕ) (e f : ℤ) → IsCosine m e → IsCosine m f → e ≡ f
-cosine-unique m e f w v = eq-by e f (by (dec_le (pos_part e + neg_part f) (pos_part f + neg_part e)) (dec_le (pos_part f + neg_part e) (pos_part e + neg_part f)))
+cosine-unique m e f w v =
+    eq-by e f
+    (by (dec_le (pos_part e + neg_part f) (pos_part f + neg_part e)) (dec_le (pos_part f + neg_part e) (pos_part e + neg_part f)))
   where
     by : Dec (pos_part e + neg_part f ≤ pos_part f + neg_part e) → Dec (pos_part f + neg_part e ≤ pos_part e + neg_part f)
         → pos_part e + neg_part f ≡ pos_part f + neg_part e

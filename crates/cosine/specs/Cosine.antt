@@ -8,7 +8,8 @@
 --   cosine m       c(m) for m from 3 to 32, 0 for another m, read off `cosines` (`proofs/CosineLaws.antt`: each entry meets the rule;
 --                  `proofs/UniqueLaws.antt`: no other number does)
 --   Entry m r      what the call returns, without the table (rule D5)
-use Rattle.std.specs.Prelude.{◌≡◌, Bool, true, false, List, [], ◌∷◌, ℕ, zero, suc, ◌-◌, ◌*◌, ◌/◌, ◌%◌, ◌^◌, ◌<◌, ◌≤◌, ℤ, pos, negsuc, nat_abs, ◌+ℤ◌, ◌-ℤ◌, ◌*ℤ◌, get_or}
+use Rattle.std.specs.Prelude.{◌≡◌, Bool, true, false, List, [], ◌∷◌, ℕ, zero, suc, ◌-◌, ◌*◌}
+use Rattle.std.specs.Prelude.{◌/◌, ◌%◌, ◌^◌, ◌<◌, ◌≤◌, ℤ, pos, negsuc, nat_abs, ◌+ℤ◌, ◌-ℤ◌, ◌*ℤ◌, get_or}
 use Rattle.std.specs.Int.Signed.{lt_z}
 use Rattle.finite.specs.Fold.{all_below}
 

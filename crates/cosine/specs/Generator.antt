@@ -1,10 +1,10 @@
--- What the generator is asked for, for the contracts of private functions.
+-- What the generator is told, for the contracts of private functions.
 --
---   ForQuotient factor value n   two factors so small that their product over n R can be rounded, and n in the range of the weights
-use Rattle.std.specs.Prelude.{ℕ, ◌^◌, ◌≤◌, ℤ, nat_abs}
+--   FactorsOf num q   two factors of the numerator num, so small that their product over n R can be rounded
+use Rattle.std.specs.Prelude.{◌≡◌, ◌^◌, ◌≤◌, ℤ, nat_abs, ◌*ℤ◌}
+use Rattle.cosine.specs.declared.generator.Numerator.{Numerator}
 
-pub record ForQuotient (factor value : ℤ) (n : ℕ) : Type 0 where
-  pub factor-small : nat_abs factor ≤ 2 ^ 23
-  pub value-small : nat_abs value ≤ 2 ^ 21
-  pub least : 3 ≤ n
-  pub most : n ≤ 16
+pub record FactorsOf (num : ℤ) (q : Numerator) : Type 0 where
+  pub product : q.factor *ℤ q.value ≡ num
+  pub factor-small : nat_abs q.factor ≤ 2 ^ 23
+  pub value-small : nat_abs q.value ≤ 2 ^ 21

@@ -16,9 +16,11 @@
 --   face_weight n i       B(n, i), with face_numerator
 --   weight_place n i      where the weight of n and i stands in its list: there are 16 places for each n
 --   weights_by f          all the weights with that numerator, each at its place, and 0 where there is none (rule D6)
+--   place_of n i         that place, where there is such a weight
 --   listed xs n i        what such a list has for n and i, 0 where there is no such weight
 --   all_weights           the two lists as the code has them
-use Rattle.std.specs.Prelude.{Bool, cond, ◌&&◌, List, ℕ, zero, suc, ◌+◌, ◌-◌, ◌*◌, ◌/◌, ◌%◌, ◌^◌, min, ltb, leb, ℤ, pos, nat_abs, ◌+ℤ◌, ◌-ℤ◌, ◌*ℤ◌, get_or}
+use Rattle.std.specs.Prelude.{Bool, cond, ◌&&◌, Option, Some, None, List, ℕ, zero, suc, ◌+◌, ◌-◌, ◌*◌}
+use Rattle.std.specs.Prelude.{◌/◌, ◌%◌, ◌^◌, min, ltb, leb, ℤ, pos, nat_abs, ◌+ℤ◌, ◌-ℤ◌, ◌*ℤ◌, get_or}
 use Rattle.integer.specs.Nearest.{nearest}
 use Rattle.finite.specs.Filled.{list_below}
 use Rattle.cosine.specs.declared.model.Weights.{Weights}
@@ -68,6 +70,9 @@ face_weight n i = weight_by face_numerator n i
 
 abbrev pub weight_place : ℕ → ℕ → ℕ
 weight_place n i = 16 * (n - 3) + i
+
+abbrev pub place_of : ℕ → ℕ → Option ℕ
+place_of n i = cond (weighed n i) (Some (weight_place n i)) None
 
 unfoldable pub weights_by : (ℕ → ℕ → ℤ) → List ℤ
 weights_by numerator = list_below (λ k. weight_by numerator (3 + k / 16) (k % 16)) 224

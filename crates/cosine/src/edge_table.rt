@@ -1,7 +1,8 @@
 // The table of the weights of edges.
+use crate::TABLE_LENGTH;
 
 // A(n, i) at place 16 (n - 3) + i, for n from 3 to 16; 0 for i from n on.
-pub(crate) const EDGE_WEIGHTS: [i32; 224] = [
+pub(crate) static EDGE_WEIGHTS: [i32; TABLE_LENGTH] = [
     434298, -217149, -217149, 0, 0, 0, 0, 0, 0, 0, 0, 0, 0, 0, 0, 0, 349525, 0, -349525, 0, 0, 0,
     0, 0, 0, 0, 0, 0, 0, 0, 0, 0, 288357, 89107, -233285, -233285, 89107, 0, 0, 0, 0, 0, 0, 0, 0,
     0, 0, 0, 244206, 122103, -122103, -244206, -122103, 122103, 0, 0, 0, 0, 0, 0, 0, 0, 0, 0,

@@ -1,7 +1,8 @@
 // The table of the weights of faces.
+use crate::TABLE_LENGTH;
 
 // B(n, i) at place 16 (n - 3) + i, for n from 3 to 16; 0 for i from n on.
-pub(crate) const FACE_WEIGHTS: [i32; 224] = [
+pub(crate) static FACE_WEIGHTS: [i32; TABLE_LENGTH] = [
     84772, -169545, 84772, 0, 0, 0, 0, 0, 0, 0, 0, 0, 0, 0, 0, 0, 87381, -87381, -87381, 87381, 0,
     0, 0, 0, 0, 0, 0, 0, 0, 0, 0, 0, 78641, -30038, -97206, -30038, 78641, 0, 0, 0, 0, 0, 0, 0, 0,
     0, 0, 0, 69444, 0, -69444, -69444, 0, 69444, 0, 0, 0, 0, 0, 0, 0, 0, 0, 0, 61526, 15196,

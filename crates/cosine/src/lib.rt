@@ -1,4 +1,6 @@
 //! The cosines c(m), and the weights of the tangents at an inner vertex.
+//!
+//! (a) `cosine`, `edge_weight` and `face_weight` have 0 for none: docs/SPECIFICATION.md names them with that answer, and `Entry` and `edge_weight` say it.
 #![tactic(auto)]
 
 mod cosine_table;
@@ -6,53 +8,52 @@ mod edge_table;
 mod face_table;
 mod generator;
 pub mod model;
-mod root;
 
-ghost use Rattle.std.specs.Prelude.{◌≡◌, true, length, ◌<◌};
+ghost use Rattle.std.specs.Prelude.{◌≡◌};
 ghost use Rattle.cosine.specs.Cosine.{Entry};
-ghost use Rattle.cosine.specs.Weight.{weighed as weighed_of, weight_place, listed, edge_weight, face_weight, all_weights};
+ghost use Rattle.cosine.specs.Weight.{place_of, listed, edge_weight, face_weight, all_weights};
 
 use crate::cosine_table::COSINES;
 use crate::edge_table::EDGE_WEIGHTS;
 use crate::face_table::FACE_WEIGHTS;
-use crate::generator::fill;
+use crate::generator::{EdgeRule, FaceRule, weights_by};
 use crate::model::Weights;
+
+// The cosine 1 as it is stored, 2^20.
+pub const ONE: u32 = 1_048_576;
+
+// The fewest faces of a vertex with weights.
+pub(crate) const LEAST_FACES: usize = 3;
+
+// The most, and so many places there are for each number of faces.
+pub(crate) const PLACES: usize = 16;
+
+// How many places a table of weights has.
+pub(crate) const TABLE_LENGTH: usize = PLACES * (PLACES - LEAST_FACES + 1);
 
 // The whole number that is nearest to 2^20 times the cosine of 2 pi / m, m from 3 to 32.
 // Returns: that number, or 0 for another m. Refuses: nothing.
 pub fn cosine(m: usize) -> i32
     ensures { Entry m result }
 {
-    if m < 33 { COSINES[m] } else { 0 }
+    COSINES.get(m).copied().unwrap_or(0)
 }
 
-// Whether there are weights of n faces with a place i.
-pub(crate) fn weighed(n: usize, i: usize) -> bool
-    ensures { result ≡ weighed_of n i }
+// Where the weight of n and i stands in its table; none where there is no such weight.
+pub(crate) fn place(n: usize, i: usize) -> Option<usize>
+    ensures { result ≡ place_of n i }
 {
-    if n < 3 {
-        return false;
+    if LEAST_FACES <= n && n <= PLACES && i < n {
+        return Some(PLACES * (n - LEAST_FACES) + i);
     }
-    if 16 < n {
-        return false;
-    }
-    i < n
-}
-
-// Where the weight of n and i stands in its table.
-fn place(n: usize, i: usize) -> usize
-    requires { weighed_of n i ≡ true }
-    ensures { (result ≡ weight_place n i) × (result < 224) }
-{
-    16 * (n - 3) + i
+    None
 }
 
 // The weight of n and i in a table of all weights, 0 where there is none.
-fn entry(table: &[i32], n: usize, i: usize) -> i32
-    requires { length table.now ≡ 224 }
+fn entry(table: &[i32; TABLE_LENGTH], n: usize, i: usize) -> i32
     ensures { result ≡ listed table.now n i }
 {
-    if weighed(n, i) { table[place(n, i)] } else { 0 }
+    place(n, i).map_or(0, |k| table[k])
 }
 
 // The weight, in the tangent along an edge of a vertex of n faces, of the far end of the edge that is i edges on.
@@ -87,8 +88,8 @@ pub fn weights() -> Weights
 pub fn generated_weights() -> Weights
     ensures { result ≡ all_weights }
 {
-    let mut edge = [0i32; 224];
-    let mut face = [0i32; 224];
-    fill(&mut edge, &mut face);
-    Weights { edge, face }
+    Weights {
+        edge: weights_by::<EdgeRule>(),
+        face: weights_by::<FaceRule>(),
+    }
 }

@@ -3,47 +3,23 @@ use mathlib.Core.Path.{◌≡◌, ◌∙◌}
 use mathlib.Core.Bool.{true, false}
 use mathlib.Core.List.{List, [], ◌∷◌}
 use mathlib.Core.Option.{none, some}
-use Prim.Native.Nat.{ℕ, ◌+◌, ◌*◌, ◌≤◌, ◌<◌}
+use Prim.Native.Nat.{ℕ, ◌+◌, ◌*◌, ◌≤◌}
 use lib.Dec.{eqb, ltb}
 use lib.IntN.{ℤ}
 use lib.ListN.{length}
-use borrow.Author.Tests.{lt-ltb, le-ltb, eq-eqb, ne_eqb, ltb-false, eqb-true, not-false}
-use Rattle.finite.specs.Filled.{filled}
+use borrow.Author.Tests.{ltb-false, eqb-true, not-false}
 use Rattle.answer.specs.Table.{row, first_met}
 use Rattle.finite.proofs.AnyAll.{or-false}
 use Rattle.answer.proofs.TableLaws.{met-here, skipped, none-met, some-append, none-append}
 use Rattle.limits.specs.Limits.{min_vertices, max_vertices, min_faces, max_faces}
 use Rattle.limits.specs.Range.{off}
 use Rattle.limits.proofs.RangeLaws.{off-false}
-use Rattle.decoding.specs.File.{vertices, faces, position_at, tag_at, index_at, header_short, header_off, length_off, file_rows}
+use Rattle.decoding.specs.File.{vertices, faces, header_short, header_off, length_off, file_rows}
 use Rattle.decoding.specs.declared.model.Header.{Header}
-use Rattle.decoding.specs.declared.model.Decoded.TheVariants.{Read, Refused}
-use Rattle.decoding.specs.Decoding.{header_of, places_short, decode_refusal, FileDecoded}
-
--- ---- the first cause met, of those of the file
-module _ (b : List ℕ) where
-  pub rows-header : length b < 6 → first_met (file_rows b) ≡ some 15
-  unfolding header_short
-  rows-header l = rw (lt-ltb (length b) 6 l)
-
-  module _ (long : 6 ≤ length b) where
-    pub rows-vertices : off min_vertices max_vertices (vertices b) ≡ true → first_met (file_rows b) ≡ some 1
-    unfolding header_short header_off
-    rows-vertices e = rw (le-ltb (length b) 6 long, e)
-
-    module _ (v : off min_vertices max_vertices (vertices b) ≡ false) where
-      pub rows-faces : off min_faces max_faces (faces b) ≡ true → first_met (file_rows b) ≡ some 1
-      unfolding header_short header_off
-      rows-faces e = rw (le-ltb (length b) 6 long, v, e)
-
-      module _ (f : off min_faces max_faces (faces b) ≡ false) where
-        pub rows-length : (length b ≡ 6 + 13 * vertices b + 8 * faces b → ⊥) → first_met (file_rows b) ≡ some 15
-        unfolding header_short header_off length_off
-        rows-length e = rw (le-ltb (length b) 6 long, v, f, ne_eqb (length b) (6 + 13 * vertices b + 8 * faces b) e)
-
-        pub rows_none : length b ≡ 6 + 13 * vertices b + 8 * faces b → first_met (file_rows b) ≡ none
-        unfolding header_short header_off length_off
-        rows_none e = rw (le-ltb (length b) 6 long, v, f, eq-eqb (length b) (6 + 13 * vertices b + 8 * faces b) e)
+use Rattle.decoding.specs.Decoding.{header_of, places_short, decode_refusal, Readable, MeshRead, FileDecoded}
+use Rattle.std.specs.Prelude.{Result, Ok, Err}
+use Rattle.answer.specs.declared.refusal.Refusal.{Refusal}
+use Rattle.answer.specs.Number.{number}
 
 -- a file that meets none of them
 pub record Whole (b : List ℕ) : Type 0 where
@@ -85,35 +61,26 @@ module _ (b : List ℕ) (p t i : ℕ) where
     unfolding decode_refusal
     decode-read e = none-append (file_rows b) (row (places_short b p t i) 2 ∷ []) passed ∙ skipped 2 none e
 
--- ---- a file of so many bytes with V = v and F = f that can be read into lists of p, t and i places
-pub record Readable (v f bytes p t i : ℕ) : Type 0 where
-  pub vertices-few : v ≤ max_vertices
-  pub faces-few : f ≤ max_faces
-  pub length-is : bytes ≡ 6 + 13 * v + 8 * f
-  pub positions-long : 3 * v ≤ p
-  pub tags-long : v ≤ t
-  pub indices-long : 4 * f ≤ i
-
--- one that passes every test, by its sizes as they were read
-pub readable : (b : List ℕ) (p t i : ℕ) {v f : ℕ} → v ≡ vertices b → f ≡ faces b → Whole b → places_short b p t i ≡ false → Readable v f (length b) p t i
-readable b p t i ev ef w e =
-    let h₁ = or-false (ltb p (3 * vertices b)) _ e in
-    let h₂ = or-false (ltb t (vertices b)) (ltb i (4 * faces b)) h₁.1 in
-    rw (ev, ef) (record {
-      vertices-few = w.vertices-high;
-      faces-few = w.faces-high;
-      length-is = w.length-is;
-      positions-long = ltb-false p (3 * vertices b) h₁.0;
-      tags-long = ltb-false t (vertices b) h₂.0;
-      indices-long = ltb-false i (4 * faces b) h₂.1;
-    })
+  -- a file that passes every test
+  pub readable : Whole b → places_short b p t i ≡ false → Readable b p t i
+  readable w e =
+      let h₁ = or-false (ltb p (3 * vertices b)) _ e in
+      let h₂ = or-false (ltb t (vertices b)) (ltb i (4 * faces b)) h₁.1 in
+      record {
+        vertices-few = w.vertices-high;
+        faces-few = w.faces-high;
+        length-is = w.length-is;
+        positions-long = ltb-false p (3 * vertices b) h₁.0;
+        tags-long = ltb-false t (vertices b) h₂.0;
+        indices-long = ltb-false i (4 * faces b) h₂.1;
+      }
 
 -- ---- the answer of decoding and the lists
 module _ (b : List ℕ) (p : List ℤ) (t i : List ℕ) where
-  pub file-refused : (k : ℕ) → decode_refusal b (length p) (length t) (length i) ≡ some k → FileDecoded b p t i (Refused k) p t i
-  file-refused k e = record { answer-is = rw e; positions-are = rw e; tags-are = rw e; faces-are = rw e }
+  pub file-refused : {r : Result Header Refusal} (e : Refusal) → r ≡ Err e
+      → decode_refusal b (length p) (length t) (length i) ≡ some (number e) → FileDecoded b p t i r p t i
+  file-refused e q m = record { answer-is = rw (q, m); positions-are = rw m; tags-are = rw m; faces-are = rw m }
 
-  pub file-decoded : decode_refusal b (length p) (length t) (length i) ≡ none → (h : Header) → h ≡ header_of b → (p' : List ℤ) (t' i' : List ℕ)
-      → p' ≡ filled (position_at b) (3 * vertices b) p → t' ≡ filled (tag_at b) (vertices b) t → i' ≡ filled (index_at b) (4 * faces b) i
-      → FileDecoded b p t i (Read h) p' t' i'
-  file-decoded e h q p' t' i' ep et ei = record { answer-is = rw (e, q); positions-are = rw e ep; tags-are = rw e et; faces-are = rw e ei }
+  pub file-decoded : {h : Header} {p' : List ℤ} {t' i' : List ℕ} → decode_refusal b (length p) (length t) (length i) ≡ none → h ≡ header_of b
+      → MeshRead b p t i p' t' i' → FileDecoded b p t i (Ok h) p' t' i'
+  file-decoded e q m = record { answer-is = rw (e, q); positions-are = rw e m.positions-are; tags-are = rw e m.tags-are; faces-are = rw e m.faces-are }

@@ -2,7 +2,7 @@
 use limits::model::Mesh;
 
 // The sizes of a file: V, F and N (rule F1). The lengths of the file's parts are its constants, named here once.
-#[derive(Clone, Copy)]
+#[derive(Clone, Copy, Debug, PartialEq, Eq)]
 pub struct Header {
     pub vertices: usize,
     pub faces: usize,
@@ -15,11 +15,4 @@ impl Header {
     pub const BYTES: usize = 6;
     // The longest file.
     pub const MAX_BYTES: usize = 6 + 13 * Mesh::MAX_VERTICES + 8 * Mesh::MAX_FACES;
-}
-
-// The answer of decoding: the sizes, or the number of the refusal.
-#[derive(Clone, Copy)]
-pub enum Decoded {
-    Read(Header),
-    Refused(u8),
 }

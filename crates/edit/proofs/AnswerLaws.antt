@@ -1,5 +1,5 @@
 -- What the mirror call answers and leaves, by what the check answered and by the lengths of the lent lists.
-use mathlib.Core.Path.{◌≡◌, ap, ◌∙◌}
+use mathlib.Core.Path.{◌≡◌, sym, ap, ◌∙◌}
 use mathlib.Core.Bool.{true, false}
 use mathlib.Core.List.{List, []}
 use mathlib.Core.Option.{none, some}
@@ -8,10 +8,12 @@ use lib.Dec.{eqb}
 use lib.ListN.{length}
 use borrow.Author.Tests.{eqb-true, not-false}
 use Rattle.finite.specs.Filled.{filled, list_below}
-use Rattle.answer.specs.Table.{result, refusal, first_met, outcome}
-use Rattle.answer.specs.declared.model.Outcome.{Outcome}
+use Rattle.answer.specs.Table.{result, refusal, first_met, answered}
+use Rattle.std.specs.Prelude.{Result}
+use Rattle.answer.specs.declared.refusal.Refusal.{Refusal}
 use Rattle.finite.proofs.AnyAll.{or-false}
 use Rattle.finite.proofs.FilledLaws.{filled-whole}
+use Rattle.finite.proofs.Lists.{below-of-list}
 use Rattle.answer.proofs.TableLaws.{result-none, refusal-met}
 use Rattle.limits.specs.declared.model.Mesh.{Mesh}
 use Rattle.mesh.specs.IndexedMesh.{IndexedMesh, at, tag, coordinate}
@@ -40,7 +42,7 @@ pub record SameLengths (M : IndexedMesh) (d : Outputs) : Type 0 where
 -- the lists were filled
 pub record Filled (M : IndexedMesh) (d d' : Outputs) : Type 0 where
   pub positions : d'.positions ≡ filled (λ i. reflected (i % 3) (coordinate M i)) (length M.positions) d.positions
-  pub tags : d'.tags ≡ filled (tag M) (length M.tags) d.tags
+  pub tags : d'.tags ≡ M.tags
   pub indices : d'.indices ≡ filled (λ c. at M (reflected_corner c)) (length M.indices) d.indices
 
 module _ (M : IndexedMesh) (d : Outputs) where
@@ -55,7 +57,7 @@ module _ (M : IndexedMesh) (d : Outputs) where
       record { positions = same_length _ _ first.0; tags = same_length _ _ second.0; indices = same_length _ _ second.1 }
 
   -- ---- a refusal leaves the lists as they were
-  pub refused : (r : Outcome) {k : ℕ} → outcome r ≡ refusal k → mirror_refusal M d ≡ some k → MeshMirrored M d r d
+  pub refused : (r : Result Unit Refusal) {k : ℕ} → answered r ≡ refusal k → mirror_refusal M d ≡ some k → MeshMirrored M d r d
   refused r e met = record { answer-is = rw (met, e); left = record { positions-are = rw met; tags-are = rw met; indices-are = rw met } }
 
   -- the check refused
@@ -78,7 +80,7 @@ module _ (M : IndexedMesh) (d : Outputs) where
     nothing-met on = passed ∙ rw on
 
     -- and the lists were filled
-    pub done : outputs_off M d ≡ false → (r : Outcome) → outcome r ≡ result tt → {d' : Outputs} → Filled M d d' → MeshMirrored M d r d'
+    pub done : outputs_off M d ≡ false → (r : Result Unit Refusal) → answered r ≡ result tt → {d' : Outputs} → Filled M d d' → MeshMirrored M d r d'
     done on r e written =
         let met = nothing-met on in
         let same = lengths-same on in
@@ -87,7 +89,7 @@ module _ (M : IndexedMesh) (d : Outputs) where
           answer-is = rw (met, e);
           left = record {
             positions-are = rw met (list_written _ d.positions written.positions same.positions sized.positions-are);
-            tags-are = rw met (list_written _ d.tags written.tags same.tags sized.tags-are);
+            tags-are = rw met (written.tags ∙ sym (below-of-list M.tags 0) ∙ ap (list_below (tag M)) sized.tags-are);
             indices-are = rw met (list_written _ d.indices written.indices same.indices sized.indices-are);
           };
         }

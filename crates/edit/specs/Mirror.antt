@@ -10,11 +10,11 @@
 --   mirror_answer ..      its answer: done, or the number of the refusal
 --   MirrorLeft M d d'    d' are the lent lists d after the mirror call on the mesh M: whole lists of the image, or as they were after a refusal
 --   MeshMirrored M d r d'   r is the answer of that call, and d' are the lists afterwards
-use Rattle.std.specs.Prelude.{◌≡◌, Bool, not, ◌||◌, List, [], ◌∷◌, ℕ, zero, suc, ◌+◌, ◌-◌, ◌*◌, ◌/◌, ◌%◌, eqb, ℤ, neg_ℤ, length}
+use Rattle.std.specs.Prelude.{◌≡◌, Bool, not, ◌||◌, List, [], ◌∷◌, ℕ, zero, suc, ◌+◌, ◌-◌, ◌*◌, ◌/◌, ◌%◌, eqb, ℤ, neg_ℤ, length, Result}
 use Rattle.std.proofs.Math.Option.{Option}
 use Rattle.finite.specs.Filled.{list_below}
-use Rattle.answer.specs.Table.{Row, row, Answer, answer_by, written_by, outcome}
-use Rattle.answer.specs.declared.model.Outcome.{Outcome}
+use Rattle.answer.specs.Table.{Row, row, Answer, answer_by, written_by, answered}
+use Rattle.answer.specs.declared.refusal.Refusal.{Refusal}
 use Rattle.mesh.specs.IndexedMesh.{IndexedMesh, indexed, corners, at, tag, coordinate}
 use Rattle.mesh.specs.Answer.{mesh_refusal}
 
@@ -63,6 +63,6 @@ pub record MirrorLeft (M : IndexedMesh) (d d' : Outputs) : Type 0 where
   pub tags-are : d'.tags ≡ written_by (mirror_refusal M d) d.tags (mirrored M).tags
   pub indices-are : d'.indices ≡ written_by (mirror_refusal M d) d.indices (mirrored M).indices
 
-pub record MeshMirrored (M : IndexedMesh) (d : Outputs) (r : Outcome) (d' : Outputs) : Type 0 where
-  pub answer-is : outcome r ≡ mirror_answer M d
+pub record MeshMirrored (M : IndexedMesh) (d : Outputs) (r : Result Unit Refusal) (d' : Outputs) : Type 0 where
+  pub answer-is : answered r ≡ mirror_answer M d
   pub left : MirrorLeft M d d'

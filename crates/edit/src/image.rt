@@ -1,27 +1,24 @@
 // The lists of a mirror image.
-ghost use Rattle.std.specs.Prelude.{◌≡◌, ◌||◌, ℕ, ◌%◌, ◌≤◌, ◌<◌, pos, nat_abs, length, get_or};
+ghost use Rattle.std.specs.Prelude.{◌≡◌, ℕ, ◌%◌, ◌≤◌, ◌<◌, pos, nat_abs, length, get_or};
 ghost use Rattle.finite.specs.Filled.{filled};
 ghost use Rattle.limits.specs.Limits.{max_coordinate};
-ghost use Rattle.edit.specs.Mirror.{reflected_corner, reflected, differ};
+ghost use Rattle.mesh.specs.IndexedMesh.{mesh_in};
+ghost use Rattle.edit.specs.Mirror.{reflected_corner, reflected, outputs, outputs_off};
 
-// Whether one of three lists has another length than the list that is written into it: cause 16.
+use mesh::model::MeshLists;
+
+// Whether one of three lists has another length than the list of the mesh that is written into it: cause 16.
 pub(crate) fn outputs_off(
-    positions: usize,
-    tags: usize,
-    faces: usize,
-    out_positions: usize,
-    out_tags: usize,
-    out_faces: usize,
+    mesh: MeshLists,
+    out_positions: &[i32],
+    out_tags: &[u8],
+    out_faces: &[u16],
 ) -> bool
-    ensures { result ≡ (differ out_positions positions || (differ out_tags tags || differ out_faces faces)) }
+    ensures { result ≡ outputs_off (mesh_in mesh.entry) (outputs out_positions.now out_tags.now out_faces.now) }
 {
-    if out_positions != positions {
-        return true;
-    }
-    if out_tags != tags {
-        return true;
-    }
-    out_faces != faces
+    out_positions.len() != mesh.positions.len()
+        || out_tags.len() != mesh.tags.len()
+        || out_faces.len() != mesh.indices.len()
 }
 
 // Coordinate k of the image of a vertex that has z there.
@@ -35,25 +32,15 @@ fn reflected_coordinate(k: usize, z: i32) -> i32
     z
 }
 
-// Writes the positions of the image.
+// Writes the positions of the image, into a list of their length.
 pub(crate) fn reflect_positions(positions: &[i32], out: &mut [i32])
-    requires positions_in_bounds { length positions.now ≤ length out.old }
+    requires same_length { length out.old ≡ length positions.now }
     requires by_index { (i : ℕ) → i < length positions.now → nat_abs (get_or positions.now i (pos 0)) ≤ max_coordinate }
     ensures { out.new
         ≡ filled (λ i. reflected (i % 3) (get_or positions.now i (pos 0))) (length positions.now) out.old }
 {
-    for i in 0..positions.len() {
-        out[i] = reflected_coordinate(i % 3, positions[i]);
-    }
-}
-
-// Writes bytes as they are.
-pub(crate) fn copy_bytes(bytes: &[u8], out: &mut [u8])
-    requires { length bytes.now ≤ length out.old }
-    ensures { out.new ≡ filled (λ i. get_or bytes.now i 0) (length bytes.now) out.old }
-{
-    for i in 0..bytes.len() {
-        out[i] = bytes[i];
+    for (i, place) in out.iter_mut().enumerate() {
+        *place = reflected_coordinate(i % 3, positions[i]);
     }
 }
 
@@ -64,12 +51,12 @@ fn reflected_corner(c: usize) -> usize
     c / 4 * 4 + (4 - c % 4) % 4
 }
 
-// Writes the faces of the image, of a list of whole faces.
+// Writes the faces of the image, of a list of whole faces, into a list of its length.
 pub(crate) fn reflect_faces(faces: &[u16], out: &mut [u16])
-    requires { (length faces.now ≤ length out.old) × (length faces.now % 4 ≡ 0) }
+    requires { (length out.old ≡ length faces.now) × (length faces.now % 4 ≡ 0) }
     ensures { out.new ≡ filled (λ c. get_or faces.now (reflected_corner c) 0) (length faces.now) out.old }
 {
-    for c in 0..faces.len() {
-        out[c] = faces[reflected_corner(c)];
+    for (c, place) in out.iter_mut().enumerate() {
+        *place = faces[reflected_corner(c)];
     }
 }

@@ -4,14 +4,13 @@ use mathlib.Core.Bool.{false}
 use mathlib.Core.Option.{none}
 use Prim.Native.Nat.{ℕ, ◌*◌, ◌<◌}
 use native.Mathlib.Omega.{arith}
-use Rattle.answer.specs.Table.{result, outcome}
-use Rattle.answer.specs.declared.model.Outcome.{Outcome}
+use Rattle.std.specs.Prelude.{Result}
+use Rattle.answer.specs.declared.refusal.Refusal.{Refusal}
+use Rattle.answer.specs.Table.{result, answered as answer_of}
 use Rattle.mesh.specs.IndexedMesh.{IndexedMesh}
 use Rattle.mesh.specs.WellFormed.{WellFormed}
 use Rattle.mesh.specs.Answer.{counts_of}
 use Rattle.mesh.proofs.AcceptedLaws.{accepted-well-formed, well-formed-accepted}
-use Rattle.sample.specs.Answer.{sampled}
-use Rattle.sample.specs.Marked.{marked}
 use Rattle.sample.proofs.RefusalLaws.{place-on}
 use Rattle.patch.specs.Patch.{view}
 use Rattle.patch.specs.Answer.{Lent, lists_short, patch_list, marks_list}
@@ -21,7 +20,7 @@ use Rattle.edit.proofs.AnswerLaws.{nothing-met}
 use Rattle.surface.specs.Claim.{OnMesh}
 use Rattle.surface.specs.Renumbering.{place}
 use Rattle.surface.specs.Witness.{sample_at, marked_at, asked, Evaluated}
-use Rattle.surface.specs.declared.model.SamplePlace.{SamplePlace}
+use Rattle.sample.specs.declared.model.Place.{Place as SamplePlace}
 use Rattle.surface.specs.declared.model.Evaluation.{Evaluation}
 use Rattle.surface.proofs.FaceSamples.{sample_from}
 use Rattle.surface.proofs.MarkLaws.{mark_from}
@@ -60,11 +59,11 @@ module _ {M : IndexedMesh} (a : WellFormed M) where
     image-marked = rw (image-coordinate 0 (omega arith), image-coordinate 1 (omega arith), image-coordinate 2 (omega arith), image-mark)
 
   -- ---- what the mirror call gave and left
-  module _ {x x' : Outputs} {r : Outcome} (mirror : MeshMirrored M x r x') (on : outputs_off M x ≡ false) where
+  module _ {x x' : Outputs} {r : Result Unit Refusal} (mirror : MeshMirrored M x r x') (on : outputs_off M x ≡ false) where
     unmet : mirror_refusal M x ≡ none
     unmet = nothing-met M x (well-formed-accepted a) on
 
-    mirror-done : outcome r ≡ result tt
+    mirror-done : answer_of r ≡ result tt
     mirror-done = mirror.answer-is ∙ rw unmet
 
     image-left : mirrored M ≡ mesh_left M x'
@@ -72,30 +71,30 @@ module _ {M : IndexedMesh} (a : WellFormed M) where
 
 -- ---- what the patch call and the sample calls gave
 evaluated-sample : {M : IndexedMesh} → WellFormed M → {d b : Lent} {n : ℕ} {q : SamplePlace} {r : Evaluation}
-    → Evaluated n (asked M d q) r b → lists_short M d ≡ false → OnMesh M n q → sampled r.sample ≡ answer_from M n q.face (place q.a q.b)
+    → Evaluated n (asked M d q) r b → lists_short M d ≡ false → OnMesh M n q → answer_of r.sample ≡ answer_from M n q.face (place q.a q.b)
 evaluated-sample a {d} {n = n} {q = q} gave long on = gave.sample-is ∙ sample-from d a long n q on
 
 evaluated-marked : {M : IndexedMesh} → WellFormed M → {d b : Lent} {n : ℕ} {q : SamplePlace} {r : Evaluation}
-    → Evaluated n (asked M d q) r b → lists_short M d ≡ false → OnMesh M n q → marked r.marked ≡ marked_answer_from M n q.face (place q.a q.b)
+    → Evaluated n (asked M d q) r b → lists_short M d ≡ false → OnMesh M n q → answer_of r.marked ≡ marked_answer_from M n q.face (place q.a q.b)
 evaluated-marked a {d} {n = n} {q = q} gave long on = gave.marked-is ∙ marked_by d a long n q on
 
 module _ {M : IndexedMesh} (a : WellFormed M) {d d' b b' : Lent} {n : ℕ} {q q' : SamplePlace}
     {s s' : Evaluation} (first : Evaluated n (asked M d q) s b) (second : Evaluated n (asked (mirrored M) d' q') s' b') where
   -- the image's samples at the place with a and b exchanged
   module _ (long : lists_short (mirrored M) d' ≡ false) (on : OnMesh M n q) (at : q' ≡ exchanged q) where
-    turned_up : sampled s'.sample ≡ answer_from (mirrored M) n q.face (place q.b q.a)
+    turned_up : answer_of s'.sample ≡ answer_from (mirrored M) n q.face (place q.b q.a)
     turned_up =
         second.sample-is
         ∙ ap (sample_at (patch_list (mirrored M) d') n) at
         ∙ sample-from d' (image-formed a) long n (exchanged q) (image-place a n q on)
 
-    marked-turned-up : marked s'.marked ≡ marked_answer_from (mirrored M) n q.face (place q.b q.a)
+    marked-turned-up : answer_of s'.marked ≡ marked_answer_from (mirrored M) n q.face (place q.b q.a)
     marked-turned-up =
         second.marked-is
         ∙ ap (marked_at (patch_list (mirrored M) d') (marks_list (mirrored M) d') n) at
         ∙ marked_by d' (image-formed a) long n (exchanged q) (image-place a n q on)
 
-  claim : {r : Outcome} → outcome r ≡ result tt → MirrorClaim n (asked M d q) (asked (mirrored M) d' q') r s s'
+  claim : {r : Result Unit Refusal} → answer_of r ≡ result tt → MirrorClaim n (asked M d q) (asked (mirrored M) d' q') r s s'
   claim done = record {
     done = done;
     accepted = well-formed-accepted (image-formed a);

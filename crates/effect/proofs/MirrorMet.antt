@@ -7,76 +7,40 @@ use Prim.Native.Nat.{ℕ}
 use lib.IntN.{pos}
 use lib.ListN.{replicate}
 use Rattle.finite.specs.Fold.{fold_below}
-use Rattle.answer.specs.Table.{Answer, result, refusal, written_by, outcome_of}
-use Rattle.answer.proofs.TableLaws.{outcome-of}
+use Rattle.answer.specs.Table.{written_by, result_of}
+use Rattle.answer.proofs.TableLaws.{result-of}
 use Rattle.limits.specs.Range.{sizes_off}
-use Rattle.limits.specs.declared.model.Mesh.{Mesh}
-use Rattle.limits.specs.declared.model.Checked.{Checked}
-use Rattle.limits.specs.declared.model.Checked.TheVariants.{Accepted as AcceptedMesh, Refused as RefusedMesh}
 use Rattle.mesh.specs.IndexedMesh.{IndexedMesh, indexed}
 use Rattle.mesh.specs.HalfEdge.{is_twin, twin, boundary, same_way, doubled}
 use Rattle.mesh.specs.Fan.{valence, on_boundary, around, iterate, fan_by, fan}
-use Rattle.mesh.specs.Refusal.{coordinate_off, tag_off, vertex_off, vertex_twice, half_edge_twice, vertex_unused, fan_broken, valence_off, inner_tagged, Accepted}
-use Rattle.mesh.specs.Answer.{checked}
-use Rattle.sample.specs.Answer.{sampled}
-use Rattle.sample.specs.Marked.{marked}
-use Rattle.sample.specs.declared.model.Point.{Point}
-use Rattle.sample.specs.declared.model.MarkedPoint.{MarkedPoint}
-use Rattle.sample.specs.declared.model.Sampled.{Sampled}
-use Rattle.sample.specs.declared.model.Sampled.TheVariants.{At, Refused as RefusedSample}
-use Rattle.sample.specs.declared.model.Marked.{Marked}
-use Rattle.sample.specs.declared.model.Marked.TheVariants.{At as AtMarked, Refused as RefusedMarked}
+use Rattle.mesh.specs.Refusal.{coordinate_off, tag_off, vertex_off, vertex_twice, half_edge_twice, vertex_unused, fan_broken, valence_off, inner_tagged}
+use Rattle.mesh.specs.Refusal.{Accepted}
 use Rattle.patch.specs.Answer.{Lent, lent, patch_answer, patch_twins, patch_list, marks_list}
 use Rattle.edit.specs.Mirror.{mirrored, Outputs, outputs, mirror_refusal, mirror_answer, outputs_off, MeshMirrored}
 use Rattle.surface.specs.Witness.{sample_at, marked_at, asked, Evaluated}
-use Rattle.surface.specs.declared.model.SamplePlace.{SamplePlace}
+use Rattle.sample.specs.declared.model.Place.{Place as SamplePlace}
 use Rattle.surface.specs.declared.model.Evaluation.{Evaluation}
-
--- ---- the answers, as cases of the code's enums
-abbrev checked_of : Answer Mesh → Checked
-checked_of (result m) = AcceptedMesh m
-checked_of (refusal k) = RefusedMesh k
-
-checked-of : (a : Answer Mesh) → checked (checked_of a) ≡ a
-checked-of (result m) = refl
-checked-of (refusal k) = refl
-
-abbrev sampled_of : Answer Point → Sampled
-sampled_of (result p) = At p
-sampled_of (refusal k) = RefusedSample k
-
-sampled-of : (a : Answer Point) → sampled (sampled_of a) ≡ a
-sampled-of (result p) = refl
-sampled-of (refusal k) = refl
-
-abbrev marked_of : Answer MarkedPoint → Marked
-marked_of (result p) = AtMarked p
-marked_of (refusal k) = RefusedMarked k
-
-marked-of : (a : Answer MarkedPoint) → marked (marked_of a) ≡ a
-marked-of (result p) = refl
-marked-of (refusal k) = refl
 
 -- ---- whatever the calls are passed
 pub mirror-met : (M : IndexedMesh) (x : Outputs) → (let met = mirror_refusal M x in
-    MeshMirrored M x (outcome_of (mirror_answer M x)) (outputs (written_by met x.positions (mirrored M).positions)
+    MeshMirrored M x (result_of (mirror_answer M x)) (outputs (written_by met x.positions (mirrored M).positions)
     (written_by met x.tags (mirrored M).tags) (written_by met x.indices (mirrored M).indices)))
 mirror-met M x =
-    record { answer-is = outcome-of (mirror_answer M x); left = record { positions-are = refl; tags-are = refl; indices-are = refl } }
+    record { answer-is = result-of (mirror_answer M x); left = record { positions-are = refl; tags-are = refl; indices-are = refl } }
 
 abbrev evaluation : IndexedMesh → Lent → ℕ → SamplePlace → Evaluation
 evaluation M d n q = record {
-  mesh = checked_of (patch_answer M d);
-  sample = sampled_of (sample_at (patch_list M d) n q);
-  marked = marked_of (marked_at (patch_list M d) (marks_list M d) n q);
+  mesh = result_of (patch_answer M d);
+  sample = result_of (sample_at (patch_list M d) n q);
+  marked = result_of (marked_at (patch_list M d) (marks_list M d) n q);
 }
 
 pub evaluated-met : (M : IndexedMesh) (d : Lent) (n : ℕ) (q : SamplePlace)
     → Evaluated n (asked M d q) (evaluation M d n q) (lent (patch_twins M d) (patch_list M d) (marks_list M d))
 evaluated-met M d n q = record {
-  patched = record { answer-is = checked-of (patch_answer M d); twins-are = refl; patches-are = refl; marks-are = refl };
-  sample-is = sampled-of (sample_at (patch_list M d) n q);
-  marked-is = marked-of (marked_at (patch_list M d) (marks_list M d) n q);
+  patched = record { answer-is = result-of (patch_answer M d); twins-are = refl; patches-are = refl; marks-are = refl };
+  sample-is = result-of (sample_at (patch_list M d) n q);
+  marked-is = result-of (marked_at (patch_list M d) (marks_list M d) n q);
 }
 
 -- ---- the square, with all its vertices at the origin, and lent lists of its lengths

@@ -4,19 +4,20 @@
 --   any_tag_off xs          a number of the list is above the largest tag (rule M3)
 --   any_vertex_off v xs     a number of the list is v or above (rule M4)
 --   any_vertex_twice xs     two corners of one face of the list have the same vertex (rule M4): a corner has that of one of the three others of its face
-use Rattle.std.specs.Prelude.{Bool, List, ℕ, suc, ◌*◌, ◌/◌, eqb, ltb, leb, ℤ, pos, nat_abs, length, get_or}
+use Rattle.std.specs.Prelude.{Bool, List, ℕ, suc, ◌*◌, ◌/◌, eqb, ltb, leb, ℤ, nat_abs, length, get_or}
+use Rattle.std.specs.List.{list_any}
 use Rattle.finite.specs.Fold.{any_below}
 use Rattle.limits.specs.Limits.{max_coordinate, corner_tag}
 use Rattle.corner.specs.Corner.{turn}
 
 abbrev pub any_coordinate_off : List ℤ → Bool
-any_coordinate_off xs = any_below (λ i. ltb max_coordinate (nat_abs (get_or xs i (pos 0)))) (length xs)
+any_coordinate_off xs = list_any (λ x. ltb max_coordinate (nat_abs x)) xs
 
 abbrev pub any_tag_off : List ℕ → Bool
-any_tag_off xs = any_below (λ p. ltb corner_tag (get_or xs p 0)) (length xs)
+any_tag_off xs = list_any (λ t. ltb corner_tag t) xs
 
 abbrev pub any_vertex_off : ℕ → List ℕ → Bool
-any_vertex_off v xs = any_below (λ c. leb v (get_or xs c 0)) (length xs)
+any_vertex_off v xs = list_any (λ p. leb v p) xs
 
 -- corner c has the vertex of the corner i + 1 further in its face
 abbrev pub vertex_again : List ℕ → ℕ → ℕ → Bool

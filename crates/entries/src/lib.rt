@@ -13,51 +13,31 @@ use limits::model::Mesh;
 pub fn any_coordinate_off(positions: &[i32]) -> bool
     ensures { result ≡ any_coordinate_off positions.now }
 {
-    for i in 0..positions.len() {
-        if coordinate_off(positions[i]) {
-            return true;
-        }
-    }
-    false
+    positions.iter().any(|x| coordinate_off(*x))
 }
 
 // Whether one of the tags is above the largest: cause 4. Writes: nothing. Refuses: nothing.
 pub fn any_tag_off(tags: &[u8]) -> bool
     ensures { result ≡ any_tag_off tags.now }
 {
-    for p in 0..tags.len() {
-        if Mesh::CORNER_TAG < tags[p] {
-            return true;
-        }
-    }
-    false
+    tags.iter().any(|tag| Mesh::CORNER_TAG < *tag)
 }
 
 // Whether one of the faces' numbers is v or above: cause 5. Writes: nothing. Refuses: nothing.
 pub fn any_vertex_off(faces: &[u16], v: usize) -> bool
     ensures { result ≡ any_vertex_off v faces.now }
 {
-    for c in 0..faces.len() {
-        if v <= wide(faces[c]) {
-            return true;
-        }
-    }
-    false
+    faces.iter().any(|p| v <= wide(*p))
 }
 
 // Whether another corner of the face of c has the vertex of c.
+#[tactic(auto, unfolding(finite::specs::Fold::fold_below))]
 fn vertex_twice(faces: &[u16], c: usize) -> bool
     requires { c < 4 * (length faces.now / 4) }
     ensures { result ≡ any_below (vertex_again faces.now c) 3 }
 {
     let p = faces[c];
-    if faces[next_corner(c)] == p {
-        return true;
-    }
-    if faces[across_corner(c)] == p {
-        return true;
-    }
-    faces[prev_corner(c)] == p
+    faces[next_corner(c)] == p || faces[across_corner(c)] == p || faces[prev_corner(c)] == p
 }
 
 // Whether a face has one vertex twice, of the whole faces of the list: cause 6. Writes: nothing. Refuses: nothing.
@@ -65,10 +45,5 @@ pub fn any_vertex_twice(faces: &[u16]) -> bool
     ensures { result ≡ any_vertex_twice faces.now }
 {
     let n = 4 * (faces.len() / 4);
-    for c in 0..n {
-        if vertex_twice(faces, c) {
-            return true;
-        }
-    }
-    false
+    (0..n).any(|c| vertex_twice(faces, c))
 }

@@ -7,3 +7,5 @@ pub mod Counting
 pub mod Gather
 pub mod FilledLaws
 pub mod IntegerSum
+pub mod Lists
+pub mod Flags

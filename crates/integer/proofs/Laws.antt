@@ -1,10 +1,9 @@
 -- The laws of ℤ that the kit's `lib.IntN` and `lib.Signed` lack: ring, order, absolute value, and numbers that fit a signed width.
 use mathlib.Core.Path.{◌≡◌, refl, ◌∙◌}
-use Prim.Native.Nat.{ℕ, zero, suc, ◌+◌, ◌*◌, ◌<◌, ◌≤◌, ◌^◌}
+use Prim.Native.Nat.{ℕ, suc, ◌+◌, ◌*◌, ◌<◌, ◌≤◌, ◌^◌}
 use native.Mathlib.Omega.{arith}
 use native.Mathlib.Nat.{mul-le-mul}
 use lib.IntN.{ℤ, pos, negsuc, neg_ℤ, nat_abs, ◌+ℤ◌, ◌-ℤ◌, ◌*ℤ◌}
-use lib.Pow.{pow_pos}
 use lib.Signed.{mag, ◌≤ℤ◌}
 use mir.Syntax.{Width}
 use mir.Val.{SFits, to_z, of_z, hbits}
@@ -79,8 +78,3 @@ sfits-+ a b h = sfits-abs (a +ℤ b) (omega (arith, abs-+ a b))
 -- a number that a call gave, read back from its bits
 pub read_back : (w : Width) {r z : ℤ} → mag r < 2 ^ hbits w → r ≡ z → to_z w (of_z w r) ≡ z
 read_back w ok e = to_z-of_z (record { sfits = ok }) ∙ e
-
--- a negative number may be one larger
-pub sfits_neg : {w : Width} (a : ℕ) → a ≤ 2 ^ hbits w → SFits w (neg_ℤ (pos a))
-sfits_neg {w} zero h = record { sfits = pow_pos (hbits w) }
-sfits_neg (suc a) h = record { sfits = h }

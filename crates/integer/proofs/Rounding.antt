@@ -9,7 +9,7 @@ use native.Mathlib.Nat.{div-add-mod', mod-lt}
 use native.Mathlib.Omega.{arith}
 use lib.Dec.{T, eqb, ltb}
 use lib.IntN.{ℤ, pos, negsuc, neg_ℤ, nat_abs, ◌-ℤ◌, ◌*ℤ◌}
-use lib.Signed.{lt_z, non_neg, mag}
+use lib.Signed.{lt_z, mag}
 use borrow.Author.Tests.{ltb-true, ltb-false, le-ltb, ne_eqb}
 use Rattle.integer.specs.Nearest.{half_even, nearest_ℕ, nearest, remainder, whole}
 use Rattle.integer.proofs.Difference.{int, nat, ◌⊝◌, ◌⊛◌, ~, prove-eq, read-abs}
@@ -17,10 +17,6 @@ use Rattle.integer.proofs.Laws.{abs_neg}
 use Rattle.integer.proofs.NearestLaws.{half_even-cases, nearest_ℕ-half_even, nearest-bounded, nearest-meets}
 
 -- ---- a negative integer
-pub minus-one-minus : (z : ℤ) → lt_z z (pos 0) ≡ true → negsuc 0 -ℤ z ≡ pos (mag z)
-minus-one-minus (pos a) t = absurd (omega (arith, ltb-true a 0 t))
-minus-one-minus (negsuc a) t = prove-eq (~ (nat 1) ⊝ int (negsuc a)) (nat a) (omega arith)
-
 pub mag-negative : (z : ℤ) → lt_z z (pos 0) ≡ true → mag z + 1 ≡ nat_abs z
 mag-negative (pos a) t = absurd (omega (arith, ltb-true a 0 t))
 mag-negative (negsuc a) t = omega arith
@@ -31,10 +27,6 @@ nearest_negative (pos a) d t = absurd (omega (arith, ltb-true a 0 t))
 nearest_negative (negsuc a) d t = refl
 
 -- ---- an integer that is not negative
-pub not_negative : (z : ℤ) → lt_z z (pos 0) ≡ false → T (non_neg z)
-not_negative (pos a) t = tt
-not_negative (negsuc a) t = subst T t tt
-
 pub mag-not-negative : (z : ℤ) → lt_z z (pos 0) ≡ false → mag z ≡ nat_abs z
 mag-not-negative (pos a) t = refl
 mag-not-negative (negsuc a) t = absurd (subst T t tt)

@@ -8,15 +8,12 @@ ghost use Rattle.integer.specs.Nearest.{nearest_ℕ, nearest, remainder, whole};
 
 use crate::model::Rounded;
 
-// Returns the magnitude of `num`, for every `num`: for a negative number one more than that of `num + 1`, since the smallest one has no negation.
+// Returns the magnitude of `num`, for every `num`: the smallest one has a magnitude, though no negation. It stays beside the library's `unsigned_abs`, since the
+// table of calls of docs/SPECIFICATION.md and the edits smallest and magnitude-one-less name it.
 pub fn magnitude(num: i64) -> u64
     ensures { result ≡ nat_abs num }
 {
-    if num < 0 {
-        (-1 - num) as u64 + 1
-    } else {
-        num as u64
-    }
+    num.unsigned_abs()
 }
 
 // `size / den` rounded. An even quotient goes up where twice the rest is above `den`, an odd one also where it is equal.
@@ -26,7 +23,7 @@ fn round_magnitude(size: u64, den: u32) -> u64
     if den == 0 {
         return 0;
     }
-    let d = den as u64;
+    let d = u64::from(den);
     let quotient = size / d;
     if d < 2 * (size % d) + quotient % 2 {
         quotient + 1
@@ -35,7 +32,7 @@ fn round_magnitude(size: u64, den: u32) -> u64
     }
 }
 
-// The negation of `size`, which may be the magnitude of the smallest number.
+// The negation of `size`, which may be the magnitude of the smallest number: 2^63, which no `i64` holds, so `with_sign` can't serve here.
 fn negated(size: u64) -> i64
     requires { size ≤ 2 ^ 63 }
     ensures { result ≡ neg_ℤ (pos size) }
@@ -51,7 +48,7 @@ fn negated(size: u64) -> i64
 fn quotient(num: i64, den: u32) -> i64
     ensures { result ≡ nearest num den }
 {
-    let size = round_magnitude(magnitude(num), den);
+    let size = round_magnitude(num.unsigned_abs(), den);
     if num < 0 { negated(size) } else { size as i64 }
 }
 
@@ -60,7 +57,7 @@ fn rest_of_magnitude(size: u64, den: u32) -> i64
     requires { 0 < den }
     ensures { result ≡ pos size -ℤ pos (nearest_ℕ size den) *ℤ pos den }
 {
-    let d = den as u64;
+    let d = u64::from(den);
     let rest = size % d;
     if d < 2 * rest + size / d % 2 {
         rest as i64 - d as i64
@@ -82,7 +79,7 @@ fn rest(num: i64, den: u32) -> i64
     ensures { result ≡ remainder num den }
 {
     if 0 < den {
-        return with_sign(num < 0, rest_of_magnitude(magnitude(num), den));
+        return with_sign(num < 0, rest_of_magnitude(num.unsigned_abs(), den));
     }
     num
 }
@@ -92,9 +89,9 @@ fn rest(num: i64, den: u32) -> i64
 fn is_whole(num: i64, den: u32) -> bool
     ensures { result ≡ whole num den }
 {
-    let size = magnitude(num);
+    let size = num.unsigned_abs();
     if 0 < den {
-        return size % den as u64 == 0;
+        return size % u64::from(den) == 0;
     }
     size == 0
 }
@@ -115,6 +112,5 @@ pub fn round(num: i64, den: u32) -> Rounded
 pub fn beyond(x: i32, limit: u32) -> bool
     ensures { result ≡ ltb limit (nat_abs x) }
 {
-    let size = magnitude(x as i64);
-    (limit as u64) < size
+    limit < x.unsigned_abs()
 }

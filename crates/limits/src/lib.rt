@@ -13,29 +13,19 @@ use crate::model::Mesh;
 pub fn off_range(low: usize, high: usize, x: usize) -> bool
     ensures { result ≡ off low high x }
 {
-    if x < low {
-        return true;
-    }
-    high < x
+    x < low || high < x
 }
 
 // Whether the two sizes and the lengths of the three lists are no mesh's: cause 1. Writes: nothing. Refuses: nothing.
+#[tactic(auto, unfolding(crate::specs::Range::sizes_off))]
 pub fn sizes_off(v: usize, f: usize, positions: usize, tags: usize, faces: usize) -> bool
     ensures { result ≡ sizes_off v f positions tags faces }
 {
-    if off_range(Mesh::MIN_VERTICES, Mesh::MAX_VERTICES, v) {
-        return true;
-    }
-    if off_range(Mesh::MIN_FACES, Mesh::MAX_FACES, f) {
-        return true;
-    }
-    if positions != 3 * v {
-        return true;
-    }
-    if tags != v {
-        return true;
-    }
-    faces != 4 * f
+    off_range(Mesh::MIN_VERTICES, Mesh::MAX_VERTICES, v)
+        || off_range(Mesh::MIN_FACES, Mesh::MAX_FACES, f)
+        || positions != 3 * v
+        || tags != v
+        || faces != 4 * f
 }
 
 // Whether a coordinate is beyond the limit: cause 3, of one position. Writes: nothing. Refuses: nothing.
@@ -50,38 +40,48 @@ pub fn valence_bad(boundary: bool, valence: usize) -> bool
     ensures { result ≡ valence_bad boundary valence }
 {
     if boundary {
-        return off_range(Mesh::MIN_BOUNDARY_FACES, Mesh::MAX_BOUNDARY_FACES, valence);
+        off_range(Mesh::MIN_BOUNDARY_FACES, Mesh::MAX_BOUNDARY_FACES, valence)
+    } else {
+        off_range(Mesh::MIN_VALENCE, Mesh::MAX_VALENCE, valence)
     }
-    off_range(Mesh::MIN_VALENCE, Mesh::MAX_VALENCE, valence)
 }
 
 // Whether a vertex is tagged a corner and is not on the boundary: cause 11, of one vertex. Writes: nothing. Refuses: nothing.
+// A tag is a byte as C lends it (rule M3).
 pub fn inner_tagged(tag: u8, boundary: bool) -> bool
     ensures { result ≡ (eqb tag corner_tag && not boundary) }
 {
-    if tag == Mesh::CORNER_TAG {
-        return !boundary;
-    }
-    false
+    tag == Mesh::CORNER_TAG && !boundary
 }
 
+// Whether a list has too few places for f faces that take up so many each.
+fn places_short<const PER_FACE: usize>(f: usize, places: usize) -> bool
+    ensures { result ≡ ltb places (PER_FACE * f) }
+{
+    match PER_FACE.checked_mul(f) {
+        Some(wanted) => places < wanted,
+        None => true,
+    }
+}
+
+// The three instances for the lists that are lent: docs/SPECIFICATION.md and edits name each.
 // Whether a list has too few places for the twins of f faces: cause 2. Writes: nothing. Refuses: nothing.
 pub fn twins_short(f: usize, places: usize) -> bool
     ensures { result ≡ ltb places (4 * f) }
 {
-    places / 4 < f
+    places_short::<4>(f, places)
 }
 
 // Whether a list has too few places for the patches of f faces: cause 2. Writes: nothing. Refuses: nothing.
 pub fn patches_short(f: usize, places: usize) -> bool
     ensures { result ≡ ltb places (48 * f) }
 {
-    places / 48 < f
+    places_short::<48>(f, places)
 }
 
 // Whether a list has too few places for the marks of the patches of f faces: cause 2. Writes: nothing. Refuses: nothing.
 pub fn marks_short(f: usize, places: usize) -> bool
     ensures { result ≡ ltb places (16 * f) }
 {
-    places / 16 < f
+    places_short::<16>(f, places)
 }

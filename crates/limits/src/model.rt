@@ -1,7 +1,7 @@
-// The mesh's record and the answer of the check.
+// The mesh's record.
 
 // A checked mesh: its counts V, F, E and B (rule T8). The limits are its constants, named here once (rule M5).
-#[derive(Clone, Copy)]
+#[derive(Clone, Copy, Debug, PartialEq, Eq)]
 pub struct Mesh {
     pub vertices: usize,
     pub faces: usize,
@@ -33,11 +33,4 @@ impl Mesh {
     pub const CORNER_TAG: u8 = 1;
     // The twin of a boundary half-edge.
     pub const NO_TWIN: u16 = 65535;
-}
-
-// The answer of the check: the counts of an accepted mesh, or the number of the refusal.
-#[derive(Clone, Copy)]
-pub enum Checked {
-    Accepted(Mesh),
-    Refused(u8),
 }

@@ -10,14 +10,16 @@ use borrow.Author.Tests.{lt-ltb, le-ltb}
 use Rattle.integer.specs.Nearest.{nearest}
 use Rattle.finite.specs.Filled.{filled}
 use Rattle.answer.specs.Table.{row, first_met, result, refusal, answer_by}
-use Rattle.answer.specs.declared.model.Outcome.TheVariants.{Done, Refused}
+use Rattle.std.specs.Prelude.{Ok, Err}
+use Rattle.answer.specs.declared.refusal.Refusal.{Refusal}
+use Rattle.answer.specs.Number.{number}
 use Rattle.finite.proofs.FilledLaws.{filled_at, filled-ext}
-use Rattle.answer.proofs.TableLaws.{or_else, or_else-none, first-append, append-none}
+use Rattle.answer.proofs.TableLaws.{or_else, or_else-none, first-append, append-none, result-none, refusal-met}
 use Rattle.sample.specs.Bernstein.{rounded, coordinate_at}
 use Rattle.sample.specs.Refusal.{place_off, sample_rows}
 use Rattle.sample.specs.Answer.{point_at, sample_answer}
 use Rattle.line.specs.Line.{line_length, line_coordinate, line_short, line_refusal, point_in, LineSampled}
-use Rattle.sample.specs.Curve.{curve_at, curve_refusal, CurvesGiven}
+use Rattle.sample.specs.Curve.{curve_at, curve_refusal, curves_answer}
 use Rattle.sample.specs.declared.model.Curves.{Curves}
 use Rattle.sample.proofs.BlendLaws.{same_point}
 use Rattle.sample.proofs.RefusalLaws.{allowed}
@@ -69,22 +71,37 @@ module _ (patches : List ℤ) (f n b : ℕ) (line : List ℤ) (a : ℕ) (l : a �
   line-answered e = answered-first ∙ rw (first-clear patches f n b line e)
 
 -- ---- the curves that a line is made from
-module _ {patches : List ℤ} {f n b : ℕ} {r : Curves} (gave : CurvesGiven patches f n b r) (met : curve_refusal patches f n b ≡ none) where
+module _ (patches : List ℤ) (f n b : ℕ) {r : Curves} (gave : result r ≡ curves_answer patches f n b) where
+  pub met-none : curve_refusal patches f n b ≡ none
+  unfolding curves_answer
+  met-none = (result-none (curve_refusal patches f n b) gave).0
+
+  same : (let c = curve_at patches f n b in r ≡ record { divisor = n ^ 6; x = c 0; y = c 1; z = c 2 })
+  unfolding curves_answer
+  same = (result-none (curve_refusal patches f n b) gave).1
+
   pub given-at : (k : ℕ) → k < 3 → curve_in r k ≡ curve_at patches f n b k
-  given-at = each_three (λ k. curve_in r k ≡ curve_at patches f n b k) (gave.x-is ∙ rw met) (gave.y-is ∙ rw met) (gave.z-is ∙ rw met)
+  given-at =
+      each_three (λ k. curve_in r k ≡ curve_at patches f n b k)
+      (ap (λ (c : Curves). c.x) same) (ap (λ (c : Curves). c.y) same) (ap (λ (c : Curves). c.z) same)
 
   pub drawable : {line : List ℤ} → line_length n ≤ length line → Drawable r n line
   drawable room =
-      let steps = (allowed patches f n 0 b met).samplable.across in
+      let steps = (allowed patches f n 0 b met-none).samplable.across in
       record {
         curved = λ k below. record {
           least = steps.least;
           most = steps.most;
-          over = gave.divisor-is ∙ rw met;
-          size = rw (given-at k below) (curve-bound patches f n b met k below);
+          over = ap (λ (c : Curves). c.divisor) same;
+          size = rw (given-at k below) (curve-bound patches f n b met-none k below);
         };
         room = room;
       }
+
+-- a refusal of the curves is what a sample at a = 0 meets
+pub curves-met : (patches : List ℤ) (f n b : ℕ) {k : ℕ} → refusal k ≡ curves_answer patches f n b → curve_refusal patches f n b ≡ some k
+unfolding curves_answer
+curves-met patches f n b e = refusal-met _ (curve_refusal patches f n b) e
 
 -- coordinate k of a line is that of its samples
 along-is : (patches : List ℤ) (f n b k a : ℕ) {curve : List ℤ} → curve ≡ curve_at patches f n b k → curve_coordinate n curve a ≡ coordinate_at patches f n a b k
@@ -92,10 +109,10 @@ unfolding rounded
 along-is patches f n b k a e =
     ap (λ (c : List ℤ). curve_coordinate n c a) e ∙ ap (λ (z : ℤ). nearest z (n ^ 6)) (curve-numerator patches f n b a k)
 
-pub line-along : {patches : List ℤ} {f n b : ℕ} (line : List ℤ) {r : Curves} → CurvesGiven patches f n b r → curve_refusal patches f n b ≡ none
+pub line-along : (patches : List ℤ) (f n b : ℕ) (line : List ℤ) {r : Curves} → result r ≡ curves_answer patches f n b
     → filled (λ i. curve_coordinate n (curve_in r (i % 3)) (i / 3)) (line_length n) line ≡ filled (line_coordinate patches f n b) (line_length n) line
-line-along {patches} {f} {n} {b} line gave met =
-    filled-ext (line_length n) line (λ i _. along-is patches f n b (i % 3) (i / 3) (given-at gave met (i % 3) (omega arith)))
+line-along patches f n b line gave =
+    filled-ext (line_length n) line (λ i _. along-is patches f n b (i % 3) (i / 3) (given-at patches f n b gave (i % 3) (omega arith)))
 
 -- ---- a line that is written
 line-holds : (patches : List ℤ) (f n b a k : ℕ) (line : List ℤ) → a ≤ n → k < 3
@@ -108,7 +125,7 @@ line-holds patches f n b a k line l below =
 
 module _ (patches : List ℤ) (f n b : ℕ) (line : List ℤ) where
   pub line-done : {after : List ℤ} → line_refusal patches f n b line ≡ none
-      → after ≡ filled (line_coordinate patches f n b) (line_length n) line → LineSampled patches f n b line Done after
+      → after ≡ filled (line_coordinate patches f n b) (line_length n) line → LineSampled patches f n b line (Ok tt) after
   line-done {after} e written = record {
     answer-is = rw e;
     left = record { line-is = written ∙ rw e; samples-are = λ _ a l. line-answered patches f n b line a l e ∙ ap result (held a l) };
@@ -125,8 +142,8 @@ module _ (patches : List ℤ) (f n b : ℕ) (line : List ℤ) where
           (at a 1 l (omega arith))
           (at a 2 l (omega arith))
 
-  pub line-not-done : {k : ℕ} → line_refusal patches f n b line ≡ some k → LineSampled patches f n b line (Refused k) line
-  line-not-done {k} e = record {
+  pub line-not-done : {r : Refusal} → line_refusal patches f n b line ≡ some (number r) → LineSampled patches f n b line (Err r) line
+  line-not-done {r} e = record {
     answer-is = rw e;
     left = record { line-is = rw e; samples-are = λ q. let z : ◌≡◌ {A = ℕ} 0 1 = cc in absurd (omega arith) };
   }

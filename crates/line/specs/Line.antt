@@ -9,11 +9,11 @@
 --   LineLeft patches f n b line line'   line' is the lent list after the line call. In the words of the sample call: where nothing is refused, its
 --                          answer at each (a, b) is the point in the list at a
 --   LineSampled patches f n b line r line'   r is the answer of that call, and line' is the list afterwards
-use Rattle.std.specs.Prelude.{◌≡◌, Bool, List, [], ◌∷◌, ◌++◌, ℕ, ◌+◌, ◌*◌, ◌/◌, ◌%◌, ◌≤◌, ltb, ℤ, pos, length, get_or}
+use Rattle.std.specs.Prelude.{◌≡◌, Bool, List, [], ◌∷◌, ◌++◌, ℕ, ◌+◌, ◌*◌, ◌/◌, ◌%◌, ◌≤◌, ltb, ℤ, pos, length, get_or, Result}
 use Rattle.std.proofs.Math.Option.{Option, none}
 use Rattle.finite.specs.Filled.{filled}
-use Rattle.answer.specs.Table.{Row, row, first_met, Answer, result, answer_by, written_by, outcome}
-use Rattle.answer.specs.declared.model.Outcome.{Outcome}
+use Rattle.answer.specs.Table.{Row, row, first_met, Answer, result, answer_by, written_by, answered}
+use Rattle.answer.specs.declared.refusal.Refusal.{Refusal}
 use Rattle.sample.specs.Bernstein.{coordinate_at}
 use Rattle.sample.specs.Refusal.{sample_rows}
 use Rattle.sample.specs.Answer.{sample_answer}
@@ -48,6 +48,6 @@ pub record LineLeft (patches : List ℤ) (f n b : ℕ) (line line' : List ℤ) :
   pub line-is : line' ≡ line_after patches f n b line
   pub samples-are : line_refusal patches f n b line ≡ none → (a : ℕ) → a ≤ n → sample_answer patches f n a b ≡ result (point_in line' a)
 
-pub record LineSampled (patches : List ℤ) (f n b : ℕ) (line : List ℤ) (r : Outcome) (line' : List ℤ) : Type 0 where
-  pub answer-is : outcome r ≡ line_answer patches f n b line
+pub record LineSampled (patches : List ℤ) (f n b : ℕ) (line : List ℤ) (r : Result Unit Refusal) (line' : List ℤ) : Type 0 where
+  pub answer-is : answered r ≡ line_answer patches f n b line
   pub left : LineLeft patches f n b line line'

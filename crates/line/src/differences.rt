@@ -5,12 +5,12 @@ ghost use Rattle.line.specs.Differences.{Summable, Tame, differences_at, next_of
 
 use crate::model::Differences;
 
-// One term more of a sum.
+// One term more of a sum. `sample` has the same: it asks that nothing overflows, as no public function may.
 fn add_product(sum: i64, weight: u32, value: i64) -> i64
     requires { Addable sum weight value }
     ensures { result ≡ sum +ℤ pos weight *ℤ value }
 {
-    sum + weight as i64 * value
+    sum + i64::from(weight) * value
 }
 
 // The first of four values, and its three differences.

@@ -24,12 +24,13 @@ fn store_point(line: &mut [i32], a: usize, x: i32, y: i32, z: i32)
     requires { (a ≤ max_steps) × (line_length a ≤ length line.old) }
     ensures { line.new ≡ set (set (set line.old (3 * a) x) (3 * a + 1) y) (3 * a + 2) z }
 {
-    line[3 * a] = x;
-    line[3 * a + 1] = y;
-    line[3 * a + 2] = z;
+    let at = 3 * a;
+    let end = at + 3;
+    line[at..end].copy_from_slice(&[x, y, z]);
 }
 
-// Writes the points along the three curves, a from 0 to n, three coordinates each.
+// Writes the points along the three curves, a from 0 to n, three coordinates each. a counts: the list is filled up to place 3a, and the sums are those of a.
+// `line.chunks_exact_mut(3).take(n + 1)` is no plainer: its loop has no list but the parts passed, to be joined to the list that the contract speaks of.
 pub(crate) fn write_points(curves: Curves, n: usize, line: &mut [i32])
     requires { Drawable curves n line.old }
     ensures { line.new ≡ filled (λ i. curve_coordinate n (curve_in curves (i % 3)) (i / 3)) (line_length n) line.old }

@@ -7,7 +7,7 @@ use native.Mathlib.Nat.{mul-le-mul_right}
 use native.Mathlib.Omega.{arith}
 use lib.Dec.{leb, ltb}
 use lib.IntN.{ℤ}
-use borrow.Author.Tests.{leb-true, le-leb, lt-leb, ltb-true, ltb-false}
+use borrow.Author.Tests.{leb-true, le-leb, ltb-true, ltb-false}
 use Rattle.answer.specs.Table.{result}
 use Rattle.finite.proofs.FoldLaws.{bool_cases}
 use Rattle.finite.proofs.AnyAll.{and-true}
@@ -16,7 +16,7 @@ use Rattle.sample.specs.Refusal.{max_steps}
 use Rattle.meshfile.specs.declared.model.Tessellation.{Tessellation}
 use Rattle.listing.specs.Listing.{sample_text, sample_text_at, line_count, line_at, handed_count, lines_from}
 use Rattle.listing.specs.Place.{index, Placed, LinesPut}
-use Rattle.listing.specs.declared.model.Place.{Place}
+use Rattle.sample.specs.declared.model.Place.{Place}
 use Rattle.listing.specs.declared.model.Lines.{Lines}
 use Rattle.listing.proofs.ListingLaws.{text_at, place-below}
 use Rattle.listing.proofs.RowLaws.{run-ext}
@@ -28,12 +28,6 @@ able t = leb t.mesh.faces max_faces && leb t.steps max_steps
 
 count_by : (t : Tessellation) (b : Bool) → able t ≡ b → handed_count (result t) ≡ cond b (line_count (result t)) 1
 count_by t b e = ap (λ (x : Bool). cond x (line_count (result t)) 1) e
-
-pub count-faces-over : (t : Tessellation) → max_faces < t.mesh.faces → 1 ≡ handed_count (result t)
-count-faces-over t l = sym (count_by t false (rw (lt-leb t.mesh.faces max_faces l)))
-
-pub count-steps-over : (t : Tessellation) → t.mesh.faces ≤ max_faces → max_steps < t.steps → 1 ≡ handed_count (result t)
-count-steps-over t f l = sym (count_by t false (rw (le-leb t.mesh.faces max_faces f, lt-leb t.steps max_steps l)))
 
 pub count-all : (t : Tessellation) → t.mesh.faces ≤ max_faces → t.steps ≤ max_steps → line_count (result t) ≡ handed_count (result t)
 count-all t f l = sym (count_by t true (rw (le-leb t.mesh.faces max_faces f, le-leb t.steps max_steps l)))

@@ -63,10 +63,6 @@ running-start text from end out l = record {
 }
 
 module _ {text : ℕ → List ℕ} {from end : ℕ} {before after : List ℕ} {a at : ℕ} (g : Running text from end before after a at) where
-  -- what is stored ends within the buffer
-  pub running-ends : at ≤ length after
-  running-ends = omega (arith, g.stored.length-is, g.stored.fits, stored-length g.stored)
-
   -- behind what is stored the buffer has as much room as behind the lines
   room-left : length after - at ≡ length before - length (joined text (a - from))
   room-left = omega (arith, g.stored.length-is, stored-length g.stored)

@@ -70,9 +70,6 @@ module _ {answer : Answer Tessellation} {patches : List ℤ} {line : ℕ} {befor
   pub leads-within : line ≤ handed_count answer → r.line ≤ handed_count answer
   leads-within l = omega (arith, s.line-is, fitting-within (lines_from answer patches line) (handed_count answer - line) (length before))
 
-  pub stretch-fits : r.length ≤ length before
-  stretch-fits = omega (arith, s.stored.length-is, s.stored.fits)
-
 -- ---- the stretches, one behind the other
 pub data Stretches (answer : Answer Tessellation) (patches : List ℤ) : ℕ → List ℕ → Type 0 where
   begun : Stretches answer patches 0 []

@@ -9,7 +9,7 @@ use Rattle.std.specs.Prelude.{ℕ, ◌+◌, ◌-◌, ◌*◌, ◌≤◌, ◌<◌
 use Rattle.sample.specs.Refusal.{max_steps}
 use Rattle.text.specs.Text.{line_places}
 use Rattle.listing.specs.Listing.{joined, Stored}
-use Rattle.listing.specs.declared.model.Place.{Place}
+use Rattle.sample.specs.declared.model.Place.{Place}
 use Rattle.listing.specs.declared.model.Lines.{Lines}
 
 abbrev pub index : ℕ → Place → ℕ

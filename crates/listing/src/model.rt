@@ -1,7 +1,7 @@
 // What the listing of a file is handed out by.
 
 // A stretch of lines in a buffer.
-#[derive(Clone, Copy)]
+#[derive(Clone, Copy, Debug, PartialEq, Eq)]
 pub struct Stretch {
     // The number of the line that comes next, counted from 0.
     pub line: usize,
@@ -9,15 +9,7 @@ pub struct Stretch {
     pub length: usize,
 }
 
-// A sample of a mesh, by its place.
-#[derive(Clone, Copy)]
-pub(crate) struct Place {
-    pub(crate) face: usize,
-    pub(crate) b: usize,
-    pub(crate) a: usize,
-}
-
-// Lines at the front of a buffer.
+// Lines at the front of a buffer. Their count and no `Stretch`: a row does not know the number of its first line.
 #[derive(Clone, Copy)]
 pub(crate) struct Lines {
     // How many.

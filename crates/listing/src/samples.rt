@@ -1,16 +1,19 @@
-// The lines of a mesh, in their order: the counts, then row by row the samples, a row being those of one face and one b.
+// The lines of a mesh, in their order: the counts, then row by row the samples, a row being those of one face and one b. Each function is lent a plain
+// list with room for a line: a struct around it would have to keep the name of its borrow in each contract.
 ghost use Rattle.std.specs.Prelude.{◌≡◌, ◌+◌, ◌-◌, ◌≤◌, ◌<◌, length};
+ghost use Rattle.answer.specs.Number.{number};
 ghost use Rattle.answer.specs.Table.{result as given};
 ghost use Rattle.sample.specs.Refusal.{max_steps};
 ghost use Rattle.line.specs.Line.{line_length, point_in};
-ghost use Rattle.text.specs.Text.{line_places, Printed};
+ghost use Rattle.text.specs.Text.{refusal_line, line_places, Printed};
 ghost use Rattle.listing.specs.Listing.{line_of, sample_text, handed_count, lines_from};
 ghost use Rattle.listing.specs.Place.{index, Placed, LinesPut};
 
-use crate::model::{Lines, Place};
-use answer::model::Outcome;
+use crate::model::Lines;
+use answer::refusal::Refusal;
 use line::model::MAX_LINE;
 use meshfile::model::Tessellation;
+use sample::model::Place;
 use text::LINE_PLACES;
 
 // The place of sample i.
@@ -38,7 +41,7 @@ fn point_line(points: &[i32], p: Place, a: usize, out: &mut [u8]) -> usize
     text::sample_line(p.face, a, p.b, x, y, z, out)
 }
 
-// The lines of the points of a row from p on, as many as have room.
+// The lines of the points of a row from p on, as many as have room. Over a range the loop would need the same test, and to break where it fails.
 fn point_lines(points: &[i32], n: usize, p: Place, out: &mut [u8]) -> Lines
     requires { Placed n p × (line_length n ≤ length points.now) × (line_places ≤ length out.old) }
     ensures { LinesPut (λ j. line_of (given (point_in points.now (p.a + j))) p.face (p.a + j) p.b) (n + 1 - p.a)
@@ -56,6 +59,17 @@ fn point_lines(points: &[i32], n: usize, p: Place, out: &mut [u8]) -> Lines
     }
 }
 
+// The line of a refusal.
+pub(crate) fn refused_line(refusal: Refusal, out: &mut [u8]) -> Lines
+    requires { line_places ≤ length out.old }
+    ensures { LinesPut (λ j. refusal_line (number refusal)) 1 out.old result out.new }
+{
+    Lines {
+        count: 1,
+        length: text::refusal_line(u8::from(refusal), out),
+    }
+}
+
 // The lines of the samples of a row from p on, as many as have room; of a refused row the line of one sample.
 fn row_lines(patches: &[i32], n: usize, p: Place, out: &mut [u8]) -> Lines
     requires { Placed n p × (line_places ≤ length out.old) }
@@ -64,11 +78,8 @@ fn row_lines(patches: &[i32], n: usize, p: Place, out: &mut [u8]) -> Lines
 {
     let mut points = [0i32; MAX_LINE];
     match line::sample_line(patches, p.face, n, p.b, &mut points) {
-        Outcome::Done => point_lines(&points, n, p, out),
-        Outcome::Refused(k) => Lines {
-            count: 1,
-            length: text::refusal_line(k, out),
-        },
+        Ok(()) => point_lines(&points, n, p, out),
+        Err(refusal) => refused_line(refusal, out),
     }
 }
 

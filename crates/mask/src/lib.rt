@@ -3,15 +3,18 @@
 
 pub mod model;
 
-ghost use Rattle.std.specs.Prelude.{◌≡◌, ◌||◌, ◌≤◌, eqb, pos, ◌+ℤ◌, ◌*ℤ◌};
-ghost use Rattle.limits.specs.Limits.{corner_tag};
-ghost use Rattle.mask.specs.Mask.{corner_weight, inner_mask, edge_mask, boundary_edge_mask, smooth_corner_mask, sharp_corner_mask, max_sharpness, corner_rule, corner_mask};
+ghost use Rattle.std.specs.Prelude.{◌≡◌, ◌≤◌, pos, ◌+ℤ◌, ◌*ℤ◌};
+ghost use Rattle.mask.specs.Mask.{corner_weight, inner_mask, edge_mask, boundary_edge_mask, smooth_corner_mask, sharp_corner_mask};
+ghost use Rattle.mask.specs.Mask.{max_sharpness, corner_rule, corner_mask};
 ghost use Rattle.mask.specs.FractionOf.{fraction_of};
+
+// Numbers are widened with `as`, which the edits of this crate name and which keeps a sum on one line; each of them goes to a type that holds it.
 
 use crate::model::{FaceValues, Fraction};
 use limits::model::Mesh;
 
-// The sharpness at which the corner point of a boundary vertex is the vertex itself; a rule above it is that of an inner vertex.
+// The sharpness at which the corner point of a boundary vertex is the vertex itself; a rule above it is that of an inner vertex. A rule is a number, and no
+// enum: `corner_rule` takes every count of 16 bits, and `corner_mask` answers every rule that it is given, whose divisor fits 32 bits only for one of 8 bits.
 const MAX_SHARPNESS: u8 = 16;
 
 // The inner point at a corner of weight w. Writes: nothing. Refuses: nothing.
@@ -55,7 +58,7 @@ pub fn boundary_edge_mask(p: i32, q: i32) -> Fraction
 fn smooth_corner(n: u8, p: i32, s: i32) -> Fraction
     ensures { fraction_of result ≡ smooth_corner_mask n p s }
 {
-    let m = n as u32;
+    let m = u32::from(n);
     Fraction {
         num: (m * m) as i64 * p as i64 + s as i64,
         den: m * (m + 5),
@@ -84,25 +87,15 @@ pub fn corner_mask(rule: u8, p: i32, ring: i32, sharp: i32) -> Fraction
     boundary_corner(rule, p, sharp)
 }
 
-// Whether the corner point of a boundary vertex with so many faces is the vertex itself.
-fn fixed(tag: u8, faces: u16) -> bool
-    ensures { result ≡ (eqb tag corner_tag || eqb faces 1) }
-{
-    if tag == Mesh::CORNER_TAG {
-        return true;
-    }
-    faces == 1
-}
-
 // How the corner point of a vertex, inside or not, with so many faces is made. Writes: nothing. Refuses: nothing.
 pub fn corner_rule(inside: bool, tag: u8, faces: u16) -> u32
     ensures { result ≡ corner_rule inside tag faces }
 {
     if inside {
-        return MAX_SHARPNESS as u32 + faces as u32;
+        return u32::from(MAX_SHARPNESS) + u32::from(faces);
     }
-    if fixed(tag, faces) {
-        return MAX_SHARPNESS as u32;
+    if tag == Mesh::CORNER_TAG || faces == 1 {
+        return u32::from(MAX_SHARPNESS);
     }
     0
 }
@@ -111,7 +104,7 @@ pub fn corner_rule(inside: bool, tag: u8, faces: u16) -> u32
 pub fn corner_weight(inside: bool, valence: u16) -> u32
     ensures { result ≡ corner_weight inside valence }
 {
-    let n = valence as u32;
+    let n = u32::from(valence);
     if inside {
         return n;
     }
@@ -121,16 +114,9 @@ pub fn corner_weight(inside: bool, valence: u16) -> u32
     n + n
 }
 
-// Twice each of two values, and a third.
-fn ring_sum(next: i32, prev: i32, across: i32) -> i64
-    ensures { result ≡ pos 2 *ℤ next +ℤ pos 2 *ℤ prev +ℤ across }
-{
-    2 * next as i64 + 2 * prev as i64 + across as i64
-}
-
 // Twice the two neighbours of a corner, and the vertex across. Writes: nothing. Refuses: nothing.
 pub fn ring_of(a: FaceValues) -> i64
     ensures { result ≡ pos 2 *ℤ a.next +ℤ pos 2 *ℤ a.prev +ℤ a.across }
 {
-    ring_sum(a.next, a.prev, a.across)
+    2 * a.next as i64 + 2 * a.prev as i64 + a.across as i64
 }

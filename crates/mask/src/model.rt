@@ -1,7 +1,7 @@
 // What a mask reads and what it gives.
 
 // One coordinate of the four vertices of a face, seen from a corner: of its own vertex, of the next, the one across and the previous.
-#[derive(Clone, Copy)]
+#[derive(Clone, Copy, Debug, PartialEq, Eq)]
 pub struct FaceValues {
     pub here: i32,
     pub next: i32,
@@ -10,7 +10,7 @@ pub struct FaceValues {
 }
 
 // A fraction of a micrometre.
-#[derive(Clone, Copy)]
+#[derive(Clone, Copy, Debug, PartialEq, Eq)]
 pub struct Fraction {
     pub num: i64,
     pub den: u32,

@@ -23,7 +23,7 @@ use Rattle.mesh.specs.HalfEdge.{edges, boundaries, Simple}
 use Rattle.mesh.specs.Fan.{valence, on_boundary, fan}
 use Rattle.mesh.specs.IndexedMesh.{IndexedMesh, corners, at, tag, coordinate}
 use Rattle.mesh.specs.Refusal.{mesh_sizes_off, coordinate_off, tag_off, vertex_off, vertex_twice, half_edge_twice, list_rows}
-use Rattle.mesh.specs.Refusal.{vertex_unused, fan_broken, valence_off, inner_tagged, entry_rows, early_rows, fan_rows, late_rows, Accepted}
+use Rattle.mesh.specs.Refusal.{vertex_unused, fan_broken, valence_off, inner_tagged, entry_rows, early_rows, late_rows, Accepted}
 use Rattle.mesh.specs.WellFormed.{Sized, WellFormed}
 use Rattle.mesh.proofs.TwinLaws.{doubled-simple, simple-doubled}
 use Rattle.mesh.proofs.SizeLaws.{mesh-sizes-false}
@@ -193,13 +193,6 @@ lists-unmet M e =
     let h₃ = none-met (coordinate_off M) 3 _ e in
     let h₄ = none-met (tag_off M) 4 _ h₃.1 in
     (none-met (vertex_off M) 5 _ h₄.1).0
-
--- where no row of the fans is met, the corners at every vertex form one
-pub fans-unmet : (at : ℕ → ℕ) (n v : ℕ) → first_met (fan_rows at n v) ≡ none → (p : ℕ) → p < v → fan at n p ≡ true
-fans-unmet at n v e =
-    let h₈ = none-met (vertex_unused at n v) 8 _ e in
-    let h₉ = none-met (fan_broken at n v) 9 _ h₈.1 in
-    fan-false at n v h₉.0
 
 pub accepted-from : (M : IndexedMesh) (own : List Row) → first_met (early_rows M own) ≡ none → first_met (late_rows M) ≡ none → WellFormed M
 accepted-from M own early late =

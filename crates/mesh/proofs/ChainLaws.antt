@@ -3,9 +3,8 @@ use mathlib.Core.Path.{◌≡◌, refl, sym, ap, ap₂, ◌∙◌}
 use mathlib.Core.Bool.{Bool, true, false, not, ◌&&◌}
 use mathlib.Core.List.{List}
 use mathlib.Core.Logic.{⊎_elim}
-use mathlib.Core.Option
-use mathlib.Core.Option.{Option, none}
-use Prim.Native.Nat.{ℕ, zero, suc, ◌+◌, ◌-◌, ◌≤◌, ◌<◌, zero-le}
+use mathlib.Core.Option as Math
+use Prim.Native.Nat.{ℕ, zero, suc, ◌+◌, ◌≤◌, ◌<◌, zero-le}
 use native.Mathlib.Nat.{not-suc-le-zero, le_refl, eq-or-lt_of_le}
 use native.Mathlib.Numerals.{add-one}
 use native.Mathlib.Omega.{arith}
@@ -13,27 +12,33 @@ use lib.Dec.{eqb, ltb}
 use lib.ListN.{length, get_or, set}
 use lib.Seq.{get_or-set_same, get_or-set_other}
 use borrow.Author.Tests.{eq-eqb, ne_eqb, eqb-true, eqb-false, ltb-true, ltb-false, not-true}
-use Rattle.finite.specs.Fold.{any_below, count_below, indicator}
-use Rattle.finite.proofs.FoldLaws.{bool_cases, lt-suc-cases, fold-unit}
+use Rattle.std.specs.Prelude.{Option, None, Some}
+use Rattle.std.specs.Option.{is_some, unwrap_or}
+use Rattle.finite.specs.Fold.{any_below}
+use Rattle.finite.proofs.FoldLaws.{bool_cases, lt-suc-cases}
 use Rattle.finite.proofs.AnyAll.{any_none, any-hit, any-true, and-true, same_test}
-use Rattle.finite.proofs.Counting.{sum-monoid}
 use Rattle.finite.proofs.Least.{least-miss}
 use Rattle.limits.specs.Limits.{max_vertices, no_twin}
 use Rattle.corner.specs.Corner.{next}
-use Rattle.mesh.specs.HalfEdge.{runs, is_twin, twin, same_way, doubled, Simple}
-use Rattle.mesh.specs.Fan.{valence}
+use Rattle.mesh.specs.HalfEdge.{runs, is_twin, twin, boundary, same_way, doubled, Simple}
+use Rattle.mesh.specs.Fan.{any_at, all_at, valence, on_boundary, around, iterate, fan_by, fan}
 use Rattle.mesh.proofs.TwinLaws.{runs-ends, runs_so, twin-is}
-use Rattle.mesh.proofs.VertexLaws.{valence-count}
+use Rattle.mesh.proofs.VertexLaws.{any-at-none}
 use Rattle.mesh.specs.Tables.{Holds, latest, Chained}
 
--- ---- the latest number below n with p, plus 1
-pub latest-le : (p : ℕ → Bool) (n : ℕ) → latest p n ≤ n
+-- ---- the latest number below n with p
+-- where the numbers after it begin: 0 for none
+abbrev pub past : Option ℕ → ℕ
+past None = 0
+past (Some k) = suc k
+
+pub latest-le : (p : ℕ → Bool) (n : ℕ) → past (latest p n) ≤ n
 unfolding latest
 latest-le p zero = zero-le
 latest-le p (suc n) = bool_cases (p n) (λ e. rw e (le_refl (suc n))) (λ e. rw e (let h = latest-le p n in omega arith))
 
 -- past the latest none has it
-pub latest-past : (p : ℕ → Bool) (n k : ℕ) → latest p n ≤ k → k < n → p k ≡ false
+pub latest-past : (p : ℕ → Bool) (n k : ℕ) → past (latest p n) ≤ k → k < n → p k ≡ false
 unfolding latest
 latest-past p zero k h l = absurd (not-suc-le-zero l)
 latest-past p (suc n) k h l =
@@ -41,101 +46,113 @@ latest-past p (suc n) k h l =
     (λ e. absurd (let g : suc n ≤ k = rw e at h in let bad : ⊥ = omega arith in bad))
     (λ e. lt-suc-cases l (λ q. ap p q ∙ e) (latest-past p n k (rw e at h)))
 
--- the latest has it
-pub latest-has : (p : ℕ → Bool) (n k : ℕ) → latest p n ≡ suc k → p k ≡ true
+-- the latest has it, and is below n
+pub latest-has : (p : ℕ → Bool) (n k : ℕ) → latest p n ≡ Some k → (k < n) × (p k ≡ true)
 unfolding latest
-latest-has p zero k e = absurd (let bad : ⊥ = omega arith in bad)
+latest-has p zero k e = cc
 latest-has p (suc n) k e =
     bool_cases (p n)
-    (λ q. let g : suc n ≡ suc k = rw q at e in ap p (let s : k ≡ n = omega arith in s) ∙ q)
-    (λ q. latest-has p n k (rw q at e))
+    (λ q. let g = rw q at e in let s : n ≡ k = cc in (omega arith, ap p (sym s) ∙ q))
+    (λ q. let h = latest-has p n k (rw q at e) in (omega arith, h.1))
 
 -- a number that has it, with none after it, is the latest; and without any there is none
-pub latest-is : (p : ℕ → Bool) (n k : ℕ) → k < n → p k ≡ true → ((j : ℕ) → k < j → j < n → p j ≡ false) → latest p n ≡ suc k
+pub latest-is : (p : ℕ → Bool) (n k : ℕ) → k < n → p k ≡ true → ((j : ℕ) → k < j → j < n → p j ≡ false) → latest p n ≡ Some k
 unfolding latest
 latest-is p zero k l e h = absurd (not-suc-le-zero l)
 latest-is p (suc n) k l e h =
     lt-suc-cases l
-    (λ q. rw (ap p (sym q) ∙ e) (ap suc (sym q)))
+    (λ q. rw (ap p (sym q) ∙ e) (ap Some (sym q)))
     (λ q. rw (h n q (le_refl (suc n))) (latest-is p n k q e (λ j a b. h j a (let c : j < suc n = omega arith in c))))
 
-pub latest-none : (p : ℕ → Bool) (n : ℕ) → ((j : ℕ) → j < n → p j ≡ false) → latest p n ≡ 0
+pub latest-none : (p : ℕ → Bool) (n : ℕ) → ((j : ℕ) → j < n → p j ≡ false) → latest p n ≡ None
 unfolding latest
 latest-none p zero h = refl
 latest-none p (suc n) h = rw (h n (le_refl (suc n))) (latest-none p n (λ j l. h j (let c : j < suc n = omega arith in c)))
 
-pub latest-any : (p : ℕ → Bool) (n : ℕ) → not (eqb (latest p n) 0) ≡ any_below p n
+pub latest-nowhere : (p : ℕ → Bool) (n : ℕ) → latest p n ≡ None → (k : ℕ) → k < n → p k ≡ false
+latest-nowhere p n e k l = latest-past p n k (rw e zero-le) l
+
+pub latest-any : (p : ℕ → Bool) (n : ℕ) → is_some (latest p n) ≡ any_below p n
 latest-any p n = go (latest p n) refl
   where
-    go : (u : ℕ) → latest p n ≡ u → not (eqb (latest p n) 0) ≡ any_below p n
-    go zero e =
-        ap not (eq-eqb (latest p n) 0 e)
-        ∙ sym (any_none p n (λ k l. latest-past p n k (let h : latest p n ≤ k = rw e zero-le in h) l))
-    go (suc k) e =
-        let l : k < n = let h = latest-le p n in omega arith in
-        ap not (ne_eqb (latest p n) 0 (λ q. omega arith)) ∙ sym (any-hit p n k l (latest-has p n k e))
+    go : (u : Option ℕ) → latest p n ≡ u → is_some (latest p n) ≡ any_below p n
+    go None e = ap is_some e ∙ sym (any_none p n (latest-nowhere p n e))
+    go (Some k) e = let h = latest-has p n k e in ap is_some e ∙ sym (any-hit p n k h.0 h.1)
 
--- ---- a walk along the chain of p's corners below c, at number u of it: what it has passed does not run from p to q
-pub record Walked (at : ℕ → ℕ) (p q c u : ℕ) : Type 0 where
-  pub low : u ≤ c
-  pub here : (k : ℕ) → u ≡ suc k → at k ≡ p
-  pub passed : (k : ℕ) → u ≤ k → k < c → runs at p q k ≡ false
+-- ---- a walk along the chain of p's corners below c, at corner u of it: what it has passed does not run from p to q
+pub record Walked (at : ℕ → ℕ) (p q c : ℕ) (u : Option ℕ) : Type 0 where
+  pub low : past u ≤ c
+  pub here : (k : ℕ) → u ≡ Some k → at k ≡ p
+  pub passed : (k : ℕ) → past u ≤ k → k < c → runs at p q k ≡ false
 
-module _ (at : ℕ → ℕ) (p q c u : ℕ) where
+module _ (at : ℕ → ℕ) (p q c : ℕ) (u : Option ℕ) where
   pub walked_start : u ≡ latest (λ d. eqb (at d) p) c → Walked at p q c u
   walked_start e = record {
     low = rw e (latest-le (λ d. eqb (at d) p) c);
-    here = λ k s. eqb-true (at k) p (latest-has (λ d. eqb (at d) p) c k (sym e ∙ s));
+    here = λ k s. eqb-true (at k) p (latest-has (λ d. eqb (at d) p) c k (sym e ∙ s)).1;
     passed = λ k a b. ap (λ (t : Bool). t && eqb (at (next k)) q) (latest-past (λ d. eqb (at d) p) c k (rw e at a) b);
   }
 
-  pub walked-found : Walked at p q c u → (e : ℕ) → u ≡ suc e → at (next e) ≡ q → u ≡ latest (runs at p q) c
-  walked-found w e s t =
-      s ∙ sym (latest-is (runs at p q) c e (omega (arith, w.low)) (runs_so at p q e (w.here e s) t) (λ j a b. w.passed j (omega arith) b))
+  pub walked-below : Walked at p q c u → (e : ℕ) → u ≡ Some e → e < c
+  walked-below w e s = let l = w.low in let h : past u ≡ suc e = ap past s in omega arith
 
-  pub walked_none : Walked at p q c u → u ≡ 0 → 0 ≡ latest (runs at p q) c
-  walked_none w z = sym (latest-none (runs at p q) c (λ k l. w.passed k (omega arith) l))
+  pub walked-found : Walked at p q c u → (e : ℕ) → u ≡ Some e → at (next e) ≡ q → u ≡ latest (runs at p q) c
+  walked-found w e s t =
+      s ∙ sym (latest-is (runs at p q) c e (walked-below w e s) (runs_so at p q e (w.here e s) t) (λ j a b. w.passed j (rw s a) b))
+
+  pub walked_none : Walked at p q c u → u ≡ None → None ≡ latest (runs at p q) c
+  walked_none w z = sym (latest-none (runs at p q) c (λ k l. w.passed k (rw z zero-le) l))
 
 -- one corner further back along the chain
-pub walked_more : (at : ℕ → ℕ) (p q c u e u' : ℕ) → Walked at p q c u → u ≡ suc e → (at (next e) ≡ q → ⊥)
+pub walked_more : (at : ℕ → ℕ) (p q c : ℕ) (u : Option ℕ) (e : ℕ) (u' : Option ℕ) → Walked at p q c u → u ≡ Some e → (at (next e) ≡ q → ⊥)
     → u' ≡ latest (λ d. eqb (at d) (at e)) e → Walked at p q c u'
 walked_more at p q c u e u' w s t h =
     let r : Walked at p q e u' = walked_start at p q e u' (h ∙ ap (λ (x : ℕ). latest (λ d. eqb (at d) x) e) (w.here e s)) in
+    let below = walked-below at p q c u w e s in
     record {
-      low = omega (arith, r.low, w.low);
+      low = omega (arith, r.low);
       here = r.here;
       passed = λ k a b.
           bool_cases (ltb k e)
           (λ l. r.passed k a (ltb-true k e l))
           (λ l. ⊎_elim
           (λ z. ap (runs at p q) (sym z) ∙ ap₂ ◌&&◌ (eq-eqb (at e) p (w.here e s)) (ne_eqb (at (next e)) q t))
-          (λ z. w.passed k (omega arith) b)
+          (λ z. w.passed k (rw s z) b)
           (eq-or-lt_of_le (ltb-false k e l)));
     }
 
+-- it falls with each turn
+pub walked-less : (at : ℕ → ℕ) (u : Option ℕ) (e : ℕ) (u' : Option ℕ) → u ≡ Some e → u' ≡ latest (λ d. eqb (at d) (at e)) e → past u' < past u
+walked-less at u e u' s h =
+    let l = latest-le (λ d. eqb (at d) (at e)) e in
+    let a : past u ≡ suc e = ap past s in
+    let b : past u' ≡ past (latest (λ d. eqb (at d) (at e)) e) = ap past h in
+    omega arith
+
 -- ---- the tables
-pub chained-start : (at : ℕ → ℕ) (head link : List ℕ) → Holds 0 head max_vertices (λ p. 0) → Chained at 0 head link
+pub chained-start : (at : ℕ → ℕ) (head link : List (Option ℕ)) → Holds None head max_vertices (λ p. None) → Chained at 0 head link
 unfolding latest
 chained-start at head link h = record { heads = h; links = λ e l. absurd (not-suc-le-zero l) }
 
-module _ (at : ℕ → ℕ) (c p : ℕ) (head link : List ℕ) (k : Chained at c head link) (e : p ≡ at c) where
-  heads-more : (v : ℕ) → v ≡ c + 1 → p < length head → Holds 0 (set head p v) max_vertices (λ r. latest (λ d. eqb (at d) r) (suc c))
+module _ (at : ℕ → ℕ) (c p : ℕ) (head link : List (Option ℕ)) (k : Chained at c head link) (e : p ≡ at c) where
+  heads-more : p < length head → Holds None (set head p (Some c)) max_vertices (λ r. latest (λ d. eqb (at d) r) (suc c))
   unfolding latest
-  heads-more v q l r b =
+  heads-more l r b =
       bool_cases (eqb (at c) r)
-      (λ t. rw (t, ← (e ∙ eqb-true (at c) r t)) (get_or-set_same head p v 0 l ∙ q ∙ add-one c))
-      (λ t. rw t (get_or-set_other head p r v 0 (λ s. eqb-false (at c) r t (sym e ∙ sym s)) ∙ k.heads r b))
+      (λ t. rw (t, ← (e ∙ eqb-true (at c) r t)) (get_or-set_same head p (Some c) None l))
+      (λ t. rw t (get_or-set_other head p r (Some c) None (λ s. eqb-false (at c) r t (sym e ∙ sym s)) ∙ k.heads r b))
 
-  links-more : (u : ℕ) → u ≡ get_or head p 0 → p < max_vertices → c < length link → Holds 0 (set link c u) (suc c) (λ j. latest (λ d. eqb (at d) (at j)) j)
+  links-more : (u : Option ℕ) → u ≡ get_or head p None → p < max_vertices → c < length link
+      → Holds None (set link c u) (suc c) (λ j. latest (λ d. eqb (at d) (at j)) j)
   links-more u q b l j a =
       lt-suc-cases a
-      (λ z. rw z (get_or-set_same link c u 0 l ∙ q ∙ k.heads p b ∙ ap (λ (x : ℕ). latest (λ d. eqb (at d) x) c) e))
-      (λ z. get_or-set_other link c j u 0 (λ s. omega arith) ∙ k.links j z)
+      (λ z. rw z (get_or-set_same link c u None l ∙ q ∙ k.heads p b ∙ ap (λ (x : ℕ). latest (λ d. eqb (at d) x) c) e))
+      (λ z. get_or-set_other link c j u None (λ s. omega arith) ∙ k.links j z)
 
   -- corner c, at p, is chained before the earlier ones
-  pub chained_more : (u v : ℕ) → u ≡ get_or head p 0 → v ≡ c + 1 → p < max_vertices → p < length head → c < length link
-      → Chained at (c + 1) (set head p v) (set link c u)
-  chained_more u v q r b lh ll = rw add-one (record { heads = heads-more v r lh; links = links-more u q b ll })
+  pub chained_more : (u : Option ℕ) → u ≡ get_or head p None → p < max_vertices → p < length head → c < length link
+      → Chained at (c + 1) (set head p (Some c)) (set link c u)
+  chained_more u q b lh ll = rw add-one (record { heads = heads-more lh; links = links-more u q b ll })
 
 -- ---- half-edges that occur twice: one of them has an earlier one that runs the same way
 pub doubled-earlier : (at : ℕ → ℕ) (n : ℕ) → doubled at n ≡ any_below (λ c. any_below (runs at (at c) (at (next c))) c) n
@@ -178,27 +195,32 @@ doubled-earlier at n = same_test (doubled at n) (any_below (λ c. any_below (sam
         (ap₂ ◌&&◌ (ap not (ne_eqb x.0 w.0 (λ e. omega arith))) x.2))
 
 -- ---- the twin from the latest half-edge that runs the other way
-module _ (at : ℕ → ℕ) (n c : ℕ) (u : ℕ) (e : u ≡ latest (runs at (at (next c)) (at c)) n) where
-  pub twin-none : u ≡ 0 → no_twin ≡ twin at n c
-  unfolding twin is_twin
-  twin-none z = sym (ap (λ (o : Option ℕ). Option.get_or o no_twin) (least-miss (is_twin at c) n (λ k l. latest-past (is_twin at c) n k (rw (← e, z) zero-le) l)))
+pub twin-latest : (at : ℕ → ℕ) (n c : ℕ) (u : Option ℕ) → Simple at n → u ≡ latest (runs at (at (next c)) (at c)) n → unwrap_or u no_twin ≡ twin at n c
+unfolding twin is_twin
+twin-latest at n c None h e =
+    sym (ap (λ (o : Math.Option ℕ). Math.get_or o no_twin) (least-miss (is_twin at c) n (latest-nowhere (is_twin at c) n (sym e))))
+twin-latest at n c (Some d) h e =
+    let l = latest-has (runs at (at (next c)) (at c)) n d (sym e) in
+    let b = runs-ends at (at (next c)) (at c) d l.1 in
+    sym (twin-is at h c d l.0 b.0 b.1)
 
-  pub twin-found : Simple at n → (u ≡ 0 → ⊥) → u - 1 ≡ twin at n c
-  twin-found h z = go u e z
-    where
-      go : (w : ℕ) → w ≡ latest (runs at (at (next c)) (at c)) n → (w ≡ 0 → ⊥) → w - 1 ≡ twin at n c
-      go zero q z = absurd (z refl)
-      go (suc d) q z =
-          let l : d < n = let m = latest-le (runs at (at (next c)) (at c)) n in omega arith in
-          let b = runs-ends at (at (next c)) (at c) d (latest-has (runs at (at (next c)) (at c)) n d (sym q)) in
-          (let s : suc d - 1 ≡ d = omega arith in s) ∙ sym (twin-is at h c d l b.0 b.1)
+-- ---- the last corner at a vertex, where one is there
+pub latest-corner : (at : ℕ → ℕ) (n p c : ℕ) → Some c ≡ latest (λ d. eqb (at d) p) n → (c < n) × (at c ≡ p)
+latest-corner at n p c e = let h = latest-has (λ d. eqb (at d) p) n c (sym e) in (h.0, eqb-true (at c) p h.1)
 
--- ---- where a vertex has corners, the last one is a corner at it
-pub latest-corner : (at : ℕ → ℕ) (n p u : ℕ) → u ≡ latest (λ d. eqb (at d) p) n → 0 < valence at n p → (0 < u) × (u - 1 < n) × (at (u - 1) ≡ p)
-latest-corner at n p zero e l =
-    let none : count_below (λ d. eqb (at d) p) n ≡ 0 = fold-unit sum-monoid n (λ d k. ap indicator (latest-past (λ d. eqb (at d) p) n d (rw (← e) zero-le) k)) in
-    absurd (let bad : ⊥ = omega (arith, valence-count at n p) in bad)
-latest-corner at n p (suc k) e l =
-    let m = latest-le (λ d. eqb (at d) p) n in
-    let same : suc k - 1 ≡ k = omega arith in
-    (omega arith, omega arith, ap at same ∙ eqb-true (at k) p (latest-has (λ d. eqb (at d) p) n k (sym e)))
+-- where there is none, no corner is at the vertex
+module _ (at : ℕ → ℕ) (n p : ℕ) (e : None ≡ latest (λ d. eqb (at d) p) n) where
+  pub nowhere : (t : ℕ → Bool) → any_at at n p t ≡ false
+  nowhere t =
+      any-at-none at n p t (λ c l h.
+      let miss = latest-nowhere (λ d. eqb (at d) p) n (sym e) c l in
+      let hit = eq-eqb (at c) p h in
+      cc)
+
+  pub no-fan : true ≡ not (fan at n p)
+  unfolding fan fan_by
+  no-fan = ap not (sym (nowhere (λ c. all_at at n p (λ d. any_below (λ i. eqb (iterate (around (twin at n) n) i c) d) (valence at n p)))))
+
+  pub no-boundary : false ≡ on_boundary at n p
+  unfolding on_boundary
+  no-boundary = sym (nowhere (boundary at n))

@@ -41,16 +41,6 @@ module _ (tw : ℕ → ℕ) (n c : ℕ) where
   unfolding back_around
   back-out l = rw (le-ltb c n l)
 
--- The same as the code reads it, in the shape that a need has: each is a lemma for `search`.
-pub around-read : (tw : ℕ → ℕ) (n c h r : ℕ) → c < n → h ≡ prev c → r ≡ tw h → r ≡ around tw n c
-around-read tw n c h r l e q = q ∙ ap tw e ∙ sym (around-in tw n c l)
-
-pub back-read-none : (tw : ℕ → ℕ) (n c d : ℕ) → c < n → d ≡ tw c → d ≡ no_twin → no_twin ≡ back_around tw n c
-back-read-none tw n c d l e q = sym (back_none tw n c l (sym e ∙ q))
-
-pub back-read-some : (tw : ℕ → ℕ) (n c d r : ℕ) → c < n → d ≡ tw c → (d ≡ no_twin → ⊥) → r ≡ next d → r ≡ back_around tw n c
-back-read-some tw n c d r l e q s = s ∙ ap next e ∙ sym (back_some tw n c l (λ x. q (e ∙ x)))
-
 pub record Turning (s b : ℕ → ℕ) (n : ℕ) : Type 0 where
   pub few : n ≤ no_twin
   pub stop : s no_twin ≡ no_twin

@@ -14,3 +14,4 @@ pub mod AcceptedLaws
 pub mod PhaseLaws
 pub mod TurnLaws
 pub mod VertexLaws
+pub mod ListLaws

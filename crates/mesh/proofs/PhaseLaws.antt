@@ -1,19 +1,22 @@
 -- From the phases of the check to its answer: the first cause met, what the tables say of a cause, and what passed phases give.
 use mathlib.Core.Path.{◌≡◌, refl, sym, ap, ◌∙◌}
-use mathlib.Core.Bool.{false, ◌||◌}
+use mathlib.Core.Bool.{Bool, true, false, ◌||◌}
 use mathlib.Core.List.{List, [], ◌∷◌, ◌++◌}
 use mathlib.Core.Option.{Option, none, some}
-use Prim.Native.Nat.{ℕ, zero, suc, ◌+◌, ◌*◌, ◌≤◌, ◌<◌}
-use native.Mathlib.Nat.{lt_of_lt_of_le, suc-ne-zero}
+use Prim.Native.Nat.{ℕ, ◌+◌, ◌*◌, ◌≤◌, ◌<◌}
+use native.Mathlib.Nat.{lt_of_lt_of_le}
 use native.Mathlib.Omega.{arith}
 use lib.Dec.{eqb, ltb}
 use lib.ListN.{get_or}
-use borrow.Author.Tests.{ne_eqb}
 use Rattle.finite.specs.Fold.{any_below, count_below, indicator}
 use Rattle.finite.specs.Filled.{filled}
 use Rattle.finite.proofs.FoldLaws.{bool_cases, fold-ext}
-use Rattle.answer.specs.Table.{Row, first_met, result, refusal, answer_by}
-use Rattle.answer.proofs.TableLaws.{Met, met-here, skipped, or_else, or_else-assoc, first-append, some-append, none-append}
+use Rattle.std.specs.Prelude.{Result, Ok, Err}
+use Rattle.answer.specs.declared.refusal.Refusal.{Refusal}
+use Rattle.answer.specs.Number.{number}
+use Rattle.answer.specs.Table.{Row, row, first_met, result, refusal, answer_by, refused, refuse_by, met_or}
+use Rattle.answer.proofs.TableLaws.{From, row-refused, row-let-through, last-row}
+use Rattle.answer.proofs.TableLaws.{met-here, skipped, or_else, or_else-assoc, first-append, some-append, none-append}
 use Rattle.limits.specs.Limits.{max_vertices, no_twin}
 use Rattle.corner.specs.Corner.{next}
 use Rattle.mesh.specs.HalfEdge.{twin, edges, boundaries, Simple}
@@ -67,11 +70,34 @@ early-passed M own e =
       },
     )
 
--- ---- refusals as the private functions hand them on
--- a call's row that is met as a number says
-pub row-given : (k : ℕ) → Met (given k ∷ []) k
-row-given zero = record { first = refl }
-row-given (suc k) = record { first = simp (ne_eqb (suc k) 0 (suc-ne-zero k)) }
+-- ---- a row that the code checks by `refuse`, with a test that says the same
+module _ {rows rest : List Row} {b cause : Bool} (r : Refusal) {got : Result Unit Refusal}
+    (l : From rows (row b (number r) ∷ rest)) (asked : got ≡ refuse_by cause r) (same : cause ≡ b) where
+  told : got ≡ refuse_by b r
+  told = asked ∙ ap (λ (t : Bool). refuse_by t r) same
+
+  -- it is met, and what is handed on is its refusal
+  pub row-out : {e : Refusal} {out : Result Unit Refusal} → got ≡ Err e → out ≡ Err e → first_met rows ≡ refused out
+  row-out h o = row-refused r l (sym told ∙ h) ∙ ap refused (sym o)
+
+  pub row-on : {u : Unit {0}} → got ≡ Ok u → From rows rest
+  row-on h = row-let-through r l (sym told ∙ h)
+
+pub refuse-none : (b : Bool) (r : Refusal) → refused (refuse_by b r) ≡ none → b ≡ false
+refuse-none true r e = cc
+refuse-none false r e = refl
+
+pub row-last : {rows : List Row} {b cause : Bool} (r : Refusal) {got : Result Unit Refusal}
+    → From rows (row b (number r) ∷ []) → got ≡ refuse_by cause r → cause ≡ b → first_met rows ≡ refused got
+row-last r l asked same = last-row r l ∙ ap refused (sym (asked ∙ ap (λ (t : Bool). refuse_by t r) same))
+
+-- ---- a call's own row
+-- one more row behind the call's own
+pub given-or : (own : Result Unit Refusal) (cause : Bool) (r : Refusal)
+    → first_met (given own ∷ (row cause (number r) ∷ [])) ≡ refused (met_or own cause r)
+given-or (Ok done) true r = refl
+given-or (Ok done) false r = refl
+given-or (Err e) cause r = refl
 
 -- ---- the answer and the list of twins, by where the first row met stands
 module _ (M : IndexedMesh) (own : List Row) where

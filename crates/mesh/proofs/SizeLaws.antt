@@ -1,16 +1,17 @@
 -- What a passed test of sizes gives.
-use mathlib.Core.Path.{◌≡◌, ap}
+use mathlib.Core.Path.{◌≡◌, sym, ap, ◌∙◌, subst}
 use mathlib.Core.Bool.{false, not}
 use mathlib.Core.List.{List}
 use Prim.Native.Nat.{ℕ, ◌*◌, ◌<◌}
 use native.Mathlib.Nat.{lt_of_lt_of_le}
 use native.Mathlib.Omega.{arith}
 use lib.Dec.{eqb, ltb, leb}
-use lib.IntN.{nat_abs}
+use lib.IntN.{pos, nat_abs}
 use lib.ListN.{length}
 use borrow.Author.Tests.{eqb-true, not-false}
 use Rattle.finite.specs.Fold.{any_below}
 use Rattle.finite.proofs.AnyAll.{or-false}
+use Rattle.finite.proofs.Lists.{any-of-list}
 use Rattle.limits.specs.Limits.{min_vertices, max_vertices, min_faces, max_faces, max_coordinate, corner_tag}
 use Rattle.limits.specs.Range.{off, sizes_off}
 use Rattle.limits.proofs.RangeLaws.{off-false}
@@ -55,19 +56,25 @@ sized-indices M s named = record {
   named = λ c l. lt_of_lt_of_le (named c l) s.vertices-high;
 }
 
+-- the same of all of the face list
+pub listed-indices : (M : IndexedMesh) → MeshSized M → ((c : ℕ) → c < corners M → at M c < M.vertices) → Indices M.indices (length M.indices)
+listed-indices M s named = subst (Indices M.indices) (sym s.indices-are) (sized-indices M s named)
+
 -- ---- lists of the right lengths: a test of a whole list is the mesh's
 module _ (M : IndexedMesh) (s : MeshSized M) where
   pub coordinates-sized : any_coordinate_off M.positions ≡ coordinate_off M
   unfolding coordinate_off
-  coordinates-sized = ap (any_below (λ i. ltb max_coordinate (nat_abs (coordinate M i)))) s.positions-are
+  coordinates-sized =
+      any-of-list (λ x. ltb max_coordinate (nat_abs x)) M.positions (pos 0)
+      ∙ ap (any_below (λ i. ltb max_coordinate (nat_abs (coordinate M i)))) s.positions-are
 
   pub tags-sized : any_tag_off M.tags ≡ tag_off M
   unfolding tag_off
-  tags-sized = ap (any_below (λ p. ltb corner_tag (tag M p))) s.tags-are
+  tags-sized = any-of-list (λ t. ltb corner_tag t) M.tags 0 ∙ ap (any_below (λ p. ltb corner_tag (tag M p))) s.tags-are
 
   pub vertices-sized : any_vertex_off M.vertices M.indices ≡ vertex_off M
   unfolding vertex_off
-  vertices-sized = ap (any_below (λ c. leb M.vertices (at M c))) s.indices-are
+  vertices-sized = any-of-list (λ p. leb M.vertices p) M.indices 0 ∙ ap (any_below (λ c. leb M.vertices (at M c))) s.indices-are
 
   pub twice-sized : any_vertex_twice M.indices ≡ vertex_twice M
   unfolding vertex_twice

@@ -5,21 +5,26 @@
 --   Onward tw n start met on       the loop on from start: a walk of met corners, and `on` the one after them
 --   Backward tw n start met back   the loop back from start: a chain of met corners, and `back` the one before them
 use mathlib.Core.Path.{◌≡◌, refl, sym, ap, ◌∙◌}
-use mathlib.Core.Bool.{Bool, true, false, cond}
-use mathlib.Core.Logic.{inl, inr, ⊎_elim}
+use mathlib.Core.Bool.{true}
+use mathlib.Core.Logic.{◌⊎◌, inl, inr, ⊎_elim}
 use Prim.Native.Nat.{ℕ, zero, suc, ◌+◌, ◌-◌, ◌≤◌, ◌<◌}
 use native.Mathlib.Nat.{zero-add, suc-add}
 use native.Mathlib.Numerals.{add-one}
 use native.Mathlib.Omega.{arith}
-use lib.Dec.{ltb}
-use borrow.Author.Tests.{ltb-true, ltb-false}
+use lib.Dec.{eqb, ltb}
+use borrow.Author.Tests.{eq-eqb, ne_eqb, eqb-true, eqb-false, ltb-true, ltb-false}
+use Rattle.std.specs.Prelude.{Option, None, Some}
+use Rattle.std.specs.Option.{option_map}
 use Rattle.finite.proofs.FoldLaws.{bool_cases, lt-suc-cases}
 use Rattle.finite.proofs.Counting.{at_least, sum_ones}
 use Rattle.limits.specs.Limits.{no_twin}
+use Rattle.corner.specs.Corner.{next, prev}
 use Rattle.mesh.specs.Fan.{around, iterate}
-use Rattle.mesh.proofs.CirculationLaws.{Turning, iterate-in, iterate-add, reach, step-injective, turning}
+use Rattle.mesh.proofs.CirculationLaws.{Turning, around-in, back_none, back_some, iterate-in, iterate-add, reach, step-injective, turning}
+use Rattle.mesh.proofs.CornerLaws.{next-below, not_none}
 use Rattle.mesh.proofs.TurnLaws.{On}
 use Rattle.mesh.specs.Tables.{Corners}
+use Rattle.mesh.specs.Walk.{corner_of}
 use Rattle.mesh.specs.Circulation.{Paired, back_around, Turn, Run, Circulated}
 
 pub record Walk (s : ℕ → ℕ) (n o m : ℕ) : Type 0 where
@@ -120,59 +125,104 @@ module _ {n : ℕ} {s b : ℕ → ℕ} (g : Turning s b n) where
   chain-turn start o m c e =
       record { corners = record { some = c.some; inside = c.inside; apart = chain-apart start o m c }; ends = inr (c.over, e) }
 
+-- ---- a corner from its number
+pub corner-none : (x : ℕ) → x ≡ no_twin → None ≡ corner_of x
+unfolding corner_of
+corner-none x e = rw (eq-eqb x no_twin e)
+
+pub corner-some : (x : ℕ) → (x ≡ no_twin → ⊥) → Some x ≡ corner_of x
+unfolding corner_of
+corner-some x e = rw (ne_eqb x no_twin e)
+
+corner-cases : (x : ℕ) → ((x ≡ no_twin) × (corner_of x ≡ None)) ⊎ ((x ≡ no_twin → ⊥) × (corner_of x ≡ Some x))
+corner-cases x =
+    bool_cases (eqb x no_twin)
+    (λ t. let e = eqb-true x no_twin t in inl (e, sym (corner-none x e)))
+    (λ t. let e = eqb-false x no_twin t in inr (e, sym (corner-some x e)))
+
+-- a corner that is there is the one of its number
+pub corner-there : (x c : ℕ) → corner_of x ≡ Some c → (x ≡ no_twin → ⊥) × (x ≡ c)
+corner-there x c e = ⊎_elim (λ w. let f = w.1 in cc) (λ w. let f = w.1 in (w.0, cc)) (corner-cases x)
+
+pub corner-missing : (x : ℕ) → corner_of x ≡ None → x ≡ no_twin
+corner-missing x e = ⊎_elim (λ w. w.0) (λ w. let f = w.1 in cc) (corner-cases x)
+
+-- the corner after c as the code reads it, in the shape that a need has
+pub around-corner : (tw : ℕ → ℕ) (n c h : ℕ) (r : Option ℕ) → c < n → h ≡ prev c → r ≡ corner_of (tw h) → r ≡ corner_of (around tw n c)
+around-corner tw n c h r l e q = q ∙ ap (λ (x : ℕ). corner_of (tw x)) e ∙ ap corner_of (sym (around-in tw n c l))
+
+module _ {n : ℕ} {tw : ℕ → ℕ} (k : Corners n) (p : Paired tw n) where
+  pub back-corner : (c : ℕ) (o : Option ℕ) → c < n → o ≡ corner_of (tw c) → option_map next o ≡ corner_of (back_around tw n c)
+  back-corner c o l e =
+      ⊎_elim
+      (λ q. ap (option_map next) (e ∙ sym (corner-none (tw c) q)) ∙ corner-none (back_around tw n c) (back_none tw n c l q))
+      (λ w.
+      let some = not_none k (tw c) w.0 in
+      let s = back_some tw n c l some in
+      let here : back_around tw n c ≡ no_twin → ⊥ = λ q. not_none k (next (tw c)) (next-below k (tw c) w.0) (sym s ∙ q) in
+      ap (option_map next) (e ∙ sym (corner-some (tw c) some)) ∙ ap Some (sym s) ∙ corner-some (back_around tw n c) here)
+      (p.pairs c l)
+
 -- ---- the two loops
-pub record Onward (tw : ℕ → ℕ) (n start met on : ℕ) : Type 0 where
+pub record Onward (tw : ℕ → ℕ) (n start met : ℕ) (on : Option ℕ) : Type 0 where
   pub walk : Walk (around tw n) n start met
-  pub here : on ≡ iterate (around tw n) met start
+  pub here : on ≡ corner_of (iterate (around tw n) met start)
   pub short : met ≤ n
 
-pub record Backward (tw : ℕ → ℕ) (n start met back : ℕ) : Type 0 where
+pub record Backward (tw : ℕ → ℕ) (n start met : ℕ) (back : Option ℕ) : Type 0 where
   pub first : ℕ
   pub chain : Chain (around tw n) n start first met
-  pub here : back ≡ back_around tw n first
+  pub here : back ≡ corner_of (back_around tw n first)
   pub short : met ≤ n
 
 module _ {n : ℕ} {tw : ℕ → ℕ} (k : Corners n) (p : Paired tw n) (start : ℕ) (l : start < n) where
-  pub onward-start : (on : ℕ) → on ≡ around tw n start → Onward tw n start 1 on
+  pub onward-start : (on : Option ℕ) → on ≡ corner_of (around tw n start) → Onward tw n start 1 on
   unfolding iterate
   onward-start on e = record { walk = walk_start (turning k p) start l; here = e; short = omega arith }
 
-  pub onward-in : (met on : ℕ) → Onward tw n start met on → (on ≡ no_twin → ⊥) → on < n
-  onward-in met on w h = ⊎_elim (λ e. absurd (h (w.here ∙ e))) (λ q. rw w.here q) (reach (turning k p) met start l)
+  module _ (met : ℕ) (on : Option ℕ) (c : ℕ) (w : Onward tw n start met on) (some : on ≡ Some c) where
+    onward-at : iterate (around tw n) met start ≡ c
+    onward-at = (corner-there _ c (sym w.here ∙ some)).1
 
-  pub onward-more : (met on on' : ℕ) → Onward tw n start met on → (on ≡ no_twin → ⊥) → (on ≡ start → ⊥)
-      → on' ≡ around tw n on → Onward tw n start (met + 1) on'
-  unfolding iterate
-  onward-more met on on' w h a e =
-      let more = walk_more (turning k p) start met w.walk (rw w.here at (onward-in met on w h)) (λ q. a (w.here ∙ q)) in
-      rw add-one (record {
-        walk = more;
-        here = e ∙ ap (around tw n) w.here;
-        short = walk-short (turning k p) start (suc met) more;
-      })
+    pub onward-in : c < n
+    onward-in =
+        let t = corner-there _ c (sym w.here ∙ some) in
+        ⊎_elim (λ e. absurd (t.0 e)) (λ q. rw t.1 at q) (reach (turning k p) met start l)
 
-  pub onward-less : (met on : ℕ) → Onward tw n start met on → (on ≡ no_twin → ⊥) → (on ≡ start → ⊥) → n - (met + 1) < n - met
-  onward-less met on w h a = omega (arith, (onward-more met on (around tw n on) w h a refl).short)
+    pub onward-more : (on' : Option ℕ) → (c ≡ start → ⊥) → on' ≡ corner_of (around tw n c) → Onward tw n start (met + 1) on'
+    unfolding iterate
+    onward-more on' a e =
+        let more = walk_more (turning k p) start met w.walk (rw onward-at onward-in) (λ q. a (sym onward-at ∙ q)) in
+        rw add-one (record {
+          walk = more;
+          here = e ∙ ap (λ (x : ℕ). corner_of (around tw n x)) (sym onward-at);
+          short = walk-short (turning k p) start (suc met) more;
+        })
 
-  -- what it has met where it stops, back at its start or at none
-  pub onward-run : (met on z : ℕ) → Onward tw n start met on → on ≡ z → Run (around tw n) n start met z
-  onward-run met on z w e = walk-run (turning k p) start met z w.walk (sym w.here ∙ e)
+    pub onward-less : (c ≡ start → ⊥) → n - (met + 1) < n - met
+    onward-less a = omega (arith, (onward-more (corner_of (around tw n c)) a refl).short)
+
+    -- back at its start
+    pub onward-closed : c ≡ start → Run (around tw n) n start met start
+    onward-closed e = walk-run (turning k p) start met start w.walk (onward-at ∙ e)
+
+  -- at the boundary
+  pub onward-open : (met : ℕ) (on : Option ℕ) → Onward tw n start met on → on ≡ None → Run (around tw n) n start met no_twin
+  onward-open met on w e = walk-run (turning k p) start met no_twin w.walk (corner-missing _ (sym w.here ∙ e))
 
   -- back at its start: a closed turn
-  pub run-closed : (met : ℕ) (closed : Bool) → Run (around tw n) n start met (cond closed start no_twin) → closed ≡ true → Circulated tw n start met
+  pub run-closed : (met : ℕ) → Run (around tw n) n start met start → Circulated tw n start met
   unfolding iterate
-  run-closed met closed r e = record {
+  run-closed met r = record {
     first = start;
-    turn = record { corners = r.corners; ends = inl (rw e at r.ends) };
+    turn = record { corners = r.corners; ends = inl r.ends };
     steps = 0;
     few = r.corners.some;
     through = refl;
   }
 
-  pub run-open : (met : ℕ) (closed : Bool) → Run (around tw n) n start met (cond closed start no_twin) → closed ≡ false → Run (around tw n) n start met no_twin
-  run-open met closed r e = rw e at r
-
-  pub backward-start : (met back : ℕ) → Run (around tw n) n start met no_twin → back ≡ back_around tw n start → Backward tw n start met back
+  pub backward-start : (met : ℕ) (back : Option ℕ) → Run (around tw n) n start met no_twin → back ≡ corner_of (back_around tw n start)
+      → Backward tw n start met back
   unfolding iterate
   backward-start met back r e =
       let c = r.corners in
@@ -183,32 +233,36 @@ module _ {n : ℕ} {tw : ℕ → ℕ} (k : Corners n) (p : Paired tw n) (start :
         short = short n met (λ i. iterate (around tw n) i start) c.inside c.apart;
       }
 
-  pub backward-in : (met back : ℕ) → Backward tw n start met back → (back ≡ no_twin → ⊥) → back < n
-  unfolding iterate
-  backward-in met back w h =
-      ⊎_elim (λ e. absurd (h (w.here ∙ e))) (λ q. rw w.here q) ((turning k p).off w.first (w.chain.inside 0 w.chain.some))
+  module _ (met : ℕ) (back : Option ℕ) (c : ℕ) (w : Backward tw n start met back) (some : back ≡ Some c) where
+    backward-at : back_around tw n w.first ≡ c
+    backward-at = (corner-there _ c (sym w.here ∙ some)).1
 
-  pub backward-more : (met back back' : ℕ) → Backward tw n start met back → (back ≡ no_twin → ⊥)
-      → back' ≡ back_around tw n back → Backward tw n start (met + 1) back'
-  backward-more met back back' w h e =
-      let more = chain_more (turning k p) start w.first met w.chain (rw w.here at (backward-in met back w h)) in
-      rw add-one (record {
-        first = back_around tw n w.first;
-        chain = more;
-        here = e ∙ ap (back_around tw n) w.here;
-        short = chain-short (turning k p) start (back_around tw n w.first) (suc met) more;
-      })
+    pub backward-in : c < n
+    unfolding iterate
+    backward-in =
+        let t = corner-there _ c (sym w.here ∙ some) in
+        ⊎_elim (λ e. absurd (t.0 e)) (λ q. rw t.1 at q) ((turning k p).off w.first (w.chain.inside 0 w.chain.some))
 
-  pub backward-less : (met back : ℕ) → Backward tw n start met back → (back ≡ no_twin → ⊥) → n - (met + 1) < n - met
-  backward-less met back w h = omega (arith, (backward-more met back (back_around tw n back) w h refl).short)
+    pub backward-more : (back' : Option ℕ) → back' ≡ corner_of (back_around tw n c) → Backward tw n start (met + 1) back'
+    backward-more back' e =
+        let more = chain_more (turning k p) start w.first met w.chain (rw backward-at backward-in) in
+        rw add-one (record {
+          first = back_around tw n w.first;
+          chain = more;
+          here = e ∙ ap (λ (x : ℕ). corner_of (back_around tw n x)) (sym backward-at);
+          short = chain-short (turning k p) start (back_around tw n w.first) (suc met) more;
+        })
+
+    pub backward-less : n - (met + 1) < n - met
+    backward-less = omega (arith, (backward-more (corner_of (back_around tw n c)) refl).short)
 
   -- nothing is before the first corner
-  pub backward-end : (met back : ℕ) → Backward tw n start met back → back ≡ no_twin → Circulated tw n start met
+  pub backward-end : (met : ℕ) (back : Option ℕ) → Backward tw n start met back → back ≡ None → Circulated tw n start met
   backward-end met back w e =
       let v = w.chain.through in
       record {
         first = w.first;
-        turn = chain-turn (turning k p) start w.first met w.chain (sym w.here ∙ e);
+        turn = chain-turn (turning k p) start w.first met w.chain (corner-missing _ (sym w.here ∙ e));
         steps = v.0;
         few = v.1;
         through = v.2;

@@ -4,6 +4,7 @@
 --   tags        0 or 1 for each vertex, smooth or corner: V numbers (rule M3)
 --   indices     the vertex of each corner, face by face and counterclockwise: 4F numbers (rule M4)
 use Rattle.std.specs.Prelude.{List, ℕ, ◌*◌, ℤ, pos, get_or}
+use Rattle.mesh.specs.declared.model.MeshLists.{MeshLists}
 
 pub record IndexedMesh : Type 0 where
   pub vertices : ℕ
@@ -14,6 +15,10 @@ pub record IndexedMesh : Type 0 where
 
 abbrev pub indexed : ℕ → ℕ → List ℤ → List ℕ → List ℕ → IndexedMesh
 indexed v f positions tags indices = record { vertices = v; faces = f; positions = positions; tags = tags; indices = indices }
+
+-- the mesh that the code's record of sizes and lists is
+abbrev pub mesh_in : MeshLists → IndexedMesh
+mesh_in m = indexed m.vertices m.faces m.positions.now m.tags.now m.indices.now
 
 -- how many corners, and half-edges, it has
 abbrev pub corners : IndexedMesh → ℕ

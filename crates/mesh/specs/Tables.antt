@@ -3,19 +3,18 @@
 --   Corners n         n corners fill whole faces, and their numbers stay below `no_twin`
 --   vertex_of faces c, twin_of twins c   the vertex of corner c, the twin of half-edge c, as the lists have them
 --   Holds z xs k g    each place p below k of the list xs holds g p
---   latest p n        one more than the greatest number below n that has p; 0 for none
+--   latest p n        the greatest number below n that has p, if one has
 --   Chained at c head link   the corners below c, chained by vertex from the last to the first: `head` has the last
---                     corner at each vertex, `link` the corner at the same vertex before each corner, both plus 1, 0 for none
---   Unchained head link   two tables with room for the chains of any mesh, before the first corner is chained
+--                     corner at each vertex, `link` the corner at the same vertex before each corner
+--   Unchained head    the table of the last corners before the first corner is chained
 --   Indices faces n   the first n numbers of the face list are whole faces, and their vertices have places in the tables
---   Linkable faces head link n   the face list and room for the chains of its first n corners
---   Linked faces head link n     these chains, of half-edges of which none occurs twice: what the twins are found by
+--   Findable faces head link n   these chains, of no more corners than a mesh has, with a next one in the list each: what half-edges are found by
 --   Valences faces valences n    `valences` has the number of corners at each vertex
 --   Twinned faces twins n   no half-edge of the faces occurs twice, and the first n places of the list of twins hold their twins
---   Headed faces head n     `head` has the last corner at each vertex, plus 1, 0 for none
+--   Headed faces head n     `head` has the last corner at each vertex
 --   Connected faces twins head n   both: what circulating about a vertex rests on
 --   Counted faces twins v f   what the counts of a mesh of v vertices and f faces rest on, with its twins
-use Rattle.std.specs.Prelude.{◌≡◌, Bool, cond, List, ℕ, zero, suc, ◌*◌, ◌%◌, ◌≤◌, ◌<◌, eqb, length, get_or}
+use Rattle.std.specs.Prelude.{◌≡◌, Bool, cond, Option, None, Some, List, ℕ, zero, suc, ◌*◌, ◌%◌, ◌≤◌, ◌<◌, eqb, length, get_or}
 use Rattle.limits.specs.Limits.{max_vertices, max_faces, no_twin}
 use Rattle.corner.specs.Corner.{next}
 use Rattle.mesh.specs.HalfEdge.{twin, Simple}
@@ -34,18 +33,16 @@ vertex_of faces c = get_or faces c 0
 abbrev pub twin_of : List ℕ → ℕ → ℕ
 twin_of twins c = get_or twins c 0
 
-unfoldable pub latest : (ℕ → Bool) → ℕ → ℕ
-latest p zero = 0
-latest p (suc n) = cond (p n) (suc n) (latest p n)
+unfoldable pub latest : (ℕ → Bool) → ℕ → Option ℕ
+latest p zero = None
+latest p (suc n) = cond (p n) (Some n) (latest p n)
 
-pub record Chained (at : ℕ → ℕ) (c : ℕ) (head link : List ℕ) : Type 0 where
-  pub heads : Holds 0 head max_vertices (λ p. latest (λ d. eqb (at d) p) c)
-  pub links : Holds 0 link c (λ e. latest (λ d. eqb (at d) (at e)) e)
+pub record Chained (at : ℕ → ℕ) (c : ℕ) (head link : List (Option ℕ)) : Type 0 where
+  pub heads : Holds None head max_vertices (λ p. latest (λ d. eqb (at d) p) c)
+  pub links : Holds None link c (λ e. latest (λ d. eqb (at d) (at e)) e)
 
-pub record Unchained (head link : List ℕ) : Type 0 where
-  pub heads-listed : max_vertices ≤ length head
-  pub links-listed : 4 * max_faces ≤ length link
-  pub heads-are : Holds 0 head max_vertices (λ p. 0)
+abbrev pub Unchained : List (Option ℕ) → Type 0
+Unchained head = Holds None head max_vertices (λ p. None)
 
 pub record Indices (faces : List ℕ) (n : ℕ) : Type 0 where
   pub whole : n % 4 ≡ 0
@@ -53,15 +50,10 @@ pub record Indices (faces : List ℕ) (n : ℕ) : Type 0 where
   pub listed : n ≤ length faces
   pub named : (c : ℕ) → c < n → vertex_of faces c < max_vertices
 
-pub record Linkable (faces head link : List ℕ) (n : ℕ) : Type 0 where
-  pub indices : Indices faces n
-  pub heads-listed : max_vertices ≤ length head
-  pub links-listed : n ≤ length link
-
-pub record Linked (faces head link : List ℕ) (n : ℕ) : Type 0 where
-  pub room : Linkable faces head link n
+pub record Findable (faces : List ℕ) (head link : List (Option ℕ)) (n : ℕ) : Type 0 where
+  pub next-listed : (c : ℕ) → c < n → next c < length faces
+  pub few : n ≤ 4 * max_faces
   pub chained : Chained (vertex_of faces) n head link
-  pub simple : Simple (vertex_of faces) n
 
 pub record Valences (faces valences : List ℕ) (n : ℕ) : Type 0 where
   pub listed : max_vertices ≤ length valences
@@ -73,11 +65,11 @@ pub record Twinned (faces twins : List ℕ) (n : ℕ) : Type 0 where
   pub twins-listed : n ≤ length twins
   pub twins-are : Holds 0 twins n (twin (vertex_of faces) n)
 
-pub record Headed (faces head : List ℕ) (n : ℕ) : Type 0 where
+pub record Headed (faces : List ℕ) (head : List (Option ℕ)) (n : ℕ) : Type 0 where
   pub heads-listed : max_vertices ≤ length head
-  pub heads-are : Holds 0 head max_vertices (λ p. latest (λ d. eqb (vertex_of faces d) p) n)
+  pub heads-are : Holds None head max_vertices (λ p. latest (λ d. eqb (vertex_of faces d) p) n)
 
-pub record Connected (faces twins head : List ℕ) (n : ℕ) : Type 0 where
+pub record Connected (faces twins : List ℕ) (head : List (Option ℕ)) (n : ℕ) : Type 0 where
   pub twinned : Twinned faces twins n
   pub headed : Headed faces head n
 

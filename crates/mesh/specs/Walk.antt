@@ -1,12 +1,16 @@
--- What the walk about a vertex is asked to start from, for the contracts of private functions.
+-- What a walk about a vertex tells, for the contracts of private functions.
 --
---   Walkable twins n start   `start` is one of n corners, which fill whole faces, and the list has their twins, in pairs
-use Rattle.std.specs.Prelude.{List, ℕ, ◌≤◌, ◌<◌, length}
-use Rattle.mesh.specs.Tables.{Corners, twin_of}
-use Rattle.mesh.specs.Circulation.{Paired}
+--   corner_of x        the corner of number x, and none for `no_twin`
+--   WalkedOn s n start w   the walk w by the steps s is the one on from start: back at start, or where no corner comes next
+use Rattle.std.specs.Prelude.{cond, ℕ, eqb, Option, None, Some}
+use Rattle.limits.specs.Limits.{no_twin}
+use Rattle.mesh.specs.declared.walk.Walk.{Walk}
+use Rattle.mesh.specs.declared.walk.Walk.TheVariants.{Closed, Open}
+use Rattle.mesh.specs.Circulation.{Run}
 
-pub record Walkable (twins : List ℕ) (n start : ℕ) : Type 0 where
-  pub listed : n ≤ length twins
-  pub inside : start < n
-  pub corners : Corners n
-  pub paired : Paired (twin_of twins) n
+unfoldable pub corner_of : ℕ → Option ℕ
+corner_of x = cond (eqb x no_twin) None (Some x)
+
+abbrev pub WalkedOn : (ℕ → ℕ) → ℕ → ℕ → Walk → Type 0
+WalkedOn s n start (Closed met) = Run s n start met start
+WalkedOn s n start (Open met) = Run s n start met no_twin

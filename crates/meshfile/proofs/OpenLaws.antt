@@ -3,15 +3,18 @@ use mathlib.Core.Path.{◌≡◌, refl, sym, ap, ◌∙◌, subst}
 use mathlib.Core.Bool.{true, false, ◌||◌, or_comm}
 use mathlib.Core.List.{List, [], ◌∷◌, ◌++◌}
 use mathlib.Core.Option.{Option, none, some}
-use Prim.Native.Nat.{ℕ, ◌-◌, ◌*◌, ◌≤◌}
+use Prim.Native.Nat.{ℕ, ◌*◌, ◌≤◌}
 use native.Mathlib.Omega.{arith}
 use lib.IntN.{ℤ}
 use lib.ListN.{length, take, length-append, length-replicate, replicate}
 use borrow.Author.Tests.{le-ltb}
 use Rattle.finite.specs.Filled.{list_below, filled}
-use Rattle.answer.specs.Table.{Row, row, first_met, result, refusal}
+use Rattle.std.specs.Prelude.{Result, Ok, Err}
+use Rattle.answer.specs.declared.refusal.Refusal.{Refusal}
+use Rattle.answer.specs.Number.{number}
+use Rattle.answer.specs.Table.{Row, row, first_met, result, answered}
 use Rattle.finite.proofs.FilledLaws.{length-list_below, take-filled}
-use Rattle.answer.proofs.TableLaws.{skipped, or_else, or_else-none, some-append, none-append, append-none, none-met, result-none, refusal-met}
+use Rattle.answer.proofs.TableLaws.{met-here, skipped, or_else, or_else-none, some-append, none-append, append-none, none-met, result-none, refusal-met}
 use Rattle.limits.specs.Limits.{max_vertices, max_faces}
 use Rattle.limits.proofs.RangeLaws.{off-false}
 use Rattle.sample.specs.Refusal.{min_steps, max_steps}
@@ -24,12 +27,9 @@ use Rattle.mesh.proofs.PhaseLaws.{refusal-alike, refusal-split, refusal-own}
 use Rattle.patch.specs.Answer.{patches_short, marks_short, lent, patch_rows}
 use Rattle.decoding.specs.File.{vertices, faces, steps, position_at, tag_at, index_at, mesh_of, file_rows}
 use Rattle.decoding.specs.declared.model.Header.{Header}
-use Rattle.decoding.specs.declared.model.Decoded.{Decoded}
 use Rattle.meshfile.specs.declared.model.Tessellation.{Tessellation}
-use Rattle.meshfile.specs.declared.model.Opened.{Opened}
-use Rattle.meshfile.specs.declared.model.Opened.TheVariants.{Refused as OpenRefused}
-use Rattle.decoding.specs.Decoding.{header_of, decoded, places_short, decode_refusal, FileDecoded}
-use Rattle.meshfile.specs.Answer.{opened, steps_off, open_refusal, FileOpened}
+use Rattle.decoding.specs.Decoding.{header_of, places_short, decode_refusal, FileDecoded}
+use Rattle.meshfile.specs.Answer.{steps_off, open_refusal, FileOpened}
 use Rattle.meshfile.specs.Tessellated.{tessellate_refusal, Tessellated}
 use Rattle.decoding.proofs.FileLaws.{Whole, file-whole, decode-file, decode-read}
 
@@ -49,16 +49,20 @@ no-marks = replicate (16 * max_faces) 0
 
 -- ---- the mesh and its N
 module _ (M : IndexedMesh) (n : ℕ) (d : List ℤ) where
-  pub refused-mesh : (k : ℕ) → tessellate_refusal M n d ≡ some k → Tessellated M n d (OpenRefused k) d
-  refused-mesh k e = record { answer-is = rw e; patches-are = rw e }
+  pub refused-mesh : {r : Result Tessellation Refusal} (e : Refusal) → r ≡ Err e → tessellate_refusal M n d ≡ some (number e) → Tessellated M n d r d
+  refused-mesh e q m = record { answer-is = rw (q, m); patches-are = rw m }
 
   -- the patch list is too short
   pub patches-short : MeshSized M → patches_short M d ≡ true → tessellate_refusal M n d ≡ some 2
   patches-short s e = refusal-own M (list_row M d) (steps_row n) (sizes-none s) (rw e)
 
-  -- N is off its range
-  pub steps-off : {k : ℕ} → patches_short M d ≡ false → steps_off n ≡ true → mesh_refusal M [] (row true 14 ∷ []) ≡ some k → tessellate_refusal M n d ≡ some k
-  steps-off long off e = refusal-alike M (list_row M d) [] (λ _. skipped 2 none long) (steps_row n) ∙ rw off e
+  -- N is off its range: the refusal is that of the check of the mesh alone, else 14
+  pub steps-off : patches_short M d ≡ false → steps_off n ≡ true → {o : Option ℕ} → mesh_refusal M (row false 0 ∷ []) [] ≡ o
+      → tessellate_refusal M n d ≡ or_else o (some 14)
+  steps-off long off e =
+      refusal-split M (list_row M d) (steps_row n)
+      ∙ ap (or_else (mesh_refusal M (list_row M d) [])) (met-here 14 none off)
+      ∙ ap (λ (m : Option ℕ). or_else m (some 14)) (refusal-alike M (list_row M d) (row false 0 ∷ []) (λ _. skipped 2 none long) [] ∙ e)
 
   -- the two lists that the code keeps, of twins and of marks, are long enough for every mesh
   twins-enough : M.faces ≤ max_faces → twins_short M no-twins ≡ false
@@ -95,11 +99,10 @@ pub record FileRead (b : List ℕ) (p : List ℤ) (t i : List ℕ) (h : Header) 
   pub faces-are : i' ≡ filled (index_at b) (4 * faces b) i
 
 module _ (b : List ℕ) (p : List ℤ) (t i : List ℕ) where
-  pub file-read : {r : Decoded} {h : Header} {p' : List ℤ} {t' i' : List ℕ}
-      → decoded r ≡ result h → FileDecoded b p t i r p' t' i' → FileRead b p t i h p' t' i'
+  pub file-read : {h : Header} {p' : List ℤ} {t' i' : List ℕ} → FileDecoded b p t i (Ok h) p' t' i' → FileRead b p t i h p' t' i'
   unfolding decode_refusal
-  file-read told s =
-      let r = result-none (decode_refusal b (length p) (length t) (length i)) (sym told ∙ s.answer-is) in
+  file-read s =
+      let r = result-none (decode_refusal b (length p) (length t) (length i)) s.answer-is in
       record {
         passed = (append-none (file_rows b) (row (places_short b (length p) (length t) (length i)) 2 ∷ []) r.0).0;
         header_is = r.1;
@@ -109,9 +112,9 @@ module _ (b : List ℕ) (p : List ℤ) (t i : List ℕ) where
       }
 
   -- a file that decoding refused: its lists are long enough for every file
-  pub file-turned-down : {r : Decoded} {k : ℕ} {p' : List ℤ} {t' i' : List ℕ} → 3 * max_vertices ≤ length p → max_vertices ≤ length t → 4 * max_faces ≤ length i
-      → decoded r ≡ refusal k → FileDecoded b p t i r p' t' i' → first_met (file_rows b) ≡ some k
-  file-turned-down {k = k} lp lt li told s =
+  pub file-turned-down : {e : Refusal} {p' : List ℤ} {t' i' : List ℕ} → 3 * max_vertices ≤ length p → max_vertices ≤ length t → 4 * max_faces ≤ length i
+      → FileDecoded b p t i (Err e) p' t' i' → first_met (file_rows b) ≡ some (number e)
+  file-turned-down {e = e} lp lt li s =
       by_cases (first_met (file_rows b))
       (λ q. absurd (apart (sym met ∙ decode-read b (length p) (length t) (length i) q (enough q))))
       (λ j q. q ∙ sym (decode-file b (length p) (length t) (length i) q) ∙ met)
@@ -119,11 +122,11 @@ module _ (b : List ℕ) (p : List ℤ) (t i : List ℕ) where
       enough : first_met (file_rows b) ≡ none → places_short b (length p) (length t) (length i) ≡ false
       enough q = places-enough b (length p) (length t) (length i) lp lt li (file-whole b q)
 
-      met : decode_refusal b (length p) (length t) (length i) ≡ some k
-      met = refusal-met (header_of b) (decode_refusal b (length p) (length t) (length i)) (sym told ∙ s.answer-is)
+      met : decode_refusal b (length p) (length t) (length i) ≡ some (number e)
+      met = refusal-met (header_of b) (decode_refusal b (length p) (length t) (length i)) s.answer-is
 
-      apart : some k ≡ none → ⊥
-      apart e = let z : ◌≡◌ {A = ℕ} 0 1 = cc in absurd (omega arith)
+      apart : {k : ℕ} → some k ≡ none → ⊥
+      apart q = let z : ◌≡◌ {A = ℕ} 0 1 = cc in absurd (omega arith)
 
       by_cases : {C : Type 0} (o : Option ℕ) → (o ≡ none → C) → ((j : ℕ) → o ≡ some j → C) → C
       by_cases none f g = f refl
@@ -134,20 +137,20 @@ abbrev rows_after : List ℕ → List ℤ → List Row
 rows_after b d = early_rows (mesh_of b) (list_row (mesh_of b) d) ++ (late_rows (mesh_of b) ++ steps_row (steps b))
 
 module _ (b : List ℕ) (d : List ℤ) where
-  pub open-refused : {k : ℕ} → first_met (file_rows b) ≡ some k → FileOpened b d (OpenRefused k) d
+  pub open-refused : {r : Result Tessellation Refusal} (e : Refusal) → r ≡ Err e → first_met (file_rows b) ≡ some (number e) → FileOpened b d r d
   unfolding open_refusal
-  open-refused {k} e =
-      let met : open_refusal b d ≡ some k = some-append (file_rows b) (rows_after b d) e in
-      record { answer-is = rw met; patches-are = rw met }
+  open-refused e q m =
+      let met : open_refusal b d ≡ some (number e) = some-append (file_rows b) (rows_after b d) m in
+      record { answer-is = rw (q, met); patches-are = rw met }
 
-  open-read : first_met (file_rows b) ≡ none → {r : Opened} {d' : List ℤ} → Tessellated (mesh_of b) (steps b) d r d' → FileOpened b d r d'
+  open-read : first_met (file_rows b) ≡ none → {r : Result Tessellation Refusal} {d' : List ℤ} → Tessellated (mesh_of b) (steps b) d r d' → FileOpened b d r d'
   unfolding open_refusal mesh_refusal
   open-read e {r} {d'} s =
       let same : open_refusal b d ≡ tessellate_refusal (mesh_of b) (steps b) d = none-append (file_rows b) (rows_after b d) e in
       record { answer-is = rw same s.answer-is; patches-are = rw same s.patches-are }
 
   pub open-mesh : first_met (file_rows b) ≡ none → {M : IndexedMesh} {n : ℕ} → M ≡ mesh_of b → n ≡ steps b
-      → {r : Opened} {d' : List ℤ} → Tessellated M n d r d' → FileOpened b d r d'
+      → {r : Result Tessellation Refusal} {d' : List ℤ} → Tessellated M n d r d' → FileOpened b d r d'
   open-mesh e {M} {n} q w {r} {d'} s =
       open-read e (subst (λ (m : ℕ). Tessellated (mesh_of b) m d r d') w (subst (λ (N : IndexedMesh). Tessellated N n d r d') q s))
 
@@ -157,11 +160,11 @@ module _ {A : Type 0} (f : ℕ → A) (n : ℕ) (d xs : List A) (is : xs ≡ fil
   unfolding filled list_below
   part-fits = rw (is, length-append, length-list_below) (omega arith)
 
-  part-is : take (n - 0) xs ≡ list_below f n
-  part-is = let e : n - 0 ≡ n = omega arith in rw (e, is) (take-filled f n d)
+  part-is : take n xs ≡ list_below f n
+  part-is = rw is (take-filled f n d)
 
 pub mesh-is : (b : List ℕ) {p p' : List ℤ} {t t' i i' : List ℕ} {h : Header} → FileRead b p t i h p' t' i'
-    → indexed h.vertices h.faces (take (3 * h.vertices - 0) p') (take (h.vertices - 0) t') (take (4 * h.faces - 0) i') ≡ mesh_of b
+    → indexed h.vertices h.faces (take (3 * h.vertices) p') (take h.vertices t') (take (4 * h.faces) i') ≡ mesh_of b
 unfolding mesh_of
 mesh-is b {p} {p'} {t} {t'} {i} {i'} r =
     let positions = part-is (position_at b) (3 * vertices b) p p' r.positions-are in
@@ -182,7 +185,7 @@ whole-sized b w = record {
 }
 
 -- ---- what opening gives: F and N of an accepted file are within their upper limits
-pub opened-within : {b : List ℕ} {d d' : List ℤ} {r : Opened} {t : Tessellation} → FileOpened b d r d' → opened r ≡ result t
+pub opened-within : {b : List ℕ} {d d' : List ℤ} {r : Result Tessellation Refusal} {t : Tessellation} → FileOpened b d r d' → answered r ≡ result t
     → (t.mesh.faces ≤ max_faces) × (t.steps ≤ max_steps)
 unfolding open_refusal mesh_of
 opened-within {b} {d} s e =

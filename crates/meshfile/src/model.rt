@@ -2,16 +2,9 @@
 use limits::model::Mesh;
 
 // An accepted mesh and its N.
-#[derive(Clone, Copy)]
+#[derive(Clone, Copy, Debug, PartialEq, Eq)]
 pub struct Tessellation {
     pub mesh: Mesh,
     // N.
     pub steps: usize,
-}
-
-// The answer of opening a file: the counts of its accepted mesh and its N, or the number of the refusal.
-#[derive(Clone, Copy)]
-pub enum Opened {
-    Ready(Tessellation),
-    Refused(u8),
 }

@@ -1,14 +1,18 @@
 -- From the answer of the check to that of the patch call.
 use mathlib.Core.Path.{◌≡◌, refl, sym, ap, ◌∙◌}
-use mathlib.Core.Bool.{Bool, true, false, cond, ◌||◌}
+use mathlib.Core.Bool.{Bool, true, false, ◌||◌}
 use mathlib.Core.List.{List, [], ◌∷◌}
 use mathlib.Core.Option.{Option, none}
 use Prim.Native.Nat.{ℕ, ◌*◌, ◌≤◌}
 use lib.ListN.{length}
 use borrow.Author.Tests.{ltb-false}
 use Rattle.finite.specs.Filled.{filled}
-use Rattle.answer.specs.Table.{row, first_met, result, answer_by}
-use Rattle.answer.proofs.TableLaws.{none-met, append-none, result-none}
+use Rattle.std.specs.Prelude.{Result, Err}
+use Rattle.answer.specs.declared.refusal.Refusal.{Refusal}
+use Rattle.answer.specs.declared.refusal.Refusal.TheVariants.{ListShort}
+use Rattle.answer.specs.Table.{row, first_met, result, refusal, answer_by, answered, refuse_by}
+use Rattle.answer.specs.Number.{number}
+use Rattle.answer.proofs.TableLaws.{none-met, append-none, result-none, refusal-met}
 use Rattle.finite.proofs.AnyAll.{or-false}
 use Rattle.finite.proofs.FilledLaws.{length-filled, filled_at}
 use Rattle.limits.specs.declared.model.Mesh.{Mesh}
@@ -20,17 +24,17 @@ use Rattle.mesh.specs.Answer.{counts_of, mesh_refusal, mesh_answer, twins_after,
 use Rattle.mesh.proofs.AcceptedLaws.{accepted-from}
 use Rattle.mesh.proofs.PhaseLaws.{early-passed, refusal-alike, twins-alike, twins-accepted}
 use Rattle.patch.specs.Patch.{patches_after, marks_after}
-use Rattle.patch.specs.Answer.{Lent, patches_short, marks_short, lists_short, patch_rows, patch_answer, patch_twins, patch_list, marks_list}
+use Rattle.patch.specs.Answer.{Lent, lent, Patched, patches_short, marks_short, lists_short, patch_rows, patch_answer, patch_twins, patch_list, marks_list}
 use Rattle.patch.specs.Lists.{Twins}
 
 -- ---- the call's own row, as it is handed to the check: first the patch list and the marks, then the twins
-given-short : (twins written : Bool) → first_met (given (cond written 2 0) ∷ (row twins 2 ∷ [])) ≡ first_met (row (twins || written) 2 ∷ [])
+given-short : (twins written : Bool) → first_met (given (refuse_by written ListShort) ∷ (row twins 2 ∷ [])) ≡ first_met (row (twins || written) 2 ∷ [])
 given-short true true = refl
 given-short true false = refl
 given-short false true = refl
 given-short false false = refl
 
-module _ (M : IndexedMesh) (d : Lent) (own : ℕ) (short : own ≡ cond (patches_short M d.patches || marks_short M d.marks) 2 0) where
+module _ (M : IndexedMesh) (d : Lent) (own : Result Unit Refusal) (short : own ≡ refuse_by (patches_short M d.patches || marks_short M d.marks) ListShort) where
   same_rows : first_met (given own ∷ lent_rows M d.twins) ≡ first_met (patch_rows M d)
   same_rows = rw short (given-short (twins_short M d.twins) (patches_short M d.patches || marks_short M d.marks))
 
@@ -42,6 +46,13 @@ module _ (M : IndexedMesh) (d : Lent) (own : ℕ) (short : own ≡ cond (patches
 
   pub same-twins : twins_after M (given own ∷ lent_rows M d.twins) [] d.twins ≡ patch_twins M d
   same-twins = twins-alike M (given own ∷ lent_rows M d.twins) (patch_rows M d) (λ _. same_rows) [] d.twins
+
+-- ---- a refused mesh: the patch list and the marks are as they were
+pub patched-refused : (M : IndexedMesh) (d : Lent) {r : Result Mesh Refusal} {e : Refusal} {t : List ℕ} → r ≡ Err e
+    → refusal (number e) ≡ patch_answer M d → t ≡ patch_twins M d → Patched M d r (lent t d.patches d.marks)
+patched-refused M d gone told left =
+    let met = refusal-met (counts_of M) (mesh_refusal M (patch_rows M d) []) told in
+    record { answer-is = ap answered gone ∙ told; twins-are = left; patches-are = rw met; marks-are = rw met }
 
 -- ---- an accepted mesh
 module _ (M : IndexedMesh) (d : Lent) {m : Mesh} (answer : result m ≡ patch_answer M d) where

@@ -6,12 +6,9 @@ use mathlib.Core.List.{List, [], ◌∷◌, map}
 use Prim.Native.Nat.{ℕ, zero, suc, ◌+◌, ◌*◌, ◌/◌, ◌%◌, ◌≤◌, ◌<◌}
 use native.Mathlib.Nat.{not-suc-le-zero}
 use native.Mathlib.Omega.{arith}
-use lib.Dec.{eqb, ltb}
+use lib.Dec.{eqb}
 use lib.IntN.{ℤ}
 use lib.ListN.{length, get_or}
-use borrow.Author.Tests.{ltb-true}
-use Rattle.finite.specs.Fold.{fold_below}
-use Rattle.finite.proofs.AnyAll.{all_true}
 use Rattle.limits.specs.Limits.{no_twin}
 use Rattle.corner.specs.Corner.{turn}
 use Rattle.mesh.specs.HalfEdge.{boundary}
@@ -21,7 +18,7 @@ use Rattle.patch.specs.Point.{sharp}
 use Rattle.patch.specs.Patch.{owner, kind}
 use Rattle.patch.specs.Lists.{shape_of, boundary_in, sharp_in, Twins}
 use Rattle.patch.specs.Written.{PatchLists, Source, point_from, number_from}
-use Rattle.patch.specs.declared.writer.PatchPoint.{PatchPoint}
+use Rattle.control.specs.declared.model.ControlPoint.{ControlPoint}
 
 -- ---- twins
 module _ {faces twins : List ℕ} (t : Twins faces twins) (c : ℕ) (l : c < length faces) where
@@ -46,10 +43,6 @@ number-point D g m k l =
     let which : (3 * m + k) / 3 ≡ m = omega arith in
     rw (axis, which)
 
-pub owner-below : (m : ℕ) → m < 16 → owner m < 4
-unfolding fold_below owner
-owner-below m l = ltb-true _ _ (all_true (λ j. ltb (owner j) 4) 16 refl m l)
-
 -- a table whose entries f gives from those of another
 pub table_at : {A B : Type 0} (f : A → B) (b : B) (xs : List A) (a : A) (m : ℕ) → m < length xs → f (get_or xs m a) ≡ get_or (map f xs) m b
 table_at f b [] a m l = absurd (not-suc-le-zero l)
@@ -58,5 +51,5 @@ table_at f b (x ∷ xs) a (suc m) l = table_at f b xs a m (omega arith)
 
 -- ---- points
 pub same_point : {x y z x' y' z' : ℤ} {e e' : Bool} → x ≡ x' → y ≡ y' → z ≡ z' → e ≡ e'
-    → ◌≡◌ {A = PatchPoint} (record { x = x; y = y; z = z; exact = e }) (record { x = x'; y = y'; z = z'; exact = e' })
+    → ◌≡◌ {A = ControlPoint ℤ} (record { x = x; y = y; z = z; exact = e }) (record { x = x'; y = y'; z = z'; exact = e' })
 same_point p q r s = cc

@@ -105,6 +105,6 @@ pub units_small : (q : Fraction) → Sized q → nat_abs (units q) ≤ 256 * max
 units_small q s =
     nearest-bounded (pos 256 *ℤ q.num) q.den (256 * max_coordinate) s.positive (omega (arith, s.related, abs-* (pos 256) q.num))
 
-pub point-narrow : (q : ℕ → Fraction) {r : ControlPoint} → ((k : ℕ) → Sized (q k)) → r ≡ point_of q → Narrow r
+pub point-narrow : (q : ℕ → Fraction) {r : ControlPoint ℤ} → ((k : ℕ) → Sized (q k)) → r ≡ point_of q → Narrow r
 point-narrow q s e =
     subst Narrow (sym e) (record { x-small = units_small (q 0) (s 0); y-small = units_small (q 1) (s 1); z-small = units_small (q 2) (s 2) })

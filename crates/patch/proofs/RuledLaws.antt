@@ -12,7 +12,6 @@ use Rattle.integer.specs.Nearest.{nearest, whole}
 use Rattle.integer.proofs.Difference.{int, nat, ◌⊛◌, prove-eq}
 use Rattle.integer.proofs.NearestLaws.{nearest-scaled}
 use Rattle.integer.proofs.WholeLaws.{whole_scaled}
-use Rattle.finite.specs.Fold.{indicator}
 use Rattle.finite.specs.Filled.{filled}
 use Rattle.finite.proofs.FoldLaws.{bool_cases, fold-ext}
 use Rattle.finite.proofs.FilledLaws.{filled_at}
@@ -30,9 +29,10 @@ use Rattle.mask.proofs.RuleLaws.{Scaled, rule-inside, rule-boundary, rule-scaled
 use Rattle.control.specs.Control.{units, exactly}
 use Rattle.patch.specs.Point.{valence_at, inside, weight, sharp, sharp_sum, ring_sum, fixed, corner_point}
 use Rattle.patch.specs.Patch.{shape, view}
-use Rattle.patch.specs.Lists.{shape_of, Twins, ends_in, ring_sum_by, sharp_sum_by}
+use Rattle.patch.specs.Lists.{shape_of, Twins, no_ends, ends_in, ring_sum_by, sharp_sum_by}
 use Rattle.patch.specs.PatchTables.{Counts, rule, rule_by, tagged_shape, ends_of, Renderable, Roomy, Rendered}
 use Rattle.patch.specs.PatchTables.{Allowed, CornerLists, corner_lists, ruled_point, CornerSource, CornerPoints, Valued}
+use Rattle.patch.specs.declared.counts.Ends.{Ends}
 use Rattle.patch.proofs.FacePointLaws.{boundary-in, sharp-in}
 use Rattle.patch.proofs.TableLaws.{ring-told, sharp-told, ring-size, sharp-most, sharp-size}
 use Rattle.patch.proofs.TableLaws.{accepted-whole, accepted-indices, valence-range}
@@ -51,8 +51,8 @@ module _ {q q' : Fraction} (s : Scaled q q') where
   exactly-scaled = ap₂ whole scaled-num s.den-is ∙ whole_scaled (pos 256 *ℤ q.num) q.den s.by s.divided s.above
 
 -- ---- the three tables, as the pass fills them
-held : (f g : ℕ → ℕ) (n : ℕ) (d table : List ℕ) → ((i : ℕ) → i < n → f i ≡ g i) → table ≡ filled f n d → Holds 0 table n g
-held f g n d table h e i l = ap (λ (t : List ℕ). get_or t i 0) e ∙ filled_at f n i d 0 l ∙ h i l
+held : {A : Type 0} (z : A) (f g : ℕ → A) (n : ℕ) (d table : List A) → ((i : ℕ) → i < n → f i ≡ g i) → table ≡ filled f n d → Holds z table n g
+held {A} z f g n d table h e i l = ap (λ (t : List A). get_or t i z) e ∙ filled_at f n i d z l ∙ h i l
 
 module _ {tags faces twins : List ℕ} (t : Renderable tags faces twins) where
   pub rendered-rules : (valences leaving rules₀ rules : List ℕ) → Counts (shape_of faces) valences leaving
@@ -60,24 +60,25 @@ module _ {tags faces twins : List ℕ} (t : Renderable tags faces twins) where
       → Holds 0 rules (length tags) (rule (tagged_shape tags faces))
   unfolding rule
   rendered-rules valences leaving rules₀ rules k =
-      held _ _ (length tags) rules₀ rules (λ p l. let b = lt_of_lt_of_le l t.few in rw (k.inside-are p b, k.valences-are p b))
+      held 0 _ _ (length tags) rules₀ rules (λ p l. let b = lt_of_lt_of_le l t.few in rw (k.inside-are p b, k.valences-are p b))
 
   pub rendered-weights : (weights₀ weights : List ℕ) → weights ≡ filled (weight (shape_of faces)) (length faces) weights₀
       → Holds 0 weights (length faces) (weight (tagged_shape tags faces))
   unfolding weight
-  rendered-weights weights₀ weights = held _ _ (length faces) weights₀ weights (λ c l. refl)
+  rendered-weights weights₀ weights = held 0 _ _ (length faces) weights₀ weights (λ c l. refl)
 
-  pub rendered-ends : (ends₀ ends : List ℕ) → ends ≡ filled (ends_in twins) (length faces) ends₀ → Holds 0 ends (length faces) (ends_of (tagged_shape tags faces))
+  pub rendered-ends : (ends₀ ends : List Ends) → ends ≡ filled (ends_in twins) (length faces) ends₀
+      → Holds no_ends ends (length faces) (ends_of (tagged_shape tags faces))
   unfolding ends_of sharp
   rendered-ends ends₀ ends =
-      held _ _ (length faces) ends₀ ends
+      held no_ends _ _ (length faces) ends₀ ends
       (λ c l. rw (sharp-in t.twinned c l, boundary-in t.twinned (prev c) (prev-below (indices-corners t.indices) c l)))
 
 -- the links, as they are filled
 pub rendered-links : {M : IndexedMesh} → WellFormed M → {twins links : List ℕ} (links₀ : List ℕ) → Twins M.indices twins
     → links ≡ filled (twin_of twins) (length M.indices) links₀ → Holds 0 links (corners M) (twin (at M) (corners M))
 rendered-links {M} a {twins} {links} links₀ t e =
-    rw (accepted-whole a) at (held (twin_of twins) (twin (vertex_of M.indices) (length M.indices)) (length M.indices) links₀ links t.are e)
+    rw (accepted-whole a) at (held 0 (twin_of twins) (twin (vertex_of M.indices) (length M.indices)) (length M.indices) links₀ links t.are e)
 
 -- ---- what they give
 module _ {M : IndexedMesh} (a : WellFormed M) where
@@ -110,7 +111,7 @@ module _ {M : IndexedMesh} (a : WellFormed M) where
         sharp-small = λ _. sharp-size a k axis p l t;
       })
 
-module _ {M : IndexedMesh} (a : WellFormed M) {rules weights ends : List ℕ} where
+module _ {M : IndexedMesh} (a : WellFormed M) {rules weights : List ℕ} {ends : List Ends} where
   pub rendered-mesh : Rendered (tagged_shape M.tags M.indices) (length M.tags) rules weights ends → Rendered (shape M) M.vertices rules weights ends
   rendered-mesh r = rw (accepted-whole a, a.sized.tags-are) at r
 
@@ -140,9 +141,9 @@ module _ {M : IndexedMesh} (a : WellFormed M) {rules weights ends : List ℕ} wh
         rw (r.rules-are p l, ring-is k p axis, sharp-is k p axis)
         (rule-scaled (inside (shape M) p) (tag M p) (valence_at (shape M) p) ((view M k).value p) (ring_sum (view M k) p) (sharp_sum (view M k) p) (a.used p l))
 
-    pub ruled-points : {points : List ℤ} {marks : List ℕ} → CornerPoints (ruled_point lists) M.vertices 3 points marks
-        → CornerPoints (λ k. corner_point (view M k)) M.vertices 3 points marks
+    pub ruled-points : {points : List ℤ} {flags : List Bool} → CornerPoints (ruled_point lists) M.vertices 3 points flags
+        → CornerPoints (λ k. corner_point (view M k)) M.vertices 3 points flags
     ruled-points c = record {
       points-are = λ k p b l. c.points-are k p b l ∙ units-scaled (ruled-scaled k p b l);
-      marks-are = λ p l. c.marks-are p l ∙ ap indicator (fold-ext true ◌&&◌ 3 (λ k b. exactly-scaled (ruled-scaled k p b l)));
+      flags-are = λ p l. c.flags-are p l ∙ fold-ext true ◌&&◌ 3 (λ k b. exactly-scaled (ruled-scaled k p b l));
     }

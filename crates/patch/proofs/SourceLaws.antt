@@ -1,6 +1,6 @@
 -- The tables of an accepted mesh are all that its patches are written from, and what is written from them is the patch list and the marks.
 use mathlib.Core.Path.{◌≡◌, ap, ap₂, ◌∙◌}
-use mathlib.Core.Bool.{true, false, cond, ◌&&◌}
+use mathlib.Core.Bool.{Bool, true, false, cond, ◌&&◌}
 use mathlib.Core.List.{List}
 use Prim.Native.Nat.{ℕ, ◌+◌, ◌*◌, ◌/◌, ◌%◌, ◌≤◌, ◌<◌}
 use native.Mathlib.Omega.{arith}
@@ -22,7 +22,6 @@ use Rattle.patch.specs.Point.{Kind, corner, along, before, inner, x, weight, sha
 use Rattle.patch.specs.Patch.{owner, kind, patch_point, shape, view, patch_number, point_exact, patch_mark}
 use Rattle.patch.specs.Written.{PatchLists, patch_lists, Source, Tables, point_from, exact_from, number_from, mark_from, written_number, written_mark}
 use Rattle.patch.proofs.NeighbourLaws.{twin-below}
-use Rattle.patch.proofs.WrittenLaws.{indicator-one}
 use Rattle.patch.proofs.TableLaws.{accepted-whole}
 
 -- number j and mark j of face g, at their places in the lists
@@ -52,12 +51,12 @@ same-edge i j k l m n o = cc
 same-linked : (d : ℕ) {p q p' q' : Fraction} → p ≡ p' → (eqb d no_twin ≡ false → q ≡ q') → linked d p q ≡ cond (eqb d no_twin) p' q'
 same-linked d hp hq = bool_cases (eqb d no_twin) (λ e. rw e hp) (λ e. rw e (hq e))
 
-module _ {M : IndexedMesh} (a : WellFormed M) {values points : List ℤ} {links weights marks : List ℕ}
-    (t : Tables M (patch_lists M.indices values links weights points marks)) where
+module _ {M : IndexedMesh} (a : WellFormed M) {values points : List ℤ} {links weights : List ℕ} {flags : List Bool}
+    (t : Tables M (patch_lists M.indices values links weights points flags)) where
   abbrev drawn : PatchLists
-  drawn = patch_lists M.indices values links weights points marks
+  drawn = patch_lists M.indices values links weights points flags
 
-  pub source : 3 * M.vertices ≤ length points → M.vertices ≤ length marks → Source drawn
+  pub source : 3 * M.vertices ≤ length points → M.vertices ≤ length flags → Source drawn
   source pointed marked = record {
     whole = rw (accepted-whole a) (accepted-corners a);
     bounded = t.values-are.bounded;
@@ -126,7 +125,7 @@ module _ {M : IndexedMesh} (a : WellFormed M) {values points : List ℤ} {links 
   -- a mark from the tables is the mark of the mesh
   exact-from : (c : ℕ) (q : Kind) → c < corners M → exact_from drawn c q ≡ all_below (λ k. exactly (point (view M k) c q)) 3
   unfolding exact_from point
-  exact-from c corner l = ap (λ (m : ℕ). eqb m 1) (t.corners-are.marks-are (at M c) (a.named c l)) ∙ indicator-one _
+  exact-from c corner l = t.corners-are.flags-are (at M c) (a.named c l)
   exact-from c along l = fold-ext true ◌&&◌ 3 (λ k h. ap exactly (along-from k h c l))
   exact-from c before l = fold-ext true ◌&&◌ 3 (λ k h. ap exactly (before-from k h c l))
   exact-from c inner l = fold-ext true ◌&&◌ 3 (λ k h. ap exactly (inner-from k h c l))

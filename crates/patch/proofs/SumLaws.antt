@@ -1,54 +1,54 @@
 -- Sums over the corners at a vertex, as the code makes them: a table to which a pass over the corners adds, their size, and a count as a test.
 --
---   Passed z op at f g n c ..   two tables, after the first c of n corners
---   Scattered z op at f n table₀ table   the table, which was table₀ with z at each vertex, after a pass over n corners has added f c at the vertex of each
+--   Passed z op at f g c first second   two tables with a place for each vertex, which had z at each, after a pass over c corners has added f c to the
+--                      one and g c to the other at the vertex of each
 use mathlib.Core.Path.{◌≡◌, refl, sym, ap, ◌∙◌}
 use mathlib.Core.Bool.{Bool, true, false, not, cond, ◌||◌, or-true, or-false}
 use mathlib.Core.List.{List}
 use Prim.Native.Nat.{ℕ, zero, suc, ◌+◌, ◌*◌, ◌≤◌, ◌<◌, zero-le}
-use native.Mathlib.Nat.{add-zero, lt_of_lt_of_le, le_antisymm}
+use native.Mathlib.Nat.{add-zero, lt_of_lt_of_le}
 use native.Mathlib.Omega.{arith}
 use lib.Dec.{eqb}
 use lib.IntN.{ℤ, pos, nat_abs, ◌+ℤ◌}
-use lib.ListN.{length, get_or, set, length-set}
+use lib.ListN.{length, get_or, set, length-set, replicate, length-replicate, get_or-replicate}
+use mir.Syntax.{w64}
+use mir.Val.{SFits, to_z, of_z}
+use mir.Facts.{to_z-of_z}
 use borrow.Author.Tests.{ne_eqb}
+use Rattle.integer.proofs.Laws.{sfits-abs, sfits-+}
 use Rattle.finite.specs.Fold.{fold_below, indicator, gather}
 use Rattle.finite.proofs.FoldLaws.{Monoid, fold-ext, bool_cases}
 use Rattle.finite.proofs.Gather.{Gathered, gathered_none, gathered-more}
 use Rattle.limits.specs.Limits.{max_vertices, max_coordinate}
 use Rattle.mesh.specs.Fan.{any_at, valence}
-use Rattle.mesh.specs.Tables.{Holds}
 use Rattle.mask.proofs.LinearLaws.{bounds}
-use Rattle.patch.specs.PatchTables.{Blank}
 use Rattle.patch.proofs.Related.{sum-at}
 
--- ---- a pass over the corners: none yet, one more, and all
-pub record Scattered {A : Type 0} (z : A) (op : A → A → A) (at : ℕ → ℕ) (f : ℕ → A) (n : ℕ) (table₀ table : List A) : Type 0 where
-  pub long : length table ≡ length table₀
-  pub gathered : Gathered z op at f n max_vertices table
+-- ---- a pass over the corners, which adds f c to one table and g c to another: none yet, one more, and all
+pub record Passed {A : Type 0} (z : A) (op : A → A → A) (at : ℕ → ℕ) (f g : ℕ → A) (c : ℕ) (first second : List A) : Type 0 where
+  pub first-long : max_vertices ≤ length first
+  pub second-long : max_vertices ≤ length second
+  pub first-is : Gathered z op at f c max_vertices first
+  pub second_is : Gathered z op at g c max_vertices second
 
-module _ {A : Type 0} {z : A} {op : A → A → A} {at : ℕ → ℕ} {f : ℕ → A} {table₀ : List A} where
-  pub scattered-none : Blank z table₀ → Scattered z op at f 0 table₀ table₀
-  scattered-none b = record { long = refl; gathered = gathered_none z op at f max_vertices table₀ b.holds }
+module _ {A : Type 0} {z : A} {op : A → A → A} {at : ℕ → ℕ} {f g : ℕ → A} where
+  pub passed-none : Passed z op at f g 0 (replicate max_vertices z) (replicate max_vertices z)
+  passed-none =
+      let long : max_vertices ≤ length (replicate max_vertices z) = rw length-replicate (omega arith) in
+      let blank : Gathered z op at f 0 max_vertices (replicate max_vertices z) =
+      gathered_none z op at f max_vertices (replicate max_vertices z) (λ p l. get_or-replicate max_vertices p z z l) in
+      let blank₂ : Gathered z op at g 0 max_vertices (replicate max_vertices z) =
+      gathered_none z op at g max_vertices (replicate max_vertices z) (λ p l. get_or-replicate max_vertices p z z l) in
+      record { first-long = long; second-long = long; first-is = blank; second_is = blank₂ }
 
-  pub scattered-place : {n p : ℕ} {table : List A} → Blank z table₀ → Scattered z op at f n table₀ table → p < max_vertices → p < length table
-  scattered-place b s l = rw s.long (lt_of_lt_of_le l b.listed)
-
-  pub scattered-more : {n p : ℕ} {v : A} {table table' : List A} → Monoid z op → Blank z table₀ → Scattered z op at f n table₀ table
-      → p < max_vertices → p ≡ at n → v ≡ op (get_or table p z) (f n) → table' ≡ set table p v → Scattered z op at f (n + 1) table₀ table'
-  scattered-more {n} {p} {v} {table} m b s l e q is = record {
-    long = ap length is ∙ simp length-set s.long;
-    gathered = rw is (gathered-more m at f max_vertices n p v table (scattered-place b s l) e q s.gathered);
+  pub passed-more : {c p : ℕ} {v w : A} {first second : List A} → Monoid z op → Passed z op at f g c first second → p < max_vertices
+      → p ≡ at c → v ≡ op (get_or first p z) (f c) → w ≡ op (get_or second p z) (g c) → Passed z op at f g (c + 1) (set first p v) (set second p w)
+  passed-more {c} {p} {v} {w} {first} {second} m s l e q r = record {
+    first-long = rw length-set s.first-long;
+    second-long = rw length-set s.second-long;
+    first-is = gathered-more m at f max_vertices c p v first (lt_of_lt_of_le l s.first-long) e q s.first-is;
+    second_is = gathered-more m at g max_vertices c p w second (lt_of_lt_of_le l s.second-long) e r s.second_is;
   }
-
-  pub scattered-all : {n i : ℕ} {table : List A} → i ≤ n → n ≤ i → Scattered z op at f i table₀ table → Holds z table max_vertices (gather z op at f n)
-  scattered-all l h s p b = let all = le_antisymm l h in s.gathered p b ∙ ap (λ (m : ℕ). gather z op at f m p) all
-
--- a pass that adds f c to one table and g c to another
-pub record Passed {A : Type 0} (z : A) (op : A → A → A) (at : ℕ → ℕ) (f g : ℕ → A) (n c : ℕ) (first₀ second₀ first second : List A) : Type 0 where
-  pub most : c ≤ n
-  pub first-is : Scattered z op at f c first₀ first
-  pub second_is : Scattered z op at g c second₀ second
 
 -- ---- their sizes
 pub cond-size : (b : Bool) (z : ℤ) (B : ℕ) → nat_abs z ≤ B → nat_abs (cond b z (pos 0)) ≤ B
@@ -79,13 +79,13 @@ module _ (at : ℕ → ℕ) (p : ℕ) where
       → nat_abs (gather (pos 0) ◌+ℤ◌ at f n p) ≤ 5 * max_coordinate * n
   gather-bound f n h = omega (arith, gather-size (5 * max_coordinate) f n h, valence-few n)
 
-  pub scattered-bound : (f : ℕ → ℤ) (n : ℕ) {table₀ table : List ℤ} → Scattered (pos 0) ◌+ℤ◌ at f n table₀ table → p < max_vertices
+  pub gathered-bound : (f : ℕ → ℤ) (n : ℕ) (table : List ℤ) → Gathered (pos 0) ◌+ℤ◌ at f n max_vertices table → p < max_vertices
       → ((c : ℕ) → c < n → nat_abs (f c) ≤ 5 * max_coordinate) → nat_abs (get_or table p (pos 0)) ≤ 5 * max_coordinate * n
-  scattered-bound f n s l h = rw (s.gathered p l) (gather-bound f n h)
+  gathered-bound f n table s l h = rw (s p l) (gather-bound f n h)
 
-  pub scattered-few : (f : ℕ → ℕ) (n : ℕ) {table₀ table : List ℕ} → Scattered 0 ◌+◌ at f n table₀ table → p < max_vertices → ((c : ℕ) → f c ≤ 1)
+  pub gathered-few : (f : ℕ → ℕ) (n : ℕ) (table : List ℕ) → Gathered 0 ◌+◌ at f n max_vertices table → p < max_vertices → ((c : ℕ) → f c ≤ 1)
       → get_or table p 0 ≤ n
-  scattered-few f n s l h = rw (s.gathered p l) (gather-few f n h)
+  gathered-few f n table s l h = rw (s p l) (gather-few f n h)
 
   -- no corner at p has t exactly when their count is 0
   pub count_none : (t : ℕ → Bool) (n : ℕ) → eqb (gather 0 ◌+◌ at (λ c. indicator (t c)) n p) 0 ≡ not (any_at at n p t)
@@ -102,3 +102,17 @@ module _ (at : ℕ → ℕ) (p : ℕ) where
       step : (m : ℕ) (x u : Bool) → eqb m 0 ≡ not x → eqb (m + indicator u) 0 ≡ not (x || u)
       step m x true e = ne_eqb (m + 1) 0 (λ h. omega arith) ∙ sym (ap not (or-true x))
       step m x false e = rw (add-zero, or-false) e
+
+-- ---- a term within five coordinates added to a sum of at most 1024 such, in 64 bits
+module _ {n : ℕ} (r x : ℤ) (few : n ≤ 1024) (sum : nat_abs r ≤ 5 * max_coordinate * n) (term : nat_abs x ≤ 5 * max_coordinate) where
+  sum-fits : SFits w64 r
+  sum-fits = sfits-abs r (omega arith)
+
+  term-fits : SFits w64 x
+  term-fits = sfits-abs x (omega arith)
+
+  pub added-fits : SFits w64 (to_z w64 (of_z w64 r) +ℤ to_z w64 (of_z w64 x))
+  added-fits = simp (to_z-of_z sum-fits, to_z-of_z term-fits) (sfits-+ r x (omega arith))
+
+  pub added-is : to_z w64 (of_z w64 (to_z w64 (of_z w64 r) +ℤ to_z w64 (of_z w64 x))) ≡ r +ℤ x
+  added-is = to_z-of_z added-fits ∙ simp (to_z-of_z sum-fits, to_z-of_z term-fits)

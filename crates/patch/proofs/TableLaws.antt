@@ -1,5 +1,5 @@
 -- The tables of an accepted mesh: what their entries are made of, and the sizes of these.
-use mathlib.Core.Path.{◌≡◌, refl, sym, ap, ◌∙◌, subst}
+use mathlib.Core.Path.{◌≡◌, sym, ap, subst}
 use mathlib.Core.Bool.{Bool, true, false, cond}
 use mathlib.Core.List.{List}
 use Prim.Native.Nat.{ℕ, ◌+◌, ◌*◌, ◌≤◌, ◌<◌}
@@ -27,37 +27,16 @@ use Rattle.control.specs.Control.{value_at, values_after}
 use Rattle.control.proofs.ValuesLaws.{value-told, values-small}
 use Rattle.patch.specs.Point.{Shape, x, ring_term, sharp_term, valence_at, inside, weight, sharp, sharp_sum, ring_sum}
 use Rattle.patch.specs.Patch.{shape, view}
-use Rattle.patch.specs.Lists.{shape_of, ends_byte, next_counts, prev_counts, ring_term_by, sharp_term_by, ring_sum_by, sharp_sum_by}
-use Rattle.patch.specs.PatchTables.{Blank, ends_of, Bounded, Valued}
+use Rattle.patch.specs.Lists.{shape_of, no_ends, ring_term_by, sharp_term_by, ring_sum_by, sharp_sum_by}
+use Rattle.patch.specs.declared.counts.Ends.{Ends}
+use Rattle.patch.specs.PatchTables.{ends_of, Bounded, Valued}
 use Rattle.patch.proofs.MaskLaws.{value-small}
 use Rattle.patch.proofs.NeighbourLaws.{sharp-neighbours}
 use Rattle.patch.proofs.SumLaws.{cond-size, gather-size, gather_ext}
 
--- ---- the byte of a corner
-next-counts : (next prev : Bool) → next_counts (ends_byte next prev) ≡ next
-unfolding ends_byte
-next-counts true true = refl
-next-counts true false = refl
-next-counts false true = refl
-next-counts false false = refl
-
-prev-counts : (next prev : Bool) → prev_counts (ends_byte next prev) ≡ prev
-unfolding ends_byte
-prev-counts true true = refl
-prev-counts true false = refl
-prev-counts false true = refl
-prev-counts false false = refl
-
--- by the byte 0 neither neighbour counts
-pub term-none : (values : List ℤ) (ends : List ℕ) (k c : ℕ) → get_or ends c 0 ≡ 0 → sharp_term_by values ends k c ≡ pos 0
-term-none values ends k c e = rw e
-
 -- a table as it is made: the same number at each vertex
 pub same-all : {A : Type 0} (d z : A) → Holds d (replicate max_vertices z) max_vertices (λ p. z)
 same-all d z p l = get_or-replicate max_vertices p z d l
-
-pub blank : {A : Type 0} (z : A) → Blank z (replicate max_vertices z)
-blank z = record { listed = rw length-replicate (omega arith); holds = same-all z z }
 
 -- ---- the terms of the two sums
 ring-three : (e f g : ℤ) → nat_abs e ≤ max_coordinate → nat_abs f ≤ max_coordinate → nat_abs g ≤ max_coordinate
@@ -76,10 +55,10 @@ module _ {values : List ℤ} (b : Bounded values) (k c : ℕ) where
       ring-three (value_at values k (next c)) (value_at values k (prev c)) (value_at values k (across c))
       (value-small b k (next c)) (value-small b k (prev c)) (value-small b k (across c))
 
-  pub sharp-by-size : (ends : List ℕ) → nat_abs (sharp_term_by values ends k c) ≤ 5 * max_coordinate
+  pub sharp-by-size : (ends : List Ends) → nat_abs (sharp_term_by values ends k c) ≤ 5 * max_coordinate
   sharp-by-size ends =
-      let e = get_or ends c 0 in
-      sharp-two (next_counts e) (prev_counts e) (value_at values k (next c)) (value_at values k (prev c)) (value-small b k (next c)) (value-small b k (prev c))
+      let e = get_or ends c no_ends in
+      sharp-two e.next e.prev (value_at values k (next c)) (value_at values k (prev c)) (value-small b k (next c)) (value-small b k (prev c))
 
 same-ring : {e f g e' f' g' : ℤ} → e ≡ e' → f ≡ f' → g ≡ g' → pos 2 *ℤ e +ℤ pos 2 *ℤ f +ℤ g ≡ pos 2 *ℤ e' +ℤ pos 2 *ℤ f' +ℤ g'
 same-ring p q r = cc
@@ -105,15 +84,15 @@ module _ (M : IndexedMesh) (whole : length M.indices ≡ corners M) where
         (gather_ext (at M) p (pos 0) ◌+ℤ◌ {f = ring_term_by values k} {g = ring_term (view M k)} (corners M)
         (λ c l. same-ring (told-turned 1 c l) (told-turned 3 c l) (told-turned 2 c l)))
 
-    pub sharp-told : (ends : List ℕ) → Holds 0 ends (corners M) (ends_of (shape M)) → (p : ℕ) → sharp_sum_by M.indices values ends k p ≡ sharp_sum (view M k) p
+    pub sharp-told : (ends : List Ends) → Holds no_ends ends (corners M) (ends_of (shape M)) → (p : ℕ)
+        → sharp_sum_by M.indices values ends k p ≡ sharp_sum (view M k) p
     unfolding sharp_sum_by sharp_sum ends_of
     sharp-told ends h p =
         rw whole
         (gather_ext (at M) p (pos 0) ◌+ℤ◌ {f = sharp_term_by values ends k} {g = sharp_term (view M k)} (corners M)
         (λ c l.
         same-sharp
-        (ap next_counts (h c l) ∙ next-counts (sharp (shape M) c) (boundary (at M) (corners M) (prev c)))
-        (ap prev_counts (h c l) ∙ prev-counts (sharp (shape M) c) (boundary (at M) (corners M) (prev c)))
+        (ap (λ (e : Ends). e.next) (h c l)) (ap (λ (e : Ends). e.prev) (h c l))
         (told-turned 1 c l) (told-turned 3 c l)))
 
 module _ {M : IndexedMesh} (a : WellFormed M) where

@@ -8,12 +8,12 @@
 --   patch_list ..     the patch list afterwards: written where the mesh is accepted, and as it was after a refusal
 --   marks_list ..     the list of marks afterwards, likewise
 --   Patched M d r d' r is the answer of the patch call on the mesh M with the lent lists d, and d' are the lists afterwards
-use Rattle.std.specs.Prelude.{◌≡◌, Bool, ◌||◌, List, [], ◌∷◌, ℕ, ◌*◌, ltb, ℤ, length}
-use Rattle.answer.specs.Table.{Row, row, Answer, written_by}
+use Rattle.std.specs.Prelude.{◌≡◌, Bool, ◌||◌, List, [], ◌∷◌, ℕ, ◌*◌, ltb, ℤ, length, Result}
+use Rattle.answer.specs.declared.refusal.Refusal.{Refusal}
+use Rattle.answer.specs.Table.{Row, row, Answer, written_by, answered}
 use Rattle.limits.specs.declared.model.Mesh.{Mesh}
-use Rattle.limits.specs.declared.model.Checked.{Checked}
 use Rattle.mesh.specs.IndexedMesh.{IndexedMesh}
-use Rattle.mesh.specs.Answer.{checked, mesh_refusal, mesh_answer, twins_after, twins_short}
+use Rattle.mesh.specs.Answer.{mesh_refusal, mesh_answer, twins_after, twins_short}
 use Rattle.patch.specs.Patch.{patches_after, marks_after}
 
 pub record Lent : Type 0 where
@@ -48,8 +48,8 @@ patch_list M d = written_by (mesh_refusal M (patch_rows M d) []) d.patches (patc
 abbrev pub marks_list : IndexedMesh → Lent → List ℕ
 marks_list M d = written_by (mesh_refusal M (patch_rows M d) []) d.marks (marks_after M d.marks)
 
-pub record Patched (M : IndexedMesh) (d : Lent) (r : Checked) (d' : Lent) : Type 0 where
-  pub answer-is : checked r ≡ patch_answer M d
+pub record Patched (M : IndexedMesh) (d : Lent) (r : Result Mesh Refusal) (d' : Lent) : Type 0 where
+  pub answer-is : answered r ≡ patch_answer M d
   pub twins-are : d'.twins ≡ patch_twins M d
   pub patches-are : d'.patches ≡ patch_list M d
   pub marks-are : d'.marks ≡ marks_list M d

@@ -5,3 +5,4 @@ pub mod Answer
 pub mod Lists
 pub mod PatchTables
 pub mod Written
+pub mod Sources

@@ -4,21 +4,20 @@
 --                      points and their flags by vertex
 --   Source D           these lists serve every corner
 --   Tables M D         the lists tell the mesh M: the coordinates of each corner, its twin and its weight, the corner point of each vertex and its mark
---   ForValues D c, ForPoint D c point, ForNumbered D g m point, ForPatch D g patch marks, ForPatches D f patches marks   what is asked to make a
---                      point of corner c, to write it, point m of face g, the patch of face g, those of f faces: the lists serve, and there is room
---   ForVertex faces points flags c   what is asked to look up the corner point of the vertex of corner c
---   Narrow p, stored p   the control point p is within the range of the coordinates in units; the point as it is written
+--   ForNumbered faces g m point, ForPatch faces g patch marks, ForPatches faces f patches marks   what is asked to write point m of face g, the patch of
+--                      face g, those of f faces: the faces are there, and there is room
+--   Narrow p            the control point p is within the range of the coordinates in units
 --   point_with g e      the point with the coordinates g 0, g 1 and g 2, which is exact or not
 --   kind_of q           the kind of point, for each case of the code's enum `Kind`
 --   point_from D k c q  coordinate k of the point of kind q at corner c, in units: a corner point is looked up in the table of these
---   exact_from D c q    whether nothing is left in any coordinate of that point: for a corner point, whether its mark is 1
+--   exact_from D c q    whether nothing is left in any coordinate of that point: for a corner point, its flag
 --   marked_point D c q      that point with its mark
 --   number_from D g i   number i of the 48 of face g, likewise
 --   mark_from D g m     mark m of the 16 of face g, likewise
 --   written_number D i, written_mark D i   what is written at place i of the patch list, and of the list of marks
 --   PointWritten .., NumberedWritten .., PatchWritten .., PatchesWritten ..   a point of corner c, point m of face g, the patch of face g, those of f faces:
 --                      the numbers are over the first places of the list, and the mark is handed back, or the marks are over the first of theirs
-use Rattle.std.specs.Prelude.{◌≡◌, Bool, List, ℕ, ◌+◌, ◌*◌, ◌/◌, ◌%◌, ◌≤◌, ◌<◌, eqb, ℤ, pos, nat_abs, length, get_or}
+use Rattle.std.specs.Prelude.{◌≡◌, Bool, false, List, ℕ, ◌+◌, ◌*◌, ◌/◌, ◌%◌, ◌≤◌, ◌<◌, ℤ, pos, nat_abs, length, get_or}
 use Rattle.finite.specs.Fold.{all_below, indicator}
 use Rattle.finite.specs.Filled.{filled}
 use Rattle.limits.specs.Limits.{max_coordinate}
@@ -31,7 +30,6 @@ use Rattle.control.specs.declared.model.ControlPoint.{ControlPoint}
 use Rattle.patch.specs.Point.{Kind, corner, along, before, inner, weight, corner_point}
 use Rattle.patch.specs.Patch.{owner, kind, shape, view}
 use Rattle.patch.specs.PatchTables.{Bounded, Valued, CornerPoints}
-use Rattle.patch.specs.declared.writer.PatchPoint.{PatchPoint}
 use Rattle.patch.specs.declared.writer.Kind as enum
 use Rattle.patch.specs.declared.writer.Kind.TheVariants.{Corner, Along, Before, Inner}
 
@@ -41,9 +39,9 @@ pub record PatchLists : Type 0 where
   pub links : List ℕ
   pub weights : List ℕ
   pub points : List ℤ
-  pub flags : List ℕ
+  pub flags : List Bool
 
-abbrev pub patch_lists : List ℕ → List ℤ → List ℕ → List ℕ → List ℤ → List ℕ → PatchLists
+abbrev pub patch_lists : List ℕ → List ℤ → List ℕ → List ℕ → List ℤ → List Bool → PatchLists
 patch_lists faces values links weights points flags =
     record { faces = faces; values = values; links = links; weights = weights; points = points; flags = flags }
 
@@ -59,46 +57,27 @@ pub record Tables (M : IndexedMesh) (D : PatchLists) : Type 0 where
   pub weights-are : Holds 0 D.weights (corners M) (weight (shape M))
   pub corners-are : CornerPoints (λ k. corner_point (view M k)) M.vertices 3 D.points D.flags
 
-pub record ForVertex (faces : List ℕ) (points : List ℤ) (flags : List ℕ) (c : ℕ) : Type 0 where
-  pub corner : c < length faces
-  pub pointed : (k : ℕ) → k < 3 → 3 * vertex_of faces c + k < length points
-  pub marked : vertex_of faces c < length flags
-
-pub record ForValues (D : PatchLists) (c : ℕ) : Type 0 where
-  pub source : Source D
-  pub corner : c < length D.faces
-
-pub record ForPoint (D : PatchLists) (c : ℕ) (point : List ℤ) : Type 0 where
-  pub values : ForValues D c
-  pub room : 3 ≤ length point
-
-pub record ForNumbered (D : PatchLists) (g m : ℕ) (point : List ℤ) : Type 0 where
-  pub source : Source D
-  pub face : 4 * g + 4 ≤ length D.faces
+pub record ForNumbered (faces : List ℕ) (g m : ℕ) (point : List ℤ) : Type 0 where
+  pub face : 4 * g + 4 ≤ length faces
   pub sixteen : m < 16
   pub room : 3 ≤ length point
 
-pub record ForPatch (D : PatchLists) (g : ℕ) (patch : List ℤ) (marks : List ℕ) : Type 0 where
-  pub source : Source D
-  pub face : 4 * g + 4 ≤ length D.faces
+pub record ForPatch (faces : List ℕ) (g : ℕ) (patch : List ℤ) (marks : List ℕ) : Type 0 where
+  pub face : 4 * g + 4 ≤ length faces
   pub patch-room : 48 ≤ length patch
   pub marks-room : 16 ≤ length marks
 
-pub record ForPatches (D : PatchLists) (f : ℕ) (patches : List ℤ) (marks : List ℕ) : Type 0 where
-  pub source : Source D
-  pub listed : 4 * f ≤ length D.faces
+pub record ForPatches (faces : List ℕ) (f : ℕ) (patches : List ℤ) (marks : List ℕ) : Type 0 where
+  pub listed : 4 * f ≤ length faces
   pub patches-room : 48 * f ≤ length patches
   pub marks-room : 16 * f ≤ length marks
 
-pub record Narrow (p : ControlPoint) : Type 0 where
+pub record Narrow (p : ControlPoint ℤ) : Type 0 where
   pub x-small : nat_abs p.x ≤ 256 * max_coordinate
   pub y-small : nat_abs p.y ≤ 256 * max_coordinate
   pub z-small : nat_abs p.z ≤ 256 * max_coordinate
 
-abbrev pub stored : ControlPoint → PatchPoint
-stored p = record { x = p.x; y = p.y; z = p.z; exact = p.exact }
-
-abbrev pub point_with : (ℕ → ℤ) → Bool → PatchPoint
+abbrev pub point_with : (ℕ → ℤ) → Bool → ControlPoint ℤ
 point_with g e = record { x = g 0; y = g 1; z = g 2; exact = e }
 
 abbrev pub kind_of : enum.Kind → Kind
@@ -114,12 +93,12 @@ point_from D k c before = units (before_at D.values D.links D.weights k c)
 point_from D k c inner = units (inner_at D.values (weight_at D.weights c) k c)
 
 unfoldable pub exact_from : PatchLists → ℕ → Kind → Bool
-exact_from D c corner = eqb (get_or D.flags (vertex_of D.faces c) 0) 1
+exact_from D c corner = get_or D.flags (vertex_of D.faces c) false
 exact_from D c along = all_below (λ k. exactly (along_at D.values D.links D.weights k c)) 3
 exact_from D c before = all_below (λ k. exactly (before_at D.values D.links D.weights k c)) 3
 exact_from D c inner = all_below (λ k. exactly (inner_at D.values (weight_at D.weights c) k c)) 3
 
-abbrev pub marked_point : PatchLists → ℕ → Kind → PatchPoint
+abbrev pub marked_point : PatchLists → ℕ → Kind → ControlPoint ℤ
 marked_point D c q = point_with (λ k. point_from D k c q) (exact_from D c q)
 
 unfoldable pub number_from : PatchLists → ℕ → ℕ → ℤ

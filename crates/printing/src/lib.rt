@@ -4,13 +4,15 @@
 
 ghost use Rattle.std.specs.Prelude.{◌≤◌, length, OnOk};
 ghost use Rattle.std.specs.Io.KnownBytes.{Appends};
+ghost use Rattle.answer.specs.Table.{answered};
 ghost use Rattle.listing.specs.Listing.{joined, line_at, handed_count};
-ghost use Rattle.meshfile.specs.Answer.{opened, FileOpened};
+ghost use Rattle.meshfile.specs.Answer.{FileOpened};
 ghost use Rattle.text.specs.Text.{line_places};
 
+use answer::refusal::Refusal;
 use decoding::model::Header;
 use limits::model::Mesh;
-use meshfile::model::Opened;
+use meshfile::model::Tessellation;
 use std::io;
 use std::io::Write;
 
@@ -26,13 +28,13 @@ const STRETCH_PLACES: usize = 65536;
 // Writes the stretches of the text one after the other, up to its end. At the first write that is not taken whole it stops.
 // Writes: to `to`, where no write fails, the lines that are handed out, all of them and in their order; to out, as `listing::stretch`.
 fn write_stretches<W: Write>(
-    file: Opened,
+    file: Result<Tessellation, Refusal>,
     patches: &[i32],
     out: &mut [u8],
     to: &mut W,
 ) -> io::Result<()>
     requires { line_places ≤ length out.old }
-    ensures { let text = joined (line_at (opened file) patches.now) (handed_count (opened file)) in
+    ensures { let text = joined (line_at (answered file) patches.now) (handed_count (answered file)) in
         OnOk result (Appends (W.contents to.old) (W.contents to.new) text) }
 {
     let lines = listing::line_count(file);
@@ -56,7 +58,7 @@ pub fn print<W: Write, E: Write>(
     complaint: &[u8],
     to: &mut W,
     errors: &mut E,
-) -> Opened
+) -> Result<Tessellation, Refusal>
     ensures { FileOpened bytes.now patches.old result patches.new }
 {
     let mut out = [0u8; STRETCH_PLACES];

@@ -75,15 +75,16 @@ module _ {patch : List ℤ} (small : SmallPatch patch) (k : ℕ) (below : k < 3)
   pub column-fine : (i : ℕ) → i < 4 → Fine (list_below (column i) 4)
   column-fine i l = record { fine = λ j q. rw (list_below-at (column i) 4 j (pos 0) q) (omega (arith, control-small (i + 4 * j) (omega arith))) }
 
-pub curve-fine : {patch : List ℤ} {k : ℕ} {v : List ℕ} → ForCurve patch k v → Fine (list_below (λ i. blended v (λ j. control_of patch k (i + 4 * j))) 4)
-curve-fine {patch} {k} {v} s =
+pub curve-fine : {patch : List ℤ} {k : ℕ} {v : List ℕ} → SmallPatch patch → ForCurve k v
+    → Fine (list_below (λ i. blended v (λ j. control_of patch k (i + 4 * j))) 4)
+curve-fine {patch} {k} {v} small s =
     let column : ℕ → ℕ → ℤ = λ i j. control_of patch k (i + 4 * j) in
     record {
       fine = λ i l.
           rw (list_below-at (λ i. blended v (column i)) 4 i (pos 0) l)
           (omega (
             arith,
-            partial-size (column i) max_control s.light (λ j q. control-small s.small k s.axis (i + 4 * j) (omega arith)) 4 (omega arith),
+            partial-size (column i) max_control s.light (λ j q. control-small small k s.axis (i + 4 * j) (omega arith)) 4 (omega arith),
           ));
     }
 

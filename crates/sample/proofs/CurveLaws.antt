@@ -1,19 +1,19 @@
 -- The curves that the samples of one b share: what is given where a cause is met and where none is, their size, and the sum of a sample by them.
-use mathlib.Core.Path.{◌≡◌, sym, ap, ◌∙◌}
+use mathlib.Core.Path.{◌≡◌, refl, sym, ap, ◌∙◌}
 use mathlib.Core.List.{List}
 use mathlib.Core.Option.{none, some}
 use Prim.Native.Nat.{ℕ, ◌+◌, ◌*◌, ◌/◌, ◌^◌, ◌≤◌, ◌<◌}
 use native.Mathlib.Omega.{arith}
 use lib.IntN.{ℤ, pos, nat_abs, ◌+ℤ◌, ◌*ℤ◌}
-use lib.ListN.{length, get_or, replicate}
+use lib.ListN.{length, get_or}
 use Rattle.finite.specs.Fold.{fold_below, sum_below_ℤ}
 use Rattle.finite.specs.Filled.{list_below}
-use Rattle.answer.specs.Table.{refusal_of}
+use Rattle.answer.specs.Table.{result, refusal}
 use Rattle.finite.proofs.FoldLaws.{fold-ext}
 use Rattle.finite.proofs.FilledLaws.{list_below-ext, list_below-at}
 use Rattle.sample.specs.Bernstein.{bernstein, numerator, control_at}
 use Rattle.sample.specs.Refusal.{max_control}
-use Rattle.sample.specs.Curve.{curve_at, curve_refusal, CurvesGiven}
+use Rattle.sample.specs.Curve.{curve_at, curve_refusal, curves_answer}
 use Rattle.sample.specs.Blend.{curve_of}
 use Rattle.sample.specs.declared.model.Curves.{Curves}
 use Rattle.sample.proofs.SampleLaws.{numerator-rows, curve-weighted}
@@ -22,8 +22,8 @@ use Rattle.sample.proofs.PatchLaws.{patch_of, patch-control}
 use Rattle.sample.proofs.RefusalLaws.{allowed}
 
 -- ---- by their parts
-pub same-curves : {k d d' : ℕ} {x y z x' y' z' : List ℤ} → d ≡ d' → x ≡ x' → y ≡ y' → z ≡ z'
-    → ◌≡◌ {A = Curves} (record { refusal = k; divisor = d; x = x; y = y; z = z }) (record { refusal = k; divisor = d'; x = x'; y = y'; z = z' })
+pub same-curves : {d d' : ℕ} {x y z x' y' z' : List ℤ} → d ≡ d' → x ≡ x' → y ≡ y' → z ≡ z'
+    → ◌≡◌ {A = Curves} (record { divisor = d; x = x; y = y; z = z }) (record { divisor = d'; x = x'; y = y'; z = z' })
 same-curves p q r s = cc
 
 -- by the part of the list
@@ -34,20 +34,17 @@ patch-curve patches f within n b k below =
 
 module _ (patches : List ℤ) (f n b : ℕ) where
   -- ---- what is given
-  pub curves-refused : {j k : ℕ} → refusal_of k ≡ curve_refusal patches f n b → curve_refusal patches f n b ≡ some j
-      → (let none-at = replicate 4 (pos 0) in CurvesGiven patches f n b (record { refusal = k; divisor = 0; x = none-at; y = none-at; z = none-at }))
-  curves-refused e met = record { refusal_is = e; divisor-is = rw met; x-is = rw met; y-is = rw met; z-is = rw met }
+  pub curves-refused : {k : ℕ} → curve_refusal patches f n b ≡ some k → refusal k ≡ curves_answer patches f n b
+  unfolding curves_answer
+  curves-refused met = rw met
 
   pub curves-given : {r : Curves} → curve_refusal patches f n b ≡ none → f < length patches / 48
-      → (let c = curve_of (patch_of patches f) n b in r ≡ record { refusal = 0; divisor = n ^ 6; x = c 0; y = c 1; z = c 2 })
-      → CurvesGiven patches f n b r
-  curves-given e within q = record {
-    refusal_is = ap (λ (r : Curves). refusal_of r.refusal) q ∙ sym e;
-    divisor-is = ap (λ (r : Curves). r.divisor) q ∙ rw e;
-    x-is = ap (λ (r : Curves). r.x) q ∙ patch-curve patches f within n b 0 (omega arith) ∙ rw e;
-    y-is = ap (λ (r : Curves). r.y) q ∙ patch-curve patches f within n b 1 (omega arith) ∙ rw e;
-    z-is = ap (λ (r : Curves). r.z) q ∙ patch-curve patches f within n b 2 (omega arith) ∙ rw e;
-  }
+      → (let c = curve_of (patch_of patches f) n b in r ≡ record { divisor = n ^ 6; x = c 0; y = c 1; z = c 2 })
+      → result r ≡ curves_answer patches f n b
+  unfolding curves_answer
+  curves-given e within q =
+      let at = patch-curve patches f within n b in
+      ap result (q ∙ same-curves refl (at 0 (omega arith)) (at 1 (omega arith)) (at 2 (omega arith))) ∙ rw e
 
   -- ---- a value of a curve is at most N^3 times the limit of a control value
   pub curve-bound : curve_refusal patches f n b ≡ none → (k : ℕ) → k < 3 → (i : ℕ) → i < 4

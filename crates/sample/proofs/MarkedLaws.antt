@@ -11,9 +11,10 @@ use lib.IntN.{ℤ}
 use lib.ListN.{length, get_or, take, drop, length-take, length-drop}
 use lib.Seq.{get_or-drop, get_or-take}
 use borrow.Author.Tests.{lt-ltb, le-ltb}
-use Rattle.finite.specs.Fold.{all_below}
+use Rattle.std.specs.List.{list_all}
 use Rattle.answer.specs.Table.{first_met, refusal}
 use Rattle.finite.proofs.FoldLaws.{fold-ext, bool_cases}
+use Rattle.finite.proofs.Lists.{all-of-list}
 use Rattle.answer.proofs.TableLaws.{over, over_by}
 use Rattle.sample.specs.declared.model.MarkedPoint.{MarkedPoint}
 use Rattle.sample.specs.Refusal.{face_off, sample_rows}
@@ -46,9 +47,9 @@ module _ (marks : List ℕ) (f : ℕ) (within : f < length marks / 16) where
   marks-at : (i : ℕ) → i < 16 → get_or (marks_of marks f) i 0 ≡ get_or marks (16 * f + i) 0
   marks-at i l = let q : i < 16 * f + 16 - 16 * f = omega arith in rw (get_or-take, get_or-drop)
 
-  pub marks-all : all_below (λ i. eqb (get_or (marks_of marks f) i 0) 1) (length (marks_of marks f)) ≡ patch_marked marks f
+  pub marks-all : list_all (λ m. eqb m 1) (marks_of marks f) ≡ patch_marked marks f
   unfolding patch_marked
-  marks-all = rw marks-length (fold-ext true ◌&&◌ 16 (λ i l. rw (marks-at i l)))
+  marks-all = all-of-list (λ m. eqb m 1) (marks_of marks f) 0 ∙ rw marks-length (fold-ext true ◌&&◌ 16 (λ i l. rw (marks-at i l)))
 
 -- ---- the answer
 --   with_marks m p   the sample p with both marks: m, and that of its own division

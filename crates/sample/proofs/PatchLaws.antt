@@ -10,8 +10,10 @@ use lib.ListN.{length, get_or, take, drop, length-take, length-drop}
 use lib.Seq.{get_or-drop, get_or-take}
 use borrow.Author.Tests.{ltb-false}
 use Rattle.integer.specs.Nearest.{whole}
-use Rattle.finite.specs.Fold.{any_below, all_below}
+use Rattle.finite.specs.Fold.{all_below}
+use Rattle.std.specs.List.{list_any}
 use Rattle.finite.proofs.FoldLaws.{fold-ext}
+use Rattle.finite.proofs.Lists.{any-of-list}
 use Rattle.finite.proofs.AnyAll.{any_false}
 use Rattle.sample.specs.Bernstein.{numerator, rounded, control_at, coordinate_at}
 use Rattle.sample.specs.Refusal.{max_control, control_off}
@@ -42,9 +44,11 @@ module _ (patches : List ℤ) (f : ℕ) (within : f < length patches / 48) where
   patch-at : (i : ℕ) → i < 48 → get_or (patch_of patches f) i (pos 0) ≡ get_or patches (48 * f + i) (pos 0)
   patch-at i l = let q : i < 48 * f + 48 - 48 * f = omega arith in rw (get_or-take, get_or-drop)
 
-  pub patch-off : any_below (λ i. ltb max_control (nat_abs (get_or (patch_of patches f) i (pos 0)))) (length (patch_of patches f)) ≡ control_off patches f
+  pub patch-off : list_any (λ x. ltb max_control (nat_abs x)) (patch_of patches f) ≡ control_off patches f
   unfolding control_off
-  patch-off = rw patch-length (fold-ext false ◌||◌ 48 (λ i l. ap (λ (z : ℤ). ltb max_control (nat_abs z)) (patch-at i l)))
+  patch-off =
+      any-of-list (λ x. ltb max_control (nat_abs x)) (patch_of patches f) (pos 0)
+      ∙ rw patch-length (fold-ext false ◌||◌ 48 (λ i l. ap (λ (z : ℤ). ltb max_control (nat_abs z)) (patch-at i l)))
 
   pub patch-small : control_off patches f ≡ false → SmallPatch (patch_of patches f)
   unfolding control_off

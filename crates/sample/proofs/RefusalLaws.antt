@@ -1,15 +1,16 @@
 -- When the sample call says no: the causes as the code tests them, the answer by the first cause that is met, and what holds where none is.
-use mathlib.Core.Path.{◌≡◌, ap, ◌∙◌}
+use mathlib.Core.Path.{◌≡◌, sym, ap, ◌∙◌}
 use mathlib.Core.Bool.{true, false}
 use mathlib.Core.List.{List}
 use mathlib.Core.Option.{none, some}
 use Prim.Native.Nat.{ℕ, ◌+◌, ◌*◌, ◌/◌, ◌≤◌, ◌<◌}
 use native.Mathlib.Omega.{arith}
-use lib.Dec.{ltb}
+use lib.Dec.{ltb, leb}
 use lib.IntN.{ℤ}
 use lib.ListN.{length}
-use borrow.Author.Tests.{lt-ltb, le-ltb, ltb-false}
+use borrow.Author.Tests.{lt-ltb, le-ltb, ltb-false, leb-true, leb-false}
 use Rattle.answer.specs.Table.{first_met, Answer, result, refusal, answer_by}
+use Rattle.finite.proofs.FoldLaws.{bool_cases}
 use Rattle.finite.proofs.AnyAll.{or-false}
 use Rattle.answer.proofs.TableLaws.{none-met, over, over_by}
 use Rattle.sample.specs.declared.model.MarkedPoint.{MarkedPoint}
@@ -29,13 +30,20 @@ pub face-on : (patches : List ℤ) (f : ℕ) → f < length patches / 48 → fac
 unfolding face_off
 face-on patches f h = le-ltb (length patches) (48 * f + 48) (omega arith)
 
+pub face-tested : (patches : List ℤ) (f : ℕ) → leb (length patches / 48) f ≡ face_off patches f
+unfolding face_off
+face-tested patches f =
+    bool_cases (leb (length patches / 48) f)
+    (λ t. t ∙ sym (lt-ltb (length patches) (48 * f + 48) (let h = leb-true (length patches / 48) f t in omega arith)))
+    (λ e. e ∙ sym (le-ltb (length patches) (48 * f + 48) (let h = leb-false (length patches / 48) f e in omega arith)))
+
 -- ---- nothing is met
 --   SampleAllowed patches f n a b   the face is listed, and its patch can be sampled at (a, b)
 pub record SampleAllowed (patches : List ℤ) (f n a b : ℕ) : Type 0 where
   pub listed : f < length patches / 48
   pub samplable : Samplable (patch_of patches f) n a b
 
-face-listed : (patches : List ℤ) (f : ℕ) → face_off patches f ≡ false → f < length patches / 48
+pub face-listed : (patches : List ℤ) (f : ℕ) → face_off patches f ≡ false → f < length patches / 48
 unfolding face_off
 face-listed patches f e = omega (arith, ltb-false (length patches) (48 * f + 48) e)
 

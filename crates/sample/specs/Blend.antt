@@ -8,7 +8,7 @@
 --   Addable sum weight value   the product of the weight and the value fits 64 bits, and so does the sum with it
 --   LightWeights weights, Fine values   four weights and four values whose sums of products fit 64 bits
 --   Blendable weights values   both
---   ForCurve patch k v    what is asked to blend coordinate k of the patch along v, by the weights v
+--   ForCurve k v          what is asked to blend coordinate k of a patch along v, by the weights v
 --   Mean sum divisor      a divisor above 0, and a sum no larger than that many times the limit of a control value
 --   blended weights h     the values h 0 to h 3, each times its weight, added
 --   curve_of patch n b k   the curve of coordinate k at b: the control values blended along v by the weights of b
@@ -52,8 +52,7 @@ pub record Blendable (weights : List ℕ) (values : List ℤ) : Type 0 where
   pub light : LightWeights weights
   pub fine : Fine values
 
-pub record ForCurve (patch : List ℤ) (k : ℕ) (v : List ℕ) : Type 0 where
-  pub small : SmallPatch patch
+pub record ForCurve (k : ℕ) (v : List ℕ) : Type 0 where
   pub axis : k < 3
   pub light : LightWeights v
 

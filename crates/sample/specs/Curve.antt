@@ -2,12 +2,12 @@
 --
 --   curve_at patches f n b k   the curve of coordinate k: four values, each the sum of its control values by the weights of b
 --   curve_refusal ..           the refusal that the call meets: that of a sample at a = 0, which is never above N
---   CurvesGiven patches f n b r   r holds the curves and their divisor, or the number of the refusal and zeros
-use Rattle.std.specs.Prelude.{◌≡◌, List, ℕ, ◌+◌, ◌*◌, ◌^◌, ℤ, pos, ◌*ℤ◌, replicate}
+--   curves_answer ..           its answer: the curves and their divisor, or the number of the refusal
+use Rattle.std.specs.Prelude.{List, ℕ, ◌+◌, ◌*◌, ◌^◌, ℤ, pos, ◌*ℤ◌}
 use Rattle.std.proofs.Math.Option.{Option}
 use Rattle.finite.specs.Fold.{sum_below_ℤ}
 use Rattle.finite.specs.Filled.{list_below}
-use Rattle.answer.specs.Table.{first_met, written_by, refusal_of}
+use Rattle.answer.specs.Table.{first_met, Answer, answer_by}
 use Rattle.sample.specs.Bernstein.{bernstein, control_at}
 use Rattle.sample.specs.Refusal.{sample_rows}
 use Rattle.sample.specs.declared.model.Curves.{Curves}
@@ -18,9 +18,6 @@ curve_at patches f n b k = list_below (λ i. sum_below_ℤ (λ j. pos (bernstein
 abbrev pub curve_refusal : List ℤ → ℕ → ℕ → ℕ → Option ℕ
 curve_refusal patches f n b = first_met (sample_rows patches f n 0 b)
 
-pub record CurvesGiven (patches : List ℤ) (f n b : ℕ) (r : Curves) : Type 0 where
-  pub refusal_is : refusal_of r.refusal ≡ curve_refusal patches f n b
-  pub divisor-is : r.divisor ≡ written_by (curve_refusal patches f n b) 0 (n ^ 6)
-  pub x-is : r.x ≡ written_by (curve_refusal patches f n b) (replicate 4 (pos 0)) (curve_at patches f n b 0)
-  pub y-is : r.y ≡ written_by (curve_refusal patches f n b) (replicate 4 (pos 0)) (curve_at patches f n b 1)
-  pub z-is : r.z ≡ written_by (curve_refusal patches f n b) (replicate 4 (pos 0)) (curve_at patches f n b 2)
+unfoldable pub curves_answer : List ℤ → ℕ → ℕ → ℕ → Answer Curves
+curves_answer patches f n b =
+    let c = curve_at patches f n b in answer_by (curve_refusal patches f n b) (record { divisor = n ^ 6; x = c 0; y = c 1; z = c 2 })

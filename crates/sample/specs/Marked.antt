@@ -5,18 +5,15 @@
 --   patch_marked marks f  the sixteen bytes of face f are all 1: no control point of its patch was rounded
 --   division_whole ..     the sample's own division by N^6 leaves nothing in any coordinate
 --   sample_exact ..       the mark of the sample: both
---   marked r             the answer, for each case of the code's enum `Marked`: the sample with its mark, or the number of a refusal
 --   marked_answer ..      the answer of the marked sample call
 use Rattle.std.specs.Prelude.{Bool, ◌&&◌, ◌||◌, List, [], ◌∷◌, ℕ, ◌+◌, ◌*◌, ◌^◌, eqb, ltb, ℤ, length, get_or}
 use Rattle.integer.specs.Nearest.{whole}
 use Rattle.finite.specs.Fold.{all_below}
-use Rattle.answer.specs.Table.{Row, row, first_met, Answer, result, refusal, answer_by}
+use Rattle.answer.specs.Table.{Row, row, first_met, Answer, answer_by}
 use Rattle.sample.specs.Bernstein.{numerator, control_at}
 use Rattle.sample.specs.Refusal.{face_off, control_off, place_off}
 use Rattle.sample.specs.Answer.{point_at}
 use Rattle.sample.specs.declared.model.MarkedPoint.{MarkedPoint}
-use Rattle.sample.specs.declared.model.Marked.{Marked}
-use Rattle.sample.specs.declared.model.Marked.TheVariants.{At, Refused}
 
 unfoldable pub marks_off : List ℕ → ℕ → Bool
 marks_off marks f = ltb (length marks) (16 * f + 16)
@@ -33,10 +30,6 @@ division_whole patches f n a b = all_below (λ k. whole (numerator n a b (contro
 
 abbrev pub sample_exact : List ℤ → List ℕ → ℕ → ℕ → ℕ → ℕ → Bool
 sample_exact patches marks f n a b = patch_marked marks f && division_whole patches f n a b
-
-abbrev pub marked : Marked → Answer MarkedPoint
-marked (At p) = result p
-marked (Refused k) = refusal k
 
 unfoldable pub marked_answer : List ℤ → List ℕ → ℕ → ℕ → ℕ → ℕ → Answer MarkedPoint
 marked_answer patches marks f n a b =

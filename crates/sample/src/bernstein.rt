@@ -1,13 +1,14 @@
 // The sample of one patch at one place: blended along v, then along u, exactly, and rounded once.
-ghost use Rattle.std.specs.Prelude.{◌≡◌, ◌+◌, ◌*◌, ◌^◌, ◌≤◌, ◌<◌, pos, ◌+ℤ◌, ◌*ℤ◌, length, get_or};
+ghost use Rattle.std.specs.Prelude.{◌≡◌, ◌+◌, ◌*◌, ◌^◌, ◌≤◌, ◌<◌, pos, ◌+ℤ◌, ◌*ℤ◌, get_or};
 ghost use Rattle.integer.specs.Nearest.{nearest, whole};
 ghost use Rattle.finite.specs.Fold.{all_below};
 ghost use Rattle.finite.specs.Filled.{list_below};
 ghost use Rattle.sample.specs.Bernstein.{bernstein, numerator, rounded};
 ghost use Rattle.sample.specs.Refusal.{max_steps};
-ghost use Rattle.sample.specs.Blend.{control_of, AtStep, Samplable, Addable, LightWeights, Blendable, ForCurve, Mean, blended, blended_twice, curve_of};
+ghost use Rattle.sample.specs.Blend.{control_of, AtStep, Addable, LightWeights, Blendable, ForCurve, Mean, blended, blended_twice, curve_of};
 
 use crate::model::{Coordinate, Curves, MarkedPoint, Point};
+use crate::patch::Patch;
 
 // The weights of place a.
 fn weights(n: usize, a: usize) -> [u32; 4]
@@ -29,15 +30,15 @@ fn divisor(n: usize) -> u32
     cube * cube
 }
 
-// One term more of a sum.
+// One term more of a sum. `line` has the same: it asks that nothing overflows, as no public function may.
 fn add_product(sum: i64, weight: u32, value: i64) -> i64
     requires { Addable sum weight value }
     ensures { result ≡ sum +ℤ pos weight *ℤ value }
 {
-    sum + weight as i64 * value
+    sum + i64::from(weight) * value
 }
 
-// Four values, each times its weight, added.
+// Four values, each times its weight, added. Two lists of four are read side by side: a zip says no more, and hides that there are four.
 fn blend(weights: [u32; 4], values: [i64; 4]) -> i64
     requires { Blendable weights values }
     ensures { result ≡ blended weights (λ i. get_or values i (pos 0)) }
@@ -47,64 +48,6 @@ fn blend(weights: [u32; 4], values: [i64; 4]) -> i64
         sum = add_product(sum, weights[i], values[i]);
     }
     sum
-}
-
-// Coordinate k of control point m.
-fn control(patch: &[i32], k: usize, m: usize) -> i64
-    requires { (length patch.now ≡ 48) × (k < 3) × (m < 16) }
-    ensures { result ≡ control_of patch.now k m }
-{
-    patch[3 * m + k] as i64
-}
-
-// The control values of coordinate k at one i, along v.
-fn column(patch: &[i32], k: usize, i: usize) -> [i64; 4]
-    requires { (length patch.now ≡ 48) × (k < 3) × (i < 4) }
-    ensures { result ≡ list_below (λ j. control_of patch.now k (i + 4 * j)) 4 }
-{
-    [
-        control(patch, k, i),
-        control(patch, k, i + 4),
-        control(patch, k, i + 8),
-        control(patch, k, i + 12),
-    ]
-}
-
-// The control values of coordinate k, blended along v: a curve along u that all samples with one b share.
-fn curve(patch: &[i32], k: usize, v: [u32; 4]) -> [i64; 4]
-    requires { ForCurve patch.now k v }
-    ensures { result ≡ list_below (λ i. blended v (λ j. control_of patch.now k (i + 4 * j))) 4 }
-{
-    [
-        blend(v, column(patch, k, 0)),
-        blend(v, column(patch, k, 1)),
-        blend(v, column(patch, k, 2)),
-        blend(v, column(patch, k, 3)),
-    ]
-}
-
-// The curves of all three coordinates at b.
-pub(crate) fn patch_curves(patch: &[i32], n: usize, b: usize) -> Curves
-    requires { Samplable patch.now n 0 b }
-    ensures { result ≡ record {
-      refusal = 0;
-      divisor = n ^ 6;
-      x = curve_of patch.now n b 0;
-      y = curve_of patch.now n b 1;
-      z = curve_of patch.now n b 2;
-    } }
-{
-    let v = weights(n, b);
-    let x = curve(patch, 0, v);
-    let y = curve(patch, 1, v);
-    let z = curve(patch, 2, v);
-    Curves {
-        refusal: 0,
-        divisor: divisor(n),
-        x,
-        y,
-        z,
-    }
 }
 
 // A sum of control values over the sum of their weights, rounded once: no further from 0 than a control value, so it fits.
@@ -119,38 +62,96 @@ fn rounded_quotient(sum: i64, divisor: u32) -> Coordinate
     }
 }
 
-// What coordinate k of the sample is divided from: blended along v, then along u.
-fn coordinate_sum(patch: &[i32], k: usize, u: [u32; 4], v: [u32; 4]) -> i64
-    requires { LightWeights u × ForCurve patch.now k v }
-    ensures { result ≡ blended_twice u v (control_of patch.now k) }
-{
-    blend(u, curve(patch, k, v))
-}
+impl Patch<'_> {
+    // Coordinate k of control point m.
+    fn control(self, k: usize, m: usize) -> i64
+        requires { (k < 3) × (m < 16) }
+        ensures { result ≡ control_of self.entry.numbers.now k m }
+    {
+        i64::from(self.numbers[3 * m + k])
+    }
 
-// The point of the patch at (a, b), exact where the division left nothing in any coordinate.
-pub(crate) fn point(patch: &[i32], n: usize, a: usize, b: usize) -> MarkedPoint
-    requires { Samplable patch.now n a b }
-    ensures { result ≡ record {
-      point = record {
-        x = rounded n a b (control_of patch.now 0);
-        y = rounded n a b (control_of patch.now 1);
-        z = rounded n a b (control_of patch.now 2);
-      };
-      exact = all_below (λ k. whole (numerator n a b (control_of patch.now k)) (n ^ 6)) 3;
-    } }
-{
-    let u = weights(n, a);
-    let v = weights(n, b);
-    let over = divisor(n);
-    let x = rounded_quotient(coordinate_sum(patch, 0, u, v), over);
-    let y = rounded_quotient(coordinate_sum(patch, 1, u, v), over);
-    let z = rounded_quotient(coordinate_sum(patch, 2, u, v), over);
-    MarkedPoint {
-        point: Point {
-            x: x.value,
-            y: y.value,
-            z: z.value,
-        },
-        exact: x.exact & y.exact & z.exact,
+    // The control values of coordinate k at one i, along v.
+    fn column(self, k: usize, i: usize) -> [i64; 4]
+        requires { (k < 3) × (i < 4) }
+        ensures { result ≡ list_below (λ j. control_of self.entry.numbers.now k (i + 4 * j)) 4 }
+    {
+        [
+            self.control(k, i),
+            self.control(k, i + 4),
+            self.control(k, i + 8),
+            self.control(k, i + 12),
+        ]
+    }
+
+    // The control values of coordinate k, blended along v: a curve along u that all samples with one b share.
+    fn curve(self, k: usize, v: [u32; 4]) -> [i64; 4]
+        requires { ForCurve k v }
+        ensures { result ≡ list_below (λ i. blended v (λ j. control_of self.entry.numbers.now k (i + 4 * j))) 4 }
+    {
+        [
+            blend(v, self.column(k, 0)),
+            blend(v, self.column(k, 1)),
+            blend(v, self.column(k, 2)),
+            blend(v, self.column(k, 3)),
+        ]
+    }
+
+    // The curves of all three coordinates at b.
+    pub(crate) fn curves(self, n: usize, b: usize) -> Curves
+        requires { AtStep n b }
+        ensures { result ≡ record {
+          divisor = n ^ 6;
+          x = curve_of self.entry.numbers.now n b 0;
+          y = curve_of self.entry.numbers.now n b 1;
+          z = curve_of self.entry.numbers.now n b 2;
+        } }
+    {
+        let v = weights(n, b);
+        let x = self.curve(0, v);
+        let y = self.curve(1, v);
+        let z = self.curve(2, v);
+        Curves {
+            divisor: divisor(n),
+            x,
+            y,
+            z,
+        }
+    }
+
+    // What coordinate k of the sample is divided from: blended along v, then along u.
+    fn coordinate_sum(self, k: usize, u: [u32; 4], v: [u32; 4]) -> i64
+        requires { LightWeights u × ForCurve k v }
+        ensures { result ≡ blended_twice u v (control_of self.entry.numbers.now k) }
+    {
+        blend(u, self.curve(k, v))
+    }
+
+    // The point of the patch at (a, b), exact where the division left nothing in any coordinate.
+    pub(crate) fn point(self, n: usize, a: usize, b: usize) -> MarkedPoint
+        requires { AtStep n a × AtStep n b }
+        ensures { result ≡ record {
+          point = record {
+            x = rounded n a b (control_of self.entry.numbers.now 0);
+            y = rounded n a b (control_of self.entry.numbers.now 1);
+            z = rounded n a b (control_of self.entry.numbers.now 2);
+          };
+          exact = all_below (λ k. whole (numerator n a b (control_of self.entry.numbers.now k)) (n ^ 6)) 3;
+        } }
+    {
+        let u = weights(n, a);
+        let v = weights(n, b);
+        let over = divisor(n);
+        let x = rounded_quotient(self.coordinate_sum(0, u, v), over);
+        let y = rounded_quotient(self.coordinate_sum(1, u, v), over);
+        let z = rounded_quotient(self.coordinate_sum(2, u, v), over);
+        MarkedPoint {
+            point: Point {
+                x: x.value,
+                y: y.value,
+                z: z.value,
+            },
+            exact: x.exact & y.exact & z.exact,
+        }
     }
 }

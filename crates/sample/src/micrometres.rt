@@ -7,7 +7,7 @@ use crate::model::{Micrometres, Point};
 fn over_256(n: i32) -> f64
     ensures { Over256 result n }
 {
-    n as f64 / 256.0
+    f64::from(n) / 256.0
 }
 
 // A sample in micrometres.

@@ -42,10 +42,10 @@ place_none n a b x y on hx hy =
     let s = place-on n a b on in
     rw (le-ltb n min_steps s.0, le-ltb max_steps n s.1, le-ltb n x hx, le-ltb n y hy)
 
-pub answered : {M : IndexedMesh} → WellFormed M → (d : List ℤ) (f n a b : ℕ) → 48 * M.faces ≤ length d → f < M.faces → place_off n a b ≡ false
+pub sample-answered : {M : IndexedMesh} → WellFormed M → (d : List ℤ) (f n a b : ℕ) → 48 * M.faces ≤ length d → f < M.faces → place_off n a b ≡ false
     → sample_answer (patches_after M d) f n a b ≡ result (point_at (patches_after M d) f n a b)
 unfolding sample_answer
-answered {M} acc d f n a b long l on = rw (face-none M d f long l, control-none acc d f l, on)
+sample-answered {M} acc d f n a b long l on = rw (face-none M d f long l, control-none acc d f l, on)
 
 pub marked-answered : {M : IndexedMesh} → WellFormed M → (d : List ℤ) (x : List ℕ) (f n a b : ℕ) → 48 * M.faces ≤ length d → 16 * M.faces ≤ length x
     → f < M.faces → place_off n a b ≡ false

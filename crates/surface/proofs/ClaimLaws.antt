@@ -31,13 +31,13 @@ use Rattle.symmetry.proofs.WellFormedMoves.{alike-well-formed}
 use Rattle.correspondence.proofs.PointMoves.{patch-moves}
 use Rattle.surface.specs.Renumbering.{Renumbering, Place, matching, on_side}
 use Rattle.surface.specs.Claim.{OnMesh, unrounded, Multiples, exact_sum, sample_point}
-use Rattle.surface.specs.declared.model.SamplePlace.{SamplePlace}
+use Rattle.sample.specs.declared.model.Place.{Place as SamplePlace}
 use Rattle.surface.proofs.FromRenumbering.{alike, face-begins, position-moves}
 use Rattle.surface.proofs.FaceSamples.{sample_from, Within, matching-within, side-within, sample-matching}
 use Rattle.surface.proofs.Seam.{twin_inside, seam}
 use Rattle.surface.proofs.Distance.{distance}
 use Rattle.surface.proofs.MarkLaws.{mark_from, same-marks, mark-matching, mark-written}
-use Rattle.surface.proofs.AnsweredLaws.{coordinate-written, place_none, answered, marked-answered}
+use Rattle.surface.proofs.AnsweredLaws.{coordinate-written, place_none, sample-answered, marked-answered}
 
 abbrev pub sample_on : IndexedMesh → List ℤ → ℕ → ℕ → Place → Answer Point
 sample_on M d n f p = sample_answer (patches_after M d) f n p.a p.b
@@ -60,7 +60,7 @@ same_answer M M' n f f' p p' h = rw (h 0 (omega arith), h 1 (omega arith), h 2 (
 pub sampled-from : {M : IndexedMesh} → WellFormed M → (d : List ℤ) → 48 * M.faces ≤ length d → (n f : ℕ) (p : Place)
     → f < M.faces → place_off n p.a p.b ≡ false → sample_on M d n f p ≡ answer_from M n f p
 sampled-from {M} a d long n f p l on =
-    answered a d f n p.a p.b long l on
+    sample-answered a d f n p.a p.b long l on
     ∙ rw (
       coordinate-written M d f n p.a p.b 0 l (omega arith),
       coordinate-written M d f n p.a p.b 1 l (omega arith),

@@ -14,7 +14,7 @@ use Rattle.control.specs.Control.{exactly}
 use Rattle.patch.specs.Patch.{patches_after, point_exact, marks_after}
 use Rattle.patch.proofs.WrittenLaws.{written_at, mark-at, indicator-set}
 use Rattle.surface.specs.Claim.{unrounded, Multiples, exact_sum}
-use Rattle.surface.specs.declared.model.SamplePlace.{SamplePlace}
+use Rattle.sample.specs.declared.model.Place.{Place as SamplePlace}
 
 module _ (M : IndexedMesh) (d : List ℤ) (x : List ℕ) (n : ℕ) (q : SamplePlace) (face : q.face < M.faces)
     (set : sample_exact (patches_after M d) (marks_after M x) q.face n q.a q.b ≡ true) where

@@ -10,7 +10,7 @@ use lib.IntN.{ℤ}
 use lib.ListN.{length}
 use borrow.Author.Tests.{ltb-false}
 use Rattle.finite.proofs.AnyAll.{or-false}
-use Rattle.answer.specs.Table.{Answer, result}
+use Rattle.answer.specs.Table.{Answer, result, answered as answer_of}
 use Rattle.answer.proofs.TableLaws.{none-append}
 use Rattle.mesh.specs.IndexedMesh.{IndexedMesh, corners}
 use Rattle.mesh.specs.Refusal.{early_rows, late_rows}
@@ -18,8 +18,7 @@ use Rattle.mesh.specs.WellFormed.{WellFormed}
 use Rattle.mesh.specs.Answer.{counts_of, mesh_refusal}
 use Rattle.mesh.proofs.AcceptedLaws.{accepted-early, accepted-late, accepted-well-formed}
 use Rattle.sample.specs.Bernstein.{coordinate_at}
-use Rattle.sample.specs.Answer.{sampled}
-use Rattle.sample.specs.Marked.{sample_exact, marked}
+use Rattle.sample.specs.Marked.{sample_exact}
 use Rattle.sample.specs.declared.model.Point.{Point}
 use Rattle.patch.specs.Patch.{patches_after, marks_after}
 use Rattle.patch.specs.Answer.{Lent, patches_short, marks_short, lists_short, patch_rows, patch_answer, patch_list, marks_list, Patched}
@@ -27,17 +26,17 @@ use Rattle.symmetry.proofs.WellFormedMoves.{alike-well-formed, alike-counts}
 use Rattle.surface.specs.Claim.{OnMesh, coordinate_of, sample_coordinate, sample_point, is_exact, Claim}
 use Rattle.surface.specs.Renumbering.{place}
 use Rattle.surface.specs.Witness.{sample_at, marked_at, Asked, asked, Evaluated, Witnessed}
-use Rattle.surface.specs.declared.model.SamplePlace.{SamplePlace}
+use Rattle.sample.specs.declared.model.Place.{Place as SamplePlace}
 use Rattle.surface.specs.declared.model.Evaluation.{Evaluation}
 use Rattle.surface.specs.declared.model.Witness.{Witness}
 use Rattle.surface.proofs.FromRenumbering.{alike}
 use Rattle.surface.proofs.Exactness.{exact-on}
-use Rattle.surface.proofs.AnsweredLaws.{answered, marked-answered}
+use Rattle.surface.proofs.AnsweredLaws.{sample-answered, marked-answered}
 use Rattle.surface.proofs.ClaimLaws.{answer_from, marked_answer_from, sampled-from, marked_from, distance-on, seam-on, renumbered-on, marks-renumbered-on}
 
 -- what the three calls gave, the sample calls on the lists that the patch call left
 pub evaluated : {n : ℕ} {a : Asked} {r : Evaluation} {b : Lent} → Patched a.mesh a.lists r.mesh b
-    → sampled r.sample ≡ sample_at b.patches n a.place → marked r.marked ≡ marked_at b.patches b.marks n a.place → Evaluated n a r b
+    → answer_of r.sample ≡ sample_at b.patches n a.place → answer_of r.marked ≡ marked_at b.patches b.marks n a.place → Evaluated n a r b
 evaluated {n} {a} patched sample marks = record {
   patched = patched;
   sample-is = sample ∙ ap (λ (t : List ℤ). sample_at t n a.place) patched.patches-are;
@@ -97,7 +96,7 @@ module _ {M : IndexedMesh} (d : Lent) (a : WellFormed M) (long : lists_short M d
 
 module _ {M M' : IndexedMesh} {d d' b b' : Lent} {n : ℕ} {q q' : SamplePlace} (o : SamplePlace) (w : Witness)
     (first : Evaluated n (asked M d q) w.first b) (second : Evaluated n (asked M' d' q') w.second b')
-    (other-is : sampled w.other ≡ sample_at (patch_list M d) n o) where
+    (other-is : answer_of w.other ≡ sample_at (patch_list M d) n o) where
   module _ (a : WellFormed M) (long : lists_short M d ≡ false) where
     abbrev after : List ℤ
     after = patches_after M d.patches
@@ -109,20 +108,20 @@ module _ {M M' : IndexedMesh} {d d' b b' : Lent} {n : ℕ} {q q' : SamplePlace} 
     abbrev expected : ℕ → ℤ
     expected = coordinate_at after q.face n q.a q.b
 
-    here : sampled w.first.sample ≡ sample_at after n q
+    here : answer_of w.first.sample ≡ sample_at after n q
     here = first.sample-is ∙ sample-on d a long n q
 
-    gave : OnMesh M n q → sampled w.first.sample ≡ result (sample_point expected)
-    gave on = here ∙ answered a d.patches q.face n q.a q.b (patches-long d a long) on.0 on.1
+    gave : OnMesh M n q → answer_of w.first.sample ≡ result (sample_point expected)
+    gave on = here ∙ sample-answered a d.patches q.face n q.a q.b (patches-long d a long) on.0 on.1
 
     gave-number : OnMesh M n q → (k : ℕ) → k < 3 → sample_coordinate w.first.sample k ≡ expected k
     gave-number on k h = ap (λ (t : Answer Point). coordinate_of t k) (gave on) ∙ coordinate-of expected k h
 
-    here-marked : marked w.first.marked ≡ marked_at after marks n q
+    here-marked : answer_of w.first.marked ≡ marked_at after marks n q
     here-marked = first.marked-is ∙ marked-on d a long n q
 
     gave-marked : OnMesh M n q
-        → marked w.first.marked ≡ result (record { point = sample_point expected; exact = sample_exact after marks q.face n q.a q.b })
+        → answer_of w.first.marked ≡ result (record { point = sample_point expected; exact = sample_exact after marks q.face n q.a q.b })
     gave-marked on =
         here-marked
         ∙ marked-answered a d.patches d.marks q.face n q.a q.b (patches-long d a long) (marks-long d a long) on.0 on.1
@@ -158,7 +157,7 @@ module _ {M M' : IndexedMesh} {d d' b b' : Lent} {n : ℕ} {q q' : SamplePlace} 
 
 -- what `witness` gave: the calls for both meshes, and one more sample of the list that the first patch call left
 pub witnessed : {n : ℕ} {a a' : Asked} {o : SamplePlace} {w : Witness} {b b' : Lent}
-    → Evaluated n a w.first b → sampled w.other ≡ sample_at b.patches n o → Evaluated n a' w.second b' → Witnessed n a o a' w b b'
+    → Evaluated n a w.first b → answer_of w.other ≡ sample_at b.patches n o → Evaluated n a' w.second b' → Witnessed n a o a' w b b'
 witnessed {n} {o = o} {w = w} first other second =
     let other-is = other ∙ ap (λ (t : List ℤ). sample_at t n o) first.patched.patches-are in
     record { first = first; other-is = other-is; second = second; claim = λ a long. claim o w first second other-is (accepted-well-formed a) long }

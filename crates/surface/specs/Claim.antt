@@ -11,24 +11,21 @@
 --   place_on n c t         place t of half-edge c, as the sample call is given it
 --   place_matching r n q   the place of the renumbered mesh that matches q
 --   Claim ..              what the answers w for the places q and o of M, and q' of M', show of each other
-use Rattle.std.specs.Prelude.{◌≡◌, Bool, true, false, ℕ, zero, suc, ◌-◌, ◌*◌, ◌/◌, ◌%◌, ◌^◌, ◌≤◌, ◌<◌, ℤ, pos, nat_abs, ◌-ℤ◌, ◌*ℤ◌}
-use Rattle.answer.specs.Table.{Answer, result, refusal}
+use Rattle.std.specs.Prelude.{◌≡◌, Bool, true, false, ℕ, zero, suc, ◌-◌, ◌*◌, ◌/◌, ◌%◌, ◌^◌, ◌≤◌, ◌<◌, ℤ, pos, nat_abs, ◌-ℤ◌, ◌*ℤ◌, Result}
+use Rattle.answer.specs.declared.refusal.Refusal.{Refusal}
+use Rattle.answer.specs.Table.{Answer, result, refusal, answered as answer_of}
 use Rattle.mesh.specs.HalfEdge.{twin, boundary}
 use Rattle.mesh.specs.IndexedMesh.{IndexedMesh, corners, at}
-use Rattle.mesh.specs.Answer.{checked, counts_of}
+use Rattle.mesh.specs.Answer.{counts_of}
 use Rattle.sample.specs.Bernstein.{numerator}
 use Rattle.sample.specs.Refusal.{place_off}
-use Rattle.sample.specs.Answer.{sampled}
-use Rattle.sample.specs.Marked.{marked}
 use Rattle.sample.specs.declared.model.Point.{Point}
 use Rattle.sample.specs.declared.model.MarkedPoint.{MarkedPoint}
-use Rattle.sample.specs.declared.model.Marked.{Marked}
-use Rattle.sample.specs.declared.model.Sampled.{Sampled}
+use Rattle.sample.specs.declared.model.Place.{Place as SamplePlace}
 use Rattle.mask.specs.Mask.{Fraction}
 use Rattle.patch.specs.Patch.{patch_point, view}
 use Rattle.patch.specs.Answer.{Lent, lists_short}
 use Rattle.surface.specs.Renumbering.{Renumbering, Place, place, matching, on_side}
-use Rattle.surface.specs.declared.model.SamplePlace.{SamplePlace}
 use Rattle.surface.specs.declared.model.Witness.{Witness}
 
 abbrev pub OnMesh : IndexedMesh → ℕ → SamplePlace → Type 0
@@ -49,8 +46,8 @@ coordinate_of (result p) (suc zero) = p.y
 coordinate_of (result p) (suc (suc k)) = p.z
 coordinate_of (refusal k) j = pos 0
 
-abbrev pub sample_coordinate : Sampled → ℕ → ℤ
-sample_coordinate s k = coordinate_of (sampled s) k
+abbrev pub sample_coordinate : Result Point Refusal → ℕ → ℤ
+sample_coordinate s k = coordinate_of (answer_of s) k
 
 abbrev pub sample_point : (ℕ → ℤ) → Point
 sample_point g = record { x = g 0; y = g 1; z = g 2 }
@@ -59,8 +56,8 @@ abbrev pub is_exact : Answer MarkedPoint → Bool
 is_exact (result p) = p.exact
 is_exact (refusal k) = false
 
-abbrev pub mark : Marked → Bool
-mark s = is_exact (marked s)
+abbrev pub mark : Result MarkedPoint Refusal → Bool
+mark s = is_exact (answer_of s)
 
 -- a place (a, b) of face f, as the sample call is given it
 abbrev pub place_of : ℕ → Place → SamplePlace
@@ -74,15 +71,15 @@ place_matching r n q = place_of (r.face_map.to q.face) (matching n (r.start q.fa
 
 pub record Claim (M M' : IndexedMesh) (d' : Lent) (n : ℕ) (q o q' : SamplePlace) (w : Witness) : Type 0 where
   -- the patch call, given lists with room enough, accepts the mesh and gives its counts (rule C3),
-  pub taken : checked w.first.mesh ≡ result (counts_of M)
+  pub taken : answer_of w.first.mesh ≡ result (counts_of M)
   -- and the sample call then refuses no place of it (rule C3)
-  pub answered : OnMesh M n q → sampled w.first.sample ≡ result (sample_point (sample_coordinate w.first.sample))
+  pub answered : OnMesh M n q → answer_of w.first.sample ≡ result (sample_point (sample_coordinate w.first.sample))
   -- each sample within one unit of the exact surface, in each coordinate: |sample - exact| ≤ 1, both sides times N^6 and L (rule C5)
   pub distance : (k L : ℕ) (x : ℕ → ℕ) → OnMesh M n q → k < 3 → Multiples M k q.face L x
       → nat_abs (sample_coordinate w.first.sample k *ℤ pos (n ^ 6 * L) -ℤ exact_sum M k n q x) ≤ n ^ 6 * L
   -- the marked sample call refuses no place either: it gives the same point, and a mark (rule C12);
   pub marked-answered : OnMesh M n q
-      → marked w.first.marked ≡ result (record { point = sample_point (sample_coordinate w.first.sample); exact = mark w.first.marked })
+      → answer_of w.first.marked ≡ result (record { point = sample_point (sample_coordinate w.first.sample); exact = mark w.first.marked })
   -- a marked sample is the exact surface's own: sample = exact, both sides times N^6 and L (rule C12)
   pub exactness : (k L : ℕ) (x : ℕ → ℕ) → OnMesh M n q → k < 3 → Multiples M k q.face L x
       → mark w.first.marked ≡ true
@@ -91,14 +88,14 @@ pub record Claim (M M' : IndexedMesh) (d' : Lent) (n : ℕ) (q o q' : SamplePlac
   pub seam : (c t : ℕ) → c < corners M → boundary (at M) (corners M) c ≡ false → place_off n t 0 ≡ false
       → q ≡ place_on n c t
       → o ≡ place_on n (twin (at M) (corners M) c) (n - t)
-      → sampled w.first.sample ≡ sampled w.other
+      → answer_of w.first.sample ≡ answer_of w.other
   -- a renumbering M' is accepted as well, with the same four counts (rule C10),
-  pub counted : Renumbering M M' → lists_short M' d' ≡ false → checked w.first.mesh ≡ checked w.second.mesh
+  pub counted : Renumbering M M' → lists_short M' d' ≡ false → answer_of w.first.mesh ≡ answer_of w.second.mesh
   -- and has the same samples at matching places (rule C10)
   pub renumbered : (r : Renumbering M M') → lists_short M' d' ≡ false → OnMesh M n q
       → q' ≡ place_matching r n q
-      → sampled w.first.sample ≡ sampled w.second.sample
+      → answer_of w.first.sample ≡ answer_of w.second.sample
   -- with the same marks (rule C12)
   pub marks-renumbered : (r : Renumbering M M') → lists_short M' d' ≡ false → OnMesh M n q
       → q' ≡ place_matching r n q
-      → marked w.first.marked ≡ marked w.second.marked
+      → answer_of w.first.marked ≡ answer_of w.second.marked

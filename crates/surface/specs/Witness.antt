@@ -8,16 +8,16 @@
 --   Witnessed n a o a' w b b'   w holds the answers for a, with one more sample of the first list at the place o, and for a'; b and b' are the lists
 --                     afterwards; and of these answers the claim holds
 use Rattle.std.specs.Prelude.{◌≡◌, false, List, ℕ, ℤ}
-use Rattle.answer.specs.Table.{Answer}
+use Rattle.answer.specs.Table.{Answer, answered}
 use Rattle.mesh.specs.IndexedMesh.{IndexedMesh}
 use Rattle.mesh.specs.Refusal.{Accepted}
-use Rattle.sample.specs.Answer.{sampled, sample_answer}
-use Rattle.sample.specs.Marked.{marked, marked_answer}
+use Rattle.sample.specs.Answer.{sample_answer}
+use Rattle.sample.specs.Marked.{marked_answer}
 use Rattle.sample.specs.declared.model.Point.{Point}
 use Rattle.sample.specs.declared.model.MarkedPoint.{MarkedPoint}
+use Rattle.sample.specs.declared.model.Place.{Place as SamplePlace}
 use Rattle.patch.specs.Answer.{Lent, lists_short, patch_list, marks_list, Patched}
 use Rattle.surface.specs.Claim.{Claim}
-use Rattle.surface.specs.declared.model.SamplePlace.{SamplePlace}
 use Rattle.surface.specs.declared.model.Evaluation.{Evaluation}
 use Rattle.surface.specs.declared.model.Witness.{Witness}
 
@@ -40,11 +40,11 @@ LongEnough a = lists_short a.mesh a.lists ≡ false
 
 pub record Evaluated (n : ℕ) (a : Asked) (r : Evaluation) (b : Lent) : Type 0 where
   pub patched : Patched a.mesh a.lists r.mesh b
-  pub sample-is : sampled r.sample ≡ sample_at (patch_list a.mesh a.lists) n a.place
-  pub marked-is : marked r.marked ≡ marked_at (patch_list a.mesh a.lists) (marks_list a.mesh a.lists) n a.place
+  pub sample-is : answered r.sample ≡ sample_at (patch_list a.mesh a.lists) n a.place
+  pub marked-is : answered r.marked ≡ marked_at (patch_list a.mesh a.lists) (marks_list a.mesh a.lists) n a.place
 
 pub record Witnessed (n : ℕ) (a : Asked) (o : SamplePlace) (a' : Asked) (w : Witness) (b b' : Lent) : Type 0 where
   pub first : Evaluated n a w.first b
-  pub other-is : sampled w.other ≡ sample_at (patch_list a.mesh a.lists) n o
+  pub other-is : answered w.other ≡ sample_at (patch_list a.mesh a.lists) n o
   pub second : Evaluated n a' w.second b'
   pub claim : Accepted a.mesh → LongEnough a → Claim a.mesh a'.mesh a'.lists n a.place o a'.place w

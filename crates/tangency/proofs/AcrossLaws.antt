@@ -81,7 +81,8 @@ module _ (S : View) (k : Corners S.shape.n) (simple : Simple S.shape.at S.shape.
   -- ---- one cosine term
   middle-twin : middle_vector S d ≡ neg_ℤ (middle_vector S c)
   unfolding middle_vector
-  middle-twin = ap₂ triple_difference (shared 2 (omega arith)) (shared 1 (omega arith)) ∙ sym (triple-difference-back (control_value S c 2) (control_value S c 1))
+  middle-twin =
+      ap₂ triple_difference (shared 2 (omega arith)) (shared 1 (omega arith)) ∙ sym (triple-difference-back (control_value S c 2) (control_value S c 1))
 
   end-twin : end_vector S d ≡ neg_ℤ (corner_vector S c)
   unfolding end_vector

@@ -5,7 +5,8 @@ use mathlib.Core.List.{List}
 use Prim.Native.Nat.{ℕ, ◌+◌, ◌/◌, ◌%◌, ◌<◌}
 use lib.IntN.{ℤ}
 use lib.ListN.{length}
-use Rattle.answer.specs.declared.model.Outcome.{Outcome}
+use Rattle.std.specs.Prelude.{Result}
+use Rattle.answer.specs.declared.refusal.Refusal.{Refusal}
 use Rattle.mesh.specs.HalfEdge.{twin, boundary}
 use Rattle.mesh.specs.IndexedMesh.{IndexedMesh, corners, at}
 use Rattle.mesh.specs.WellFormed.{WellFormed}
@@ -26,7 +27,7 @@ use Rattle.tangency.proofs.GivenLaws.{nothing-met, written-closed, written-list}
 use Rattle.tangency.proofs.RenumberedLaws.{open-moves, renumbered-lists}
 
 -- ---- across an edge
-module _ {M : IndexedMesh} {g h : ℕ} {d e d' e' : List ℤ} {r s : Outcome} (a : WellFormed M) (first : TangentsGiven M g d r d')
+module _ {M : IndexedMesh} {g h : ℕ} {d e d' e' : List ℤ} {r s : Result Unit Refusal} (a : WellFormed M) (first : TangentsGiven M g d r d')
     (other : TangentsGiven M h e s e') (c : ℕ) (edge : Edge M c g h) (one : Written r) (two : Written s) where
   abbrev b : ℕ
   b = twin (at M) (corners M) c
@@ -58,7 +59,7 @@ module _ {M : IndexedMesh} {g h : ℕ} {d e d' e' : List ℤ} {r s : Outcome} (a
       subst₂ (Across M b) (sym there) (ap (λ (c : ℕ). tangent_list M (c / 4)) back ∙ sym here) (across-lists a b inside inner)
 
 -- ---- of a renumbered mesh
-module _ {M M' : IndexedMesh} {g g' : ℕ} {d x d' x' : List ℤ} {r r' : Outcome} (a : WellFormed M) (first : TangentsGiven M g d r d')
+module _ {M M' : IndexedMesh} {g g' : ℕ} {d x d' x' : List ℤ} {r r' : Result Unit Refusal} (a : WellFormed M) (first : TangentsGiven M g d r d')
     (second : TangentsGiven M' g' x r' x') (m : Renumbering M M') (l : g < M.faces) (at-face : g' ≡ m.face_map.to g) (one : Written r)
     (long : length x ≡ 72) where
   closed : face_open M g ≡ false

@@ -9,18 +9,19 @@ use native.Mathlib.Omega.{arith}
 use lib.IntN.{ℤ, pos}
 use lib.ListN.{replicate}
 use Rattle.finite.specs.Fold.{fold_below}
-use Rattle.answer.specs.Table.{outcome_of}
-use Rattle.answer.proofs.TableLaws.{outcome-of}
+use Rattle.answer.specs.Table.{result_of}
+use Rattle.answer.proofs.TableLaws.{result-of}
 use Rattle.limits.specs.Range.{sizes_off}
 use Rattle.mesh.specs.IndexedMesh.{IndexedMesh, indexed}
 use Rattle.mesh.specs.HalfEdge.{is_twin, twin, boundary, same_way, doubled}
 use Rattle.mesh.specs.Fan.{valence, on_boundary, around, iterate, fan_by, fan}
-use Rattle.mesh.specs.Refusal.{coordinate_off, tag_off, vertex_off, vertex_twice, half_edge_twice, vertex_unused, fan_broken, valence_off, inner_tagged, Accepted}
+use Rattle.mesh.specs.Refusal.{coordinate_off, tag_off, vertex_off, vertex_twice, half_edge_twice}
+use Rattle.mesh.specs.Refusal.{vertex_unused, fan_broken, valence_off, inner_tagged, Accepted}
 use Rattle.tangent.specs.Answer.{face_open, tangent_answer, tangents_after, TangentsGiven}
 use Rattle.tangency.specs.Claim.{Edge}
 
-pub tangents-met : (M : IndexedMesh) (g : ℕ) (d : List ℤ) → TangentsGiven M g d (outcome_of (tangent_answer M g d)) (tangents_after M g d)
-tangents-met M g d = record { answer-is = outcome-of (tangent_answer M g d); list-is = refl }
+pub tangents-met : (M : IndexedMesh) (g : ℕ) (d : List ℤ) → TangentsGiven M g d (result_of (tangent_answer M g d)) (tangents_after M g d)
+tangents-met M g d = record { answer-is = result-of (tangent_answer M g d); list-is = refl }
 
 -- ---- the cube, with all its vertices at the origin
 abbrev cube : IndexedMesh

@@ -9,7 +9,8 @@ use lib.ListN.{length}
 use borrow.Author.Tests.{lt-leb, eq-eqb}
 use Rattle.finite.proofs.AnyAll.{or-false}
 use Rattle.answer.proofs.TableLaws.{none-met, none-append, append-none, result-none}
-use Rattle.answer.specs.declared.model.Outcome.{Outcome}
+use Rattle.std.specs.Prelude.{Result}
+use Rattle.answer.specs.declared.refusal.Refusal.{Refusal}
 use Rattle.mesh.specs.IndexedMesh.{IndexedMesh}
 use Rattle.mesh.specs.Refusal.{early_rows, late_rows}
 use Rattle.mesh.specs.WellFormed.{WellFormed}
@@ -38,7 +39,7 @@ refusal-closed M g d e =
     (or-false (face_open M g) _ (none-met (not_given M g d) 18 none given).0).0
 
 -- ---- a call that wrote the tangents
-module _ {M : IndexedMesh} {g : ℕ} {d d' : List ℤ} {r : Outcome} (gave : TangentsGiven M g d r d') (written : Written r) where
+module _ {M : IndexedMesh} {g : ℕ} {d d' : List ℤ} {r : Result Unit Refusal} (gave : TangentsGiven M g d r d') (written : Written r) where
   written-met : tangent_refusal M g d ≡ none
   written-met = (result-none (tangent_refusal M g d) (sym written ∙ gave.answer-is)).0
 

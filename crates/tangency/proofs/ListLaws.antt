@@ -18,7 +18,8 @@ use Rattle.mesh.proofs.CornerLaws.{turn-first}
 use Rattle.mesh.proofs.AcceptedLaws.{accepted-corners}
 use Rattle.patch.specs.Patch.{view}
 use Rattle.tangent.specs.Tangent as table
-use Rattle.tangent.specs.Tangent.{VectorKind, start, middle, end, inner, start_in, end_in, VectorRow, row_of, signed, vector, tangent, tangent_number, tangent_list}
+use Rattle.tangent.specs.Tangent.{VectorKind, start, middle, end, inner, start_in, end_in}
+use Rattle.tangent.specs.Tangent.{VectorRow, row_of, signed, vector, tangent, tangent_number, tangent_list}
 use Rattle.tangency.specs.Claim.{vector_number, vector_along, Across}
 use Rattle.tangency.proofs.AcrossLaws.{terms-same, across-edge}
 
@@ -47,7 +48,8 @@ signed-signed true z = neg_ℤ-neg_ℤ z
 signed-signed false z = refl
 
 -- ---- a vector of the list, along its side
-pub along-is : (M : IndexedMesh) (g : ℕ) (q : VectorKind) (s k : ℕ) → s < 4 → k < 3 → vector_along (tangent_list M g) q s k ≡ vector (view M k) (turn s (4 * g)) q
+pub along-is : (M : IndexedMesh) (g : ℕ) (q : VectorKind) (s k : ℕ) → s < 4 → k < 3
+    → vector_along (tangent_list M g) q s k ≡ vector (view M k) (turn s (4 * g)) q
 unfolding tangent_number tangent
 along-is M g q s k l h =
     let m : ℕ = vector_number q s in

@@ -11,9 +11,9 @@
 --   Written r          the call wrote the tangents
 --   Edge M c g h       half-edge c is of face g and its twin of face h
 --   TangentClaim       the claim, of whatever the tangent call hands back: its hypotheses are the record that the call promises (`tangent-claim`)
-use Rattle.std.specs.Prelude.{◌≡◌, false, List, [], ◌∷◌, ℕ, ◌+◌, ◌*◌, ◌/◌, ◌%◌, ◌≤◌, ◌<◌, ℤ, pos, nat_abs, ◌+ℤ◌, ◌-ℤ◌, ◌*ℤ◌, length, get_or}
-use Rattle.answer.specs.Table.{result, outcome}
-use Rattle.answer.specs.declared.model.Outcome.{Outcome}
+use Rattle.std.specs.Prelude.{◌≡◌, false, List, [], ◌∷◌, ℕ, ◌+◌, ◌*◌, ◌/◌, ◌%◌, ◌≤◌, ◌<◌, ℤ, pos, nat_abs, ◌+ℤ◌, ◌-ℤ◌, ◌*ℤ◌, length, get_or, Result}
+use Rattle.answer.specs.Table.{result, answered}
+use Rattle.answer.specs.declared.refusal.Refusal.{Refusal}
 use Rattle.corner.specs.Corner.{next}
 use Rattle.mesh.specs.HalfEdge.{twin, boundary}
 use Rattle.mesh.specs.Fan.{valence}
@@ -51,8 +51,8 @@ pub record Across (M : IndexedMesh) (c : ℕ) (r r' : List ℤ) : Type 0 where
       → nat_abs (pos corrected_divisor *ℤ (vector_along r start_in (c % 4) k +ℤ vector_along r' end_in (twin (at M) (corners M) c % 4) k)
       -ℤ pos 2 *ℤ edge_term M r c k) ≤ 7 * corrected_divisor
 
-abbrev pub Written : Outcome → Type 0
-Written r = outcome r ≡ result tt
+abbrev pub Written : Result Unit Refusal → Type 0
+Written r = answered r ≡ result tt
 
 pub record Edge (M : IndexedMesh) (c g h : ℕ) : Type 0 where
   pub below : c < corners M
@@ -62,13 +62,15 @@ pub record Edge (M : IndexedMesh) (c g h : ℕ) : Type 0 where
 
 pub record TangentClaim : Type 0 where
   -- a face with no corner at a boundary vertex gets its tangents, on a list of 72 places (rule D9)
-  pub given : {M : IndexedMesh} {g : ℕ} {d d' : List ℤ} {r : Outcome} → Accepted M → TangentsGiven M g d r d'
+  pub given : {M : IndexedMesh} {g : ℕ} {d d' : List ℤ} {r : Result Unit Refusal} → Accepted M → TangentsGiven M g d r d'
       → g < M.faces → face_open M g ≡ false → length d ≡ 72 → Written r
   -- across each edge of which both faces have tangents, near its start and near its end (rule D10)
-  pub across : {M : IndexedMesh} {g h : ℕ} {d d' e e' : List ℤ} {r s : Outcome} → Accepted M → TangentsGiven M g d r d' → TangentsGiven M h e s e'
+  pub across : {M : IndexedMesh} {g h : ℕ} {d d' e e' : List ℤ} {r s : Result Unit Refusal} → Accepted M
+      → TangentsGiven M g d r d' → TangentsGiven M h e s e'
       → (c : ℕ) → Edge M c g h → Written r → Written s
       → Across M c d' e' × Across M (twin (at M) (corners M) c) e' d'
   -- a renumbered face gets its tangents as well, and they are those of the face, each on the side that it was on (rule D11)
-  pub renumbered : {M M' : IndexedMesh} {g g' : ℕ} {d d' x x' : List ℤ} {r r' : Outcome} → Accepted M → TangentsGiven M g d r d' → TangentsGiven M' g' x r' x'
+  pub renumbered : {M M' : IndexedMesh} {g g' : ℕ} {d d' x x' : List ℤ} {r r' : Result Unit Refusal} → Accepted M
+      → TangentsGiven M g d r d' → TangentsGiven M' g' x r' x'
       → (m : Renumbering M M') → g < M.faces → g' ≡ m.face_map.to g → Written r → length x ≡ 72
       → Written r' × ((q : VectorKind) (s k : ℕ) → s < 4 → k < 3 → vector_along x' q s k ≡ vector_along d' q ((m.start g + s) % 4) k)

@@ -8,13 +8,14 @@ use native.Mathlib.Omega.{arith}
 use lib.Dec.{eqb, leb}
 use lib.IntN.{ℤ}
 use lib.ListN.{length, replicate, length-replicate}
-use borrow.Author.Tests.{le-ltb, leb-false, eqb-true, not-false}
-use Rattle.finite.specs.Filled.{filled}
-use Rattle.answer.specs.Table.{row, first_met, result, refusal, answer_by, written_by, refusal_of, outcome}
-use Rattle.answer.specs.declared.model.Outcome.{Outcome}
-use Rattle.answer.proofs.TableLaws.{skipped, none-met, append-none, result-none, refusal-met, refusal-some}
+use borrow.Author.Tests.{le-ltb, leb-false}
+use Rattle.std.specs.Prelude.{Result, Ok, Err}
+use Rattle.answer.specs.Number.{number}
+use Rattle.answer.specs.Table.{row, first_met, result, refusal, answer_by, written_by, refused}
+use Rattle.answer.specs.declared.refusal.Refusal.{Refusal}
+use Rattle.answer.proofs.TableLaws.{skipped, none-met, append-none, result-none, refusal-met}
 use Rattle.finite.proofs.AnyAll.{or-false}
-use Rattle.finite.proofs.FilledLaws.{length-filled, filled_at, filled-ext, filled-whole}
+use Rattle.finite.proofs.FilledLaws.{length-filled, filled_at, list_below-ext}
 use Rattle.limits.specs.Limits.{max_faces}
 use Rattle.limits.specs.declared.model.Mesh.{Mesh}
 use Rattle.mesh.specs.HalfEdge.{twin}
@@ -25,9 +26,9 @@ use Rattle.mesh.specs.Answer.{counts_of, mesh_refusal, lent_rows, check_answer, 
 use Rattle.mesh.proofs.AcceptedLaws.{accepted-from}
 use Rattle.mesh.proofs.SizeLaws.{mesh-sizes-false}
 use Rattle.mesh.proofs.PhaseLaws.{refusal-alike, refusal-split, twins-accepted}
-use Rattle.tangent.specs.Tangent.{tangent_number, tangent_list}
+use Rattle.tangent.specs.Tangent.{tangent_list}
 use Rattle.tangent.specs.Answer.{face_missing, face_open, not_given, tangent_rows, tangent_refusal, TangentsGiven}
-use Rattle.tangent.specs.Lists.{Fanned, open_in, number_of}
+use Rattle.tangent.specs.Lists.{Fanned, open_in, numbers_from}
 use Rattle.tangent.proofs.FillLaws.{number_is}
 
 -- ---- the twins of the call's own, which have room for every mesh whose sizes are in their ranges
@@ -45,9 +46,9 @@ module _ (M : IndexedMesh) where
 
   module _ (g : ℕ) (d : List ℤ) where
     -- ---- a refusal that is met is the answer, and the list is as it was
-    pub refused : {k : ℕ} → tangent_refusal M g d ≡ some k → (r : Outcome) → outcome r ≡ refusal k → TangentsGiven M g d r d
-    refused met r e = record {
-      answer-is = e ∙ ap (λ (m : Option ℕ). answer_by m tt) (sym met);
+    pub stopped : (e : Refusal) → tangent_refusal M g d ≡ some (number e) → TangentsGiven M g d (Err e) d
+    stopped e met = record {
+      answer-is = ap (λ (m : Option ℕ). answer_by m tt) (sym met);
       list-is = ap (λ (m : Option ℕ). written_by m d (tangent_list M g)) (sym met);
     }
 
@@ -97,16 +98,17 @@ module _ (M : IndexedMesh) where
       open-same = rw formed.sized.indices-are
 
       -- r is what the call found of its own
-      module _ (r : ℕ) (own : first_met (row (leb M.faces g) 12 ∷ (row (open_in M.indices g || not (eqb (length d) 72)) 18 ∷ [])) ≡ refusal_of r) where
-        own_is : tangent_refusal M g d ≡ refusal_of r
+      module _ {A : Type 0} (r : Result A Refusal)
+          (own : first_met (row (leb M.faces g) 12 ∷ (row (open_in M.indices g || not (eqb (length d) 72)) 18 ∷ [])) ≡ refused r) where
+        own_is : tangent_refusal M g d ≡ refused r
         own_is = passed ∙ rw open-same at own
 
-        pub own-refused : (r ≡ 0 → ⊥) → tangent_refusal M g d ≡ some r
-        own-refused n = own_is ∙ refusal-some r n
+        pub own-refused : (e : Refusal) → r ≡ Err e → tangent_refusal M g d ≡ some (number e)
+        own-refused e n = own_is ∙ ap refused n
 
-        module _ (n : r ≡ 0) where
+        module _ (a : A) (n : r ≡ Ok a) where
           unmet : tangent_refusal M g d ≡ none
-          unmet = own_is ∙ ap refusal_of n
+          unmet = own_is ∙ ap refused n
 
           rows : (face_missing M g ≡ false) × (not_given M g d ≡ false)
           rows =
@@ -119,14 +121,9 @@ module _ (M : IndexedMesh) where
           pub face-closed : face_open M g ≡ false
           face-closed = (or-false (face_open M g) (not (eqb (length d) 72)) rows.1).0
 
-          pub list-long : length d ≡ 72
-          list-long = eqb-true (length d) 72 (not-false (eqb (length d) 72) (or-false (face_open M g) (not (eqb (length d) 72)) rows.1).1)
-
           -- and the numbers were written, from the twins that are listed
-          pub done : (r : Outcome) → outcome r ≡ result tt → {t : List ℕ} → Fanned M.indices t → {d' : List ℤ}
-              → d' ≡ filled (number_of M.positions M.indices t g) 72 d → TangentsGiven M g d r d'
-          done r e linked written = record {
-            answer-is = e ∙ rw unmet;
-            list-is = written ∙ filled-ext 72 d (number_is formed g face-below face-closed linked) ∙ filled-whole (tangent_number M g) 72 d list-long
-                ∙ rw unmet;
+          pub done : {t : List ℕ} → Fanned M.indices t → {d' : List ℤ} → d' ≡ numbers_from M.positions M.indices t g → TangentsGiven M g d (Ok tt) d'
+          done linked written = record {
+            answer-is = rw unmet;
+            list-is = written ∙ list_below-ext 72 (number_is formed g face-below face-closed linked) ∙ rw unmet;
           }

@@ -25,12 +25,13 @@ use Rattle.tangent.specs.Vector.{faces_at, middle_vector, inner_vector, cosine_a
 use Rattle.tangent.specs.Tangent.{VectorKind, start, middle, end, inner, start_in, end_in, row_of, signed, vector, tangent, tangent_number}
 use Rattle.tangent.specs.Answer.{face_open}
 use Rattle.tangent.specs.Told.{part_at, parts_told}
-use Rattle.tangent.specs.Lists.{Fanned, listed_part, side_from, vector_of, number_from_parts, values_of, face_valences, cosines_from, parts_from, number_of, Drawn}
+use Rattle.tangent.specs.Lists.{Fanned, listed_part, side_from, vector_of, number_from_parts}
+use Rattle.tangent.specs.Lists.{values_of, face_valences, cosines_from, parts_from, number_of, Drawn}
 use Rattle.tangent.proofs.SeenLaws.{turn-after}
 use Rattle.tangent.proofs.TableLaws.{row-side-below}
 use Rattle.tangent.proofs.RenderLaws.{Renders}
 use Rattle.tangent.proofs.PartLaws.{part_of}
-use Rattle.tangent.proofs.FaceLaws.{least, most, part-told}
+use Rattle.tangent.proofs.FaceLaws.{most, part-told}
 use Rattle.tangent.proofs.DrawnLaws.{blank, blank-room, count-is}
 
 -- ---- the lists of an accepted mesh
@@ -57,15 +58,13 @@ module _ {M : IndexedMesh} (a : WellFormed M) where
 
 -- ---- a face with no corner on the boundary
 module _ {M : IndexedMesh} (a : WellFormed M) (g : ℕ) (l : g < M.faces) (closed : face_open M g ≡ false) where
-  pub drawn : {twins : List ℕ} → Fanned M.indices twins → (d : List ℤ) → 72 ≤ length d → Drawn M.positions M.indices twins g d
-  unfolding face_open
-  drawn fanned d long = record {
-    face = record { fanned = fanned; listed = omega (arith, whole a); closed = rw (whole a) closed };
+  pub drawn : (twins : List ℕ) {valences : List ℕ} → valences ≡ face_valences M.indices g → Drawn M.positions M.indices twins valences g
+  drawn twins e = record {
+    listed = omega (arith, whole a);
     few = omega (arith, whole a, a.sized.faces-high);
     small = number_small a;
-    least = λ s b. rw (whole a) (least a g l closed s b);
     most = λ s b. rw (whole a) (most a g l closed s b);
-    places = long;
+    counted = e;
   }
 
   -- how many faces are at corner s

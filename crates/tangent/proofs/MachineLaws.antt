@@ -12,7 +12,7 @@ use Prim.Native.Nat.{ℕ, ◌+◌, ◌*◌, ◌≤◌, ◌<◌, ◌^◌}
 use native.Mathlib.Nat.{mul-le-mul_left}
 use native.Mathlib.Omega.{arith}
 use lib.Dec.{ltb}
-use lib.IntN.{ℤ, pos, negsuc, neg_ℤ, nat_abs, ◌+ℤ◌, ◌-ℤ◌, ◌*ℤ◌}
+use lib.IntN.{ℤ, pos, neg_ℤ, nat_abs, ◌+ℤ◌, ◌-ℤ◌, ◌*ℤ◌}
 use borrow.Author.Tests.{ltb-true}
 use mir.Syntax.{w32, w64}
 use mir.Val.{SFits, to_z, of_z}
@@ -94,11 +94,6 @@ small-light (e ⊟ f) h = (and-true (light (e ⊟ f)) (small e && small f) h).0
 
 value-fits : (e : Term) → Ranged e → small e ≡ true → SFits w64 (value e)
 value-fits e r h = sfits-abs (value e) (omega (arith, size e r, ltb-true (bound e) (2 ^ 63) (small-light e h)))
-
--- a number of 32 bits has no larger size than the smallest one
-pub narrow-ranged : (z : ℤ) → SFits w32 z → Ranged (narrow z (2 ^ 31))
-narrow-ranged (pos z) l = (l, omega (arith, l.sfits))
-narrow-ranged (negsuc z) l = (l, omega (arith, l.sfits))
 
 parts : (x y z : Bool) → (x && (y && z)) ≡ true → (y ≡ true) × (z ≡ true)
 parts x y z h = and-true y z (and-true x (y && z) h).1

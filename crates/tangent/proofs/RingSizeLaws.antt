@@ -1,28 +1,30 @@
--- Circulating from a corner by the listed twins tells how many faces its vertex has, or that it is on the boundary.
+-- Circulating from a corner by the listed twins tells how many faces its vertex has, or that it is on the boundary; and so it does for the four corners
+-- of a face.
 --
---   Circling met on   the walk on from a corner has met so many corners, and `on` is the one after them
+--   Circling met on   the walk on from a corner has met so many corners, and `on` is the one after them, if one is
+--   corner-open s     corner s of the face is at a boundary vertex
 use mathlib.Core.Path.{◌≡◌, refl, sym, ap, ◌∙◌}
-use mathlib.Core.Bool.{true, false, cond}
+use mathlib.Core.Bool.{Bool, true, false, cond}
 use mathlib.Core.List.{List}
 use Prim.Native.Nat.{ℕ, ◌+◌, ◌-◌, ◌*◌, ◌%◌, ◌<◌}
 use native.Mathlib.Omega.{arith}
-use lib.Dec.{eqb}
 use lib.ListN.{length}
-use borrow.Author.Tests.{eqb-true, ne_eqb}
-use Rattle.finite.proofs.AnyAll.{any_false}
-use Rattle.finite.proofs.FoldLaws.{bool_cases}
-use Rattle.limits.specs.Limits.{no_twin}
+use borrow.Author.Tests.{eqb-true}
+use Rattle.std.proofs.Common.{add-zero, Option, Some, None, ◌∷◌, []}
+use Rattle.finite.specs.Fold.{fold_below}
+use Rattle.finite.specs.Filled.{list_below}
+use Rattle.finite.proofs.AnyAll.{any-hit}
 use Rattle.corner.specs.Corner.{prev}
 use Rattle.mesh.specs.Fan.{valence, on_boundary, around}
 use Rattle.mesh.specs.Tables.{Corners, vertex_of, twin_of}
+use Rattle.mesh.specs.Walk.{corner_of}
 use Rattle.mesh.specs.Circulation.{Paired}
 use Rattle.mesh.proofs.CornerLaws.{prev-below}
 use Rattle.mesh.proofs.CirculationLaws.{around-in}
-use Rattle.mesh.proofs.FanLaws.{fan-some}
-use Rattle.mesh.proofs.WalkLaws.{Onward, onward-start, onward-in, onward-more, onward-less, onward-run, run-closed}
+use Rattle.mesh.proofs.WalkLaws.{Onward, onward-start, onward-in, onward-more, onward-less, onward-closed, onward-open, run-closed}
 use Rattle.mesh.proofs.ConnectedLaws.{corners-whole, twins-paired, fan-told, boundary-told}
 use Rattle.control.specs.Control.{link_at}
-use Rattle.tangent.specs.Lists.{Fanned, InnerFace, ring_in, valences_in}
+use Rattle.tangent.specs.Lists.{Fanned, ring_in, valences_asked}
 
 module _ {faces twins : List ℕ} (k : Fanned faces twins) where
   abbrev n : ℕ
@@ -45,51 +47,69 @@ module _ {faces twins : List ℕ} (k : Fanned faces twins) where
 
   module _ (c : ℕ) (l : c < length faces) where
     -- ---- the walk on from c
-    abbrev pub Circling : ℕ → ℕ → Type 0
+    abbrev pub Circling : ℕ → Option ℕ → Type 0
     Circling met on = Onward (twin_of twins) (length faces) c met on
 
-    pub met-first : (on : ℕ) → on ≡ link_at twins (prev c) → Circling 1 on
-    met-first on e = onward-start whole paired c l on (e ∙ step-told c l)
+    pub met-first : (on : Option ℕ) → on ≡ corner_of (link_at twins (prev c)) → Circling 1 on
+    met-first on e = onward-start whole paired c l on (e ∙ ap corner_of (step-told c l))
 
-    pub met-more : (met on on' : ℕ) → Circling met on → (on ≡ no_twin → ⊥) → (on ≡ c → ⊥) → on' ≡ link_at twins (prev on) → Circling (met + 1) on'
-    met-more met on on' w h a e = onward-more whole paired c l met on on' w h a (e ∙ step-told on (onward-in whole paired c l met on w h))
+    module _ (met : ℕ) (on : Option ℕ) (o : ℕ) (w : Circling met on) (some : on ≡ Some o) where
+      pub met-more : (on' : Option ℕ) → (o ≡ c → ⊥) → on' ≡ corner_of (link_at twins (prev o)) → Circling (met + 1) on'
+      met-more on' a e =
+          onward-more whole paired c l met on o w some on' a (e ∙ ap corner_of (step-told o (onward-in whole paired c l met on o w some)))
 
-    pub met_less : (met on : ℕ) → Circling met on → (on ≡ no_twin → ⊥) → (on ≡ c → ⊥) → length faces - (met + 1) < length faces - met
-    met_less met on w h a = onward-less whole paired c l met on w h a
+      pub met_less : (o ≡ c → ⊥) → length faces - (met + 1) < length faces - met
+      met_less a = onward-less whole paired c l met on o w some a
 
-    -- ---- where it ends
-    pub met-back : (met on : ℕ) → Circling met on → on ≡ c → met ≡ ring_in faces c
-    met-back met on w e =
-        let p = vertex_of faces c in
-        let run = onward-run whole paired c l met on c w e in
-        let inside = boundary-told k.twinned c p refl met true run (k.fans c l) in
-        let all = fan-told k.twinned c p refl met (run-closed whole paired c l met true run refl) ∙ k.fans c l in
-        eqb-true met (valence (vertex_of faces) n p) all ∙ ap (λ (b : _). cond b 0 (valence (vertex_of faces) n p)) inside
+      -- ---- where it ends
+      pub met-back : o ≡ c → Some met ≡ ring_in faces c
+      met-back e =
+          let p = vertex_of faces c in
+          let run = onward-closed whole paired c l met on o w some e in
+          let inside = boundary-told k.twinned c p refl met true run (k.fans c l) in
+          let all = fan-told k.twinned c p refl met (run-closed whole paired c l met run) ∙ k.fans c l in
+          rw (sym inside) (ap Some (eqb-true met (valence (vertex_of faces) n p) all))
 
-    pub met-none : (met on : ℕ) → Circling met on → on ≡ no_twin → 0 ≡ ring_in faces c
+    pub met-none : (met : ℕ) (on : Option ℕ) → Circling met on → on ≡ None → None ≡ ring_in faces c
     met-none met on w e =
         let p = vertex_of faces c in
-        let run = onward-run whole paired c l met on no_twin w e in
-        ap (λ (b : _). cond b 0 (valence (vertex_of faces) n p)) (boundary-told k.twinned c p refl met false run (k.fans c l))
+        let run = onward-open whole paired c l met on w e in
+        rw (sym (boundary-told k.twinned c p refl met false run (k.fans c l)))
 
-    -- ---- what the number tells
-    ring-inner : on_boundary (vertex_of faces) n (vertex_of faces c) ≡ false → ring_in faces c ≡ valence (vertex_of faces) n (vertex_of faces c)
-    ring-inner e = rw e
+-- ---- what the answer at a corner tells
+ring-none : (faces : List ℕ) (c : ℕ) → None ≡ ring_in faces c → on_boundary (vertex_of faces) (length faces) (vertex_of faces c) ≡ true
+ring-none faces c e = go (on_boundary (vertex_of faces) (length faces) (vertex_of faces c)) e
+  where
+    go : (b : _) → None ≡ cond b None (Some (valence (vertex_of faces) (length faces) (vertex_of faces c))) → b ≡ true
+    go true e = refl
+    go false e = cc
 
-    pub ring-open : eqb (ring_in faces c) 0 ≡ on_boundary (vertex_of faces) (length faces) (vertex_of faces c)
-    ring-open =
-        let p = vertex_of faces c in
-        bool_cases (on_boundary (vertex_of faces) n p)
-        (λ e. rw e)
-        (λ e. rw e (ne_eqb (valence (vertex_of faces) n p) 0 (λ z. omega (arith, fan-some (vertex_of faces) n p (k.fans c l), z))))
+ring-some : (faces : List ℕ) (c v : ℕ) → Some v ≡ ring_in faces c
+    → (on_boundary (vertex_of faces) (length faces) (vertex_of faces c) ≡ false) × (v ≡ valence (vertex_of faces) (length faces) (vertex_of faces c))
+ring-some faces c v e = go (on_boundary (vertex_of faces) (length faces) (vertex_of faces c)) e
+  where
+    go : (b : _) → Some v ≡ cond b None (Some (valence (vertex_of faces) (length faces) (vertex_of faces c)))
+        → (b ≡ false) × (v ≡ valence (vertex_of faces) (length faces) (vertex_of faces c))
+    go true e = cc
+    go false e = (refl, cc)
 
--- ---- a face with no corner on the boundary
-module _ {faces twins : List ℕ} {g : ℕ} (f : InnerFace faces twins g) (s : ℕ) (b : s < 4) where
-  pub corner-below : 4 * g + s < length faces
-  corner-below = omega (arith, f.listed)
+-- ---- the four corners of a face
+module _ (faces : List ℕ) (g : ℕ) where
+  abbrev corner-open : ℕ → Bool
+  corner-open s = on_boundary (vertex_of faces) (length faces) (vertex_of faces (4 * g + s))
 
-  pub corner-small : 4 * g + s < 1024
-  corner-small = omega (arith, corner-below, f.fanned.twinned.indices.few)
+  pub asked-none : (s : ℕ) → s < 4 → None ≡ ring_in faces (4 * g + s) → None ≡ valences_asked faces g
+  asked-none s l e = rw (any-hit corner-open 4 s l (ring-none faces (4 * g + s) e))
 
-  pub ring-valence : ring_in faces (4 * g + s) ≡ valences_in faces g s
-  ring-valence = ring-inner f.fanned (4 * g + s) corner-below (any_false _ 4 f.closed s b)
+  pub asked-first : None ≡ ring_in faces (4 * g) → None ≡ valences_asked faces g
+  asked-first e = asked-none 0 (omega arith) (rw add-zero e)
+
+  pub asked-all : (v w x y : ℕ) → Some v ≡ ring_in faces (4 * g) → Some w ≡ ring_in faces (4 * g + 1) → Some x ≡ ring_in faces (4 * g + 2)
+      → Some y ≡ ring_in faces (4 * g + 3) → Some (v ∷ (w ∷ (x ∷ (y ∷ [])))) ≡ valences_asked faces g
+  unfolding fold_below list_below
+  asked-all v w x y d e f h =
+      let a = ring-some faces (4 * g + 0) v (rw add-zero d) in
+      let b = ring-some faces (4 * g + 1) w e in
+      let c = ring-some faces (4 * g + 2) x f in
+      let i = ring-some faces (4 * g + 3) y h in
+      rw (a.0, b.0, c.0, i.0, a.1, b.1, c.1, i.1)

@@ -1,12 +1,17 @@
 -- The numbers of a side, as the machine stores them and reads them back.
 --
 --   Fitting a    each number of a side fits its bits
-use mathlib.Core.Path.{◌≡◌, refl, ap₂}
-use mathlib.Core.List.{List, [], ◌∷◌}
-use Prim.Native.Nat.{ℕ, ◌+◌, ◌*◌, ◌%◌, ◌<◌, ◌^◌}
+use mathlib.Core.Path.{◌≡◌, sym, ◌∙◌}
+use Rattle.std.proofs.lemmas.List.{ext_get_or}
+use Rattle.std.specs.Array.{IsFromFnResult, IsFromFnResultFrom}
+use denote.Param.Members.{Called, Mut}
+use Rattle.finite.proofs.FilledLaws.{length-list_below, list_below-at}
+use mathlib.Core.List.{List}
+use Prim.Native.Nat.{ℕ, zero, suc, ◌+◌, ◌*◌, ◌%◌, ◌≤◌, ◌<◌, ◌^◌}
 use native.Mathlib.Omega.{arith}
+use native.Mathlib.Decide.{dec_le}
 use lib.IntN.{ℤ, pos}
-use lib.ListN.{get_or}
+use lib.ListN.{length, get_or}
 use lib.Signed.{mag}
 use mir.Syntax.{w32, w64}
 use mir.Val.{SFits, hbits}
@@ -70,7 +75,25 @@ side-sized w s k l h = record {
   end-cosine = w.cosines-small ((s + 1) % 4) (omega arith);
 }
 
--- four numbers, one for each side
-pub list-of-four : {A : Type 0} (f : ℕ → A) {w x y z : A} → w ≡ f 0 → x ≡ f 1 → y ≡ f 2 → z ≡ f 3 → w ∷ (x ∷ (y ∷ (z ∷ []))) ≡ list_below f 4
-unfolding list_below
-list-of-four f p q r s = ap₂ ◌∷◌ p (ap₂ ◌∷◌ q (ap₂ ◌∷◌ r (ap₂ ◌∷◌ s refl)))
+-- a list that was made place by place
+pub list-made : {A : Type 0} (f : ℕ → A) {n : ℕ} (xs : List A) (z : A) → length xs ≡ n → ((k : ℕ) → k < n → get_or xs k z ≡ f k) → xs ≡ list_below f n
+list-made f {n} xs z e h =
+    ext_get_or z xs (list_below f n) (e ∙ sym (length-list_below f n))
+    (λ k l. let b : k < n = omega (arith, e) in h k b ∙ sym (list_below-at f n k z b))
+
+-- a list that was made by calls of a function of its places, one after the other, which keep what is known of the function's captures
+module _ {F B : Type 0} (g : Mut F (ℕ × Unit {0}) B) (Kept : F → Type 0) (f : ℕ → B) (n : ℕ)
+    (call : (p q : F) (i : ℕ) (y : B) → i < n → Kept p → Called g p (i, tt) y q → (y ≡ f i) × Kept q) where
+  made-from : (ys : List B) (d : B) (m i : ℕ) (p : F) → i + m ≡ n → Kept p → IsFromFnResultFrom g p ys i m → (k : ℕ) → i ≤ k → k < n → get_or ys k d ≡ f k
+  made-from ys d zero i p e h r k l b = absurd (omega arith)
+  made-from ys d (suc m) i p e h r k l b =
+      let one = call p r.0 i r.1 (omega arith) h r.3 in
+      go (dec_le (i + 1) k) one (made-from ys d m (i + 1) r.0 (omega arith))
+    where
+      go : Dec (i + 1 ≤ k) → (r.1 ≡ f i) × Kept r.0 → (Kept r.0 → IsFromFnResultFrom g r.0 ys (i + 1) m → (k : ℕ) → i + 1 ≤ k → k < n → get_or ys k d ≡ f k)
+          → get_or ys k d ≡ f k
+      go (yes q) one more = more one.1 r.4 k q b
+      go (no q) one more = let here : k ≡ i = omega arith in rw here (r.2.1 d ∙ one.0)
+
+  pub made-by : (p : F) → Kept p → (ys : List B) → B → IsFromFnResult g p ys n → ys ≡ list_below f n
+  made-by p h ys d r = list-made f ys d r.long (λ k l. made-from ys d n 0 p (omega arith) h r.each k (omega arith) l)

@@ -1,54 +1,46 @@
 -- The tables of the code against those of the definitions, place by place: each pair is compared by computing both.
-use mathlib.Core.Path.{◌≡◌, refl, sym}
+use mathlib.Core.Path.{◌≡◌, refl}
 use mathlib.Core.Bool.{true}
 use mathlib.Core.List.{List, [], ◌∷◌}
-use Prim.Native.Nat.{ℕ, ◌%◌, ◌<◌}
-use native.Mathlib.Omega.{arith}
-use lib.Dec.{ltb, leb}
+use Prim.Native.Nat.{ℕ, ◌<◌}
+use lib.Dec.{ltb}
 use lib.ListN.{get_or}
 use borrow.Author.Tests.{ltb-true}
 use Rattle.finite.specs.Fold.{fold_below, all_below}
 use Rattle.finite.specs.Filled.{list_below}
 use Rattle.finite.proofs.AnyAll.{all_true}
 use Rattle.finite.proofs.FilledLaws.{agree}
-use Rattle.tangent.specs.Tangent.{row_of}
+use Rattle.tangent.specs.Tangent.{VectorRow, along_side, against_side, row_of}
 use Rattle.tangent.specs.Told.{part_for, part_at}
 use Rattle.tangent.specs.Lists.{vector_kind_of}
 use Rattle.tangent.specs.declared.parts.Part as part
 use Rattle.tangent.specs.declared.parts.Part.TheVariants.{AtStart, AtEnd, Near, Far, InnerNear, InnerFar}
-use Rattle.tangent.specs.declared.side.VectorKind as code
+use Rattle.tangent.specs.declared.writer.Row as code
+use Rattle.tangent.specs.declared.writer.Row.TheVariants.{Along, Against}
 use Rattle.tangent.specs.declared.side.VectorKind.TheVariants.{Start, Middle, End, Inner, StartIn, EndIn}
 
 -- ---- the 24 rows
-abbrev pub sides : List ℕ
-sides = 0 ∷ 0 ∷ 0 ∷ 3 ∷ 0 ∷ 5 ∷ 3 ∷ 6 ∷ 5 ∷ 6 ∷ 6 ∷ 6 ∷ 7 ∷ 0 ∷ 0 ∷ 1 ∷ 7 ∷ 7 ∷ 1 ∷ 1 ∷ 7 ∷ 6 ∷ 6 ∷ 1 ∷ []
+abbrev pub row_for : code.Row → VectorRow
+row_for (Along s q) = along_side s (vector_kind_of q)
+row_for (Against s q) = against_side s (vector_kind_of q)
 
-abbrev pub kinds : List code.VectorKind
-kinds =
-    Start ∷ Middle ∷ End ∷ EndIn ∷ Inner ∷ StartIn ∷ StartIn ∷ Inner ∷ EndIn ∷ End ∷ Middle ∷ Start
-    ∷ End ∷ StartIn ∷ EndIn ∷ Start ∷ Middle ∷ Inner ∷ Inner ∷ Middle ∷ Start ∷ EndIn ∷ StartIn ∷ End ∷ []
+abbrev pub rows : List code.Row
+rows =
+    Along 0 Start ∷ Along 0 Middle ∷ Along 0 End ∷ Along 3 EndIn ∷ Along 0 Inner ∷ Against 1 StartIn
+    ∷ Along 3 StartIn ∷ Against 2 Inner ∷ Against 1 EndIn ∷ Against 2 End ∷ Against 2 Middle ∷ Against 2 Start
+    ∷ Against 3 End ∷ Along 0 StartIn ∷ Along 0 EndIn ∷ Along 1 Start ∷ Against 3 Middle ∷ Against 3 Inner
+    ∷ Along 1 Inner ∷ Along 1 Middle ∷ Against 3 Start ∷ Against 2 EndIn ∷ Against 2 StartIn ∷ Along 1 End ∷ []
 
-all-below : all_below (λ m. ltb (get_or sides m 0) 8) 24 ≡ true
-unfolding fold_below
+pub row-is : (z : code.Row) (m : ℕ) → m < 24 → row_for (get_or rows m z) ≡ row_of m
+unfolding row_of list_below
+row-is z m l = agree (λ m. row_for (get_or rows m z)) row_of 24 refl m l
+
+all-below : all_below (λ m. ltb (row_of m).side 4) 24 ≡ true
+unfolding fold_below row_of
 all-below = refl
 
-pub side-below : (m : ℕ) → m < 24 → get_or sides m 0 < 8
-side-below m l = ltb-true (get_or sides m 0) 8 (all_true (λ m. ltb (get_or sides m 0) 8) 24 all-below m l)
-
-pub side-is : (m : ℕ) → m < 24 → get_or sides m 0 % 4 ≡ (row_of m).side
-unfolding row_of list_below
-side-is m l = agree (λ m. get_or sides m 0 % 4) (λ m. (row_of m).side) 24 refl m l
-
-pub reversed-is : (m : ℕ) → m < 24 → leb 4 (get_or sides m 0) ≡ (row_of m).reversed
-unfolding row_of list_below
-reversed-is m l = agree (λ m. leb 4 (get_or sides m 0)) (λ m. (row_of m).reversed) 24 refl m l
-
 pub row-side-below : (m : ℕ) → m < 24 → (row_of m).side < 4
-row-side-below m l = rw (sym (side-is m l)) (omega arith)
-
-pub kind-is : (z : code.VectorKind) (m : ℕ) → m < 24 → vector_kind_of (get_or kinds m z) ≡ (row_of m).kind
-unfolding row_of list_below
-kind-is z m l = agree (λ m. vector_kind_of (get_or kinds m z)) (λ m. (row_of m).kind) 24 refl m l
+row-side-below m l = ltb-true (row_of m).side 4 (all_true (λ m. ltb (row_of m).side 4) 24 all-below m l)
 
 -- ---- the six parts
 abbrev pub parts : List part.Part

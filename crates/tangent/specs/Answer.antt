@@ -7,11 +7,11 @@
 --   tangent_answer ..   its answer: done, or the number of the refusal
 --   tangents_after M g d   the lent list afterwards, which held d: the 72 numbers, or what it held after a refusal
 --   TangentsGiven M g d r d'   r is the answer of the tangent call on face g of the mesh M with the lent list d, and d' is the list afterwards
-use Rattle.std.specs.Prelude.{◌≡◌, Bool, not, ◌||◌, List, [], ◌∷◌, ℕ, ◌+◌, ◌*◌, eqb, leb, ℤ, length}
+use Rattle.std.specs.Prelude.{◌≡◌, Bool, not, ◌||◌, List, [], ◌∷◌, ℕ, ◌+◌, ◌*◌, eqb, leb, ℤ, length, Result}
 use Rattle.std.proofs.Math.Option.{Option}
 use Rattle.finite.specs.Fold.{any_below}
-use Rattle.answer.specs.Table.{Row, row, Answer, answer_by, written_by, outcome}
-use Rattle.answer.specs.declared.model.Outcome.{Outcome}
+use Rattle.answer.specs.Table.{Row, row, Answer, answer_by, written_by, answered}
+use Rattle.answer.specs.declared.refusal.Refusal.{Refusal}
 use Rattle.mesh.specs.Fan.{on_boundary}
 use Rattle.mesh.specs.IndexedMesh.{IndexedMesh, corners, at}
 use Rattle.mesh.specs.Answer.{mesh_refusal}
@@ -38,6 +38,6 @@ tangent_answer M g d = answer_by (tangent_refusal M g d) tt
 abbrev pub tangents_after : IndexedMesh → ℕ → List ℤ → List ℤ
 tangents_after M g d = written_by (tangent_refusal M g d) d (tangent_list M g)
 
-pub record TangentsGiven (M : IndexedMesh) (g : ℕ) (d : List ℤ) (r : Outcome) (d' : List ℤ) : Type 0 where
-  pub answer-is : outcome r ≡ tangent_answer M g d
+pub record TangentsGiven (M : IndexedMesh) (g : ℕ) (d : List ℤ) (r : Result Unit Refusal) (d' : List ℤ) : Type 0 where
+  pub answer-is : answered r ≡ tangent_answer M g d
   pub list-is : d' ≡ tangents_after M g d

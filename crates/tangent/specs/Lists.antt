@@ -1,11 +1,10 @@
 -- What the code reads the tangents of a face from, and the numbers that it makes of it.
 --
 --   Fanned faces twins   the twins of all the half-edges are listed, and the corners at each vertex form a fan
---   ring_in faces c     how many faces the vertex of corner c has, 0 where it is on the boundary
+--   ring_in faces c     how many faces the vertex of corner c has, none where it is on the boundary
 --   open_in faces g     face g has a corner at a boundary vertex, by the list of faces
---   InnerFace faces twins g   face g is there and has none
 --   valences_in faces g s   how many faces the vertex of corner s of face g has
---   listed_part parts t s k, PartPlaced parts t s k   part t of side s, coordinate k, in their list; that place is in the list
+--   listed_part parts t s k   part t of side s, coordinate k, in their list
 --   side_from parts cosines s k   coordinate k of side s, from the lists of the parts and of the cosines
 --   Known parts cosines   these lists as the code keeps them
 --   SideSized a        the numbers of a side are so small that the code can work with them
@@ -15,10 +14,13 @@
 --   vector_of a q       vector q of a side of which the code knows a
 --   number_from_parts parts cosines i   number i of the 72
 --   values_of positions faces, face_valences faces g, cosines_from valences, parts_from .. g   the four lists that these are made of, one from the other
+--   valences_asked faces g   the counts, where face g has no corner on the boundary
+--   numbers_by parts cosines   all 72, from the parts and the cosines
 --   number_of positions faces twins g i   number i of the 72 of face g, from the lists of the mesh and its twins
---   Drawn positions faces twins g tangents   what makes them fit: the face is there and has no corner on the boundary, its vertices have from 3 to 16
---                      faces, and the coordinates are small; and the lent list has room
-use Rattle.std.specs.Prelude.{Bool, true, false, cond, List, ℕ, ◌+◌, ◌*◌, ◌/◌, ◌%◌, ◌^◌, ◌≤◌, ◌<◌, ◌≡◌, ℤ, pos, nat_abs, length, get_or, replicate}
+--   numbers_from positions faces twins g   all 72
+--   Drawn positions faces twins valences g   what makes them fit: the face is there, its vertices have at most 16 faces, these are their counts, and the
+--                      coordinates are small
+use Rattle.std.specs.Prelude.{Bool, true, cond, Option, Some, None, List, ℕ, ◌+◌, ◌*◌, ◌/◌, ◌%◌, ◌^◌, ◌≤◌, ◌<◌, ◌≡◌, ℤ, pos, nat_abs, length, get_or, replicate}
 use Rattle.finite.specs.Fold.{any_below}
 use Rattle.finite.specs.Filled.{list_below}
 use Rattle.limits.specs.Limits.{max_faces, max_coordinate}
@@ -37,30 +39,19 @@ pub record Fanned (indices twins : List ℕ) : Type 0 where
   pub twinned : Twinned indices twins (length indices)
   pub fans : (c : ℕ) → c < length indices → fan (vertex_of indices) (length indices) (vertex_of indices c) ≡ true
 
-abbrev pub ring_in : List ℕ → ℕ → ℕ
+abbrev pub ring_in : List ℕ → ℕ → Option ℕ
 ring_in indices c =
     let p = vertex_of indices c in
-    cond (on_boundary (vertex_of indices) (length indices) p) 0 (valence (vertex_of indices) (length indices) p)
+    cond (on_boundary (vertex_of indices) (length indices) p) None (Some (valence (vertex_of indices) (length indices) p))
 
 abbrev pub open_in : List ℕ → ℕ → Bool
 open_in indices g = any_below (λ s. on_boundary (vertex_of indices) (length indices) (vertex_of indices (4 * g + s))) 4
-
-pub record InnerFace (indices twins : List ℕ) (g : ℕ) : Type 0 where
-  pub fanned : Fanned indices twins
-  pub listed : 4 * g + 4 ≤ length indices
-  pub closed : open_in indices g ≡ false
 
 abbrev pub valences_in : List ℕ → ℕ → ℕ → ℕ
 valences_in indices g s = valence (vertex_of indices) (length indices) (vertex_of indices (4 * g + s))
 
 abbrev pub listed_part : List ℤ → ℕ → ℕ → ℕ → ℤ
 listed_part parts t s k = get_or parts (12 * t + (3 * s + k)) (pos 0)
-
-pub record PartPlaced (parts : List ℤ) (t s k : ℕ) : Type 0 where
-  pub listed : length parts ≡ 72
-  pub part : t < 6
-  pub side : s < 4
-  pub axis : k < 3
 
 unfoldable pub side_from : List ℤ → List ℤ → ℕ → ℕ → known.Side
 side_from parts cosines s k = record {
@@ -75,9 +66,7 @@ side_from parts cosines s k = record {
 }
 
 pub record Known (parts cosines : List ℤ) : Type 0 where
-  pub parts-listed : length parts ≡ 72
   pub parts-small : (j : ℕ) → j < 72 → nat_abs (get_or parts j (pos 0)) ≤ 2 ^ 35
-  pub cosines-listed : length cosines ≡ 4
   pub cosines-small : (s : ℕ) → s < 4 → nat_abs (get_or cosines s (pos 0)) ≤ 2 ^ 20
 
 pub record SideSized (a : known.Side) : Type 0 where
@@ -132,20 +121,28 @@ values_of positions indices = values_after positions indices (replicate (16 * ma
 abbrev pub face_valences : List ℕ → ℕ → List ℕ
 face_valences indices g = list_below (valences_in indices g) 4
 
+abbrev pub valences_asked : List ℕ → ℕ → Option (List ℕ)
+valences_asked indices g = cond (open_in indices g) None (Some (face_valences indices g))
+
 abbrev pub cosines_from : List ℕ → List ℤ
 cosines_from valences = list_below (λ s. cosine (get_or valences s 0)) 4
 
 abbrev pub parts_from : List ℤ → List ℕ → List ℕ → ℕ → List ℤ
 parts_from values twins valences g = list_below (parts_told values twins valences g) 72
 
+abbrev pub numbers_by : List ℤ → List ℤ → List ℤ
+numbers_by parts cosines = list_below (number_from_parts parts cosines) 72
+
 abbrev pub number_of : List ℤ → List ℕ → List ℕ → ℕ → ℕ → ℤ
 number_of positions indices twins g =
     number_from_parts (parts_from (values_of positions indices) twins (face_valences indices g) g) (cosines_from (face_valences indices g))
 
-pub record Drawn (positions : List ℤ) (indices twins : List ℕ) (g : ℕ) (tangents : List ℤ) : Type 0 where
-  pub face : InnerFace indices twins g
+abbrev pub numbers_from : List ℤ → List ℕ → List ℕ → ℕ → List ℤ
+numbers_from positions indices twins g = list_below (number_of positions indices twins g) 72
+
+pub record Drawn (positions : List ℤ) (indices twins valences : List ℕ) (g : ℕ) : Type 0 where
+  pub listed : 4 * g + 4 ≤ length indices
   pub few : length indices ≤ 4 * max_faces
   pub small : (i : ℕ) → nat_abs (get_or positions i (pos 0)) ≤ max_coordinate
-  pub least : (s : ℕ) → s < 4 → 3 ≤ valences_in indices g s
   pub most : (s : ℕ) → s < 4 → valences_in indices g s ≤ 16
-  pub places : 72 ≤ length tangents
+  pub counted : valences ≡ face_valences indices g

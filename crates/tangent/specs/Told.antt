@@ -1,53 +1,31 @@
--- What the tables by corner tell of the sides of a face, and what they are told from: the values of the corners, the twins, the two lists of weights.
+-- What the tables by corner tell of the sides of a face, and what they are told from: the values of the corners and the twins.
 -- That they are those of a mesh, a caller shows (`Renders` of proofs/RenderLaws.antt).
 --
 --   ValuesSmall values       every entry of the table of values is within the range of a coordinate
---   Weighing edge face   the two lists of all weights
---   Addends a x b y    two weights and two values, as the weights of the sum and the coordinates are
---   RingSource .. n    what a corner vector at a vertex of n faces is made from
---   PartSource .. n m  what a part of a side is made from, with n faces at its start and m at its end
 --   turned_at twins c i   the corner i steps about its vertex from corner c
 --   term_at .. n k c i  what edge i and face i add to the sum about the vertex of corner c, which has n faces, of coordinate k
 --   vector_at .. n k c  the corner vector along half-edge c
 --   Part               what the six vectors of a side are made of: the corner vectors at its ends, and four control values
 --   part_for p, part_at t   the part, for each case of the code's enum `Part`, and at place t of their order
+--   place_for p         where it stands in their order
 --   part_told .. n m k c p   the part p of the side of half-edge c, coordinate k, with n faces at its start and m at its end
---   SideSource .. valences g   what the parts of all sides of face g are made from
+--   SideSource valences g   what the parts of all sides of face g are asked with: a face, and how many faces its vertices have
 --   parts_told .. valences g j   part j / 12 of side j % 12 / 3 of face g, coordinate j % 3
-use Rattle.std.specs.Prelude.{◌≡◌, List, [], ◌∷◌, ℕ, ◌+◌, ◌*◌, ◌/◌, ◌%◌, ◌^◌, ◌≤◌, ◌<◌, ℤ, pos, neg_ℤ, nat_abs, ◌+ℤ◌, ◌*ℤ◌, get_or}
+use Rattle.std.specs.Prelude.{List, [], ◌∷◌, ℕ, ◌+◌, ◌*◌, ◌/◌, ◌%◌}
+use Rattle.std.specs.Prelude.{◌≤◌, ◌<◌, ℤ, pos, neg_ℤ, nat_abs, ◌+ℤ◌, ◌*ℤ◌, get_or}
 use Rattle.integer.specs.Nearest.{nearest}
 use Rattle.finite.specs.Fold.{sum_below_ℤ}
 use Rattle.limits.specs.Limits.{max_faces, max_coordinate}
 use Rattle.corner.specs.Corner.{next, across, prev}
 use Rattle.mesh.specs.Fan.{iterate}
 use Rattle.cosine.specs.Cosine.{scale}
-use Rattle.cosine.specs.Weight.{edge_numerator, face_numerator, weights_by, edge_weight, face_weight}
+use Rattle.cosine.specs.Weight.{edge_weight, face_weight}
 use Rattle.control.specs.Control.{units, value_at, link_at, inner_at, edge_at}
 use Rattle.tangent.specs.declared.parts.Part as code
 use Rattle.tangent.specs.declared.parts.Part.TheVariants.{AtStart, AtEnd, Near, Far, InnerNear, InnerFar}
 
 pub record ValuesSmall (values : List ℤ) : Type 0 where
   pub within : (i : ℕ) → nat_abs (get_or values i (pos 0)) ≤ max_coordinate
-
-pub record Weighing (edge face : List ℤ) : Type 0 where
-  pub edges : edge ≡ weights_by edge_numerator
-  pub faces : face ≡ weights_by face_numerator
-
-pub record Addends (a x b y : ℤ) : Type 0 where
-  pub edge-weight : nat_abs a ≤ 2 ^ 22
-  pub edge-value : nat_abs x ≤ max_coordinate
-  pub face-weight : nat_abs b ≤ 2 ^ 22
-  pub face-value : nat_abs y ≤ max_coordinate
-
-pub record RingSource (values edge face : List ℤ) (n : ℕ) : Type 0 where
-  pub small : ValuesSmall values
-  pub weights : Weighing edge face
-  pub least : 3 ≤ n
-  pub most : n ≤ 16
-
-pub record PartSource (values edge face : List ℤ) (n m : ℕ) : Type 0 where
-  pub at-start : RingSource values edge face n
-  pub at-end : RingSource values edge face m
 
 abbrev pub turned_at : List ℕ → ℕ → ℕ → ℕ
 turned_at twins c i = iterate (λ e. link_at twins (prev e)) i c
@@ -70,6 +48,14 @@ part_for Far = far
 part_for InnerNear = inner_near
 part_for InnerFar = inner_far
 
+abbrev pub place_for : code.Part → ℕ
+place_for AtStart = 0
+place_for AtEnd = 1
+place_for Near = 2
+place_for Far = 3
+place_for InnerNear = 4
+place_for InnerFar = 5
+
 unfoldable pub part_at : ℕ → Part
 part_at t = get_or (at_start ∷ at_end ∷ near ∷ far ∷ inner_near ∷ inner_far ∷ []) t inner_far
 
@@ -81,9 +67,9 @@ part_told values twins n m k c far = units (edge_at values m k (link_at twins c)
 part_told values twins n m k c inner_near = units (inner_at values n k c)
 part_told values twins n m k c inner_far = units (inner_at values m k (next c))
 
-pub record SideSource (values : List ℤ) (valences : List ℕ) (edge face : List ℤ) (g : ℕ) : Type 0 where
+pub record SideSource (valences : List ℕ) (g : ℕ) : Type 0 where
   pub few : g < max_faces
-  pub ring : (s : ℕ) → s < 4 → RingSource values edge face (get_or valences s 0)
+  pub most : (s : ℕ) → s < 4 → get_or valences s 0 ≤ 16
 
 abbrev pub parts_told : List ℤ → List ℕ → List ℕ → ℕ → ℕ → ℤ
 parts_told values twins valences g j =

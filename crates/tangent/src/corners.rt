@@ -1,63 +1,72 @@
 // How many faces the vertices of the four corners of a face have, and their cosines.
-ghost use Rattle.std.specs.Prelude.{◌≡◌, ◌<◌, length, get_or};
-ghost use Rattle.finite.specs.Filled.{list_below};
-ghost use Rattle.cosine.specs.Cosine.{cosine};
-ghost use Rattle.tangent.specs.Lists.{Fanned, InnerFace, ring_in, valences_in};
+ghost use Rattle.std.specs.Prelude.{◌≡◌, ◌+◌, ◌*◌, ◌<◌, ◌≤◌, length};
+ghost use Rattle.corner.specs.Corner.{prev};
+ghost use Rattle.mesh.specs.Walk.{corner_of};
+ghost use Rattle.control.specs.Control.{link_at};
+ghost use Rattle.tangent.specs.Lists.{Fanned, ring_in, valences_asked, cosines_from};
 
-use crate::ring::around;
+use crate::ring::CORNERS;
+use corner::prev_corner;
 use limits::model::Mesh;
+use mesh::model::MeshLists;
 
-// "No twin", where a corner is wanted.
-const NO_CORNER: usize = Mesh::NO_TWIN as usize;
+// An accepted mesh with the twin of each of its half-edges: the corners at each vertex form a fan.
+#[derive(Clone, Copy)]
+pub(crate) struct Accepted<'a> {
+    pub(crate) mesh: MeshLists<'a>,
+    pub(crate) twins: &'a [u16; CORNERS],
+    ghost fanned: { Fanned mesh.indices.now twins.now },
+    ghost listed: { length mesh.indices.now ≡ 4 * mesh.faces },
+}
 
-// How many faces the vertex of corner c has, found by circulating from there; 0 where that ends at the boundary. The twins alone are read: the faces are
-// there for the contract.
-pub(crate) fn ring_size(faces: &[u16], twins: &[u16; 1024], c: usize) -> usize
-    requires { Fanned faces.now twins.now × (c < length faces.now) }
-    ensures { result ≡ ring_in faces.now c }
-{
-    let mut met = 1;
-    let mut on = around(twins, c);
-    while on != c {
-        if on == NO_CORNER {
-            return 0;
+// (a) mesh's `Twins`, which walks so too, is private to its crate: made public, its `walk_on` would have a `requires`, and no public call has one.
+impl<'a> Accepted<'a> {
+    // The corner after c about its vertex, if one is there. (a) The lent list of twins has 65535 for none (rule T9).
+    fn next_about(self, c: usize) -> Option<usize>
+        ensures { result ≡ corner_of (link_at self.entry.twins.now (prev c)) }
+    {
+        let d = self.twins[prev_corner(c) % CORNERS];
+        if d == Mesh::NO_TWIN {
+            return None;
         }
-        met += 1;
-        on = around(twins, on);
+        Some(usize::from(d))
     }
-    met
-}
 
-// How many faces the vertex of corner s of face g has.
-fn corner_valence(faces: &[u16], twins: &[u16; 1024], g: usize, s: usize) -> usize
-    requires { InnerFace faces.now twins.now g × (s < 4) }
-    ensures { result ≡ valences_in faces.now g s }
-{
-    ring_size(faces, twins, 4 * g + s)
-}
+    // How many faces the vertex of corner c has, found by circulating from there; none where that ends at the boundary.
+    fn ring_size(self, c: usize) -> Option<usize>
+        requires { c < length self.mesh.indices.now }
+        ensures { result ≡ ring_in self.entry.mesh.indices.now c }
+    {
+        let mut met = 1;
+        let mut on = self.next_about(c);
+        while let Some(e) = on {
+            if e == c {
+                return Some(met);
+            }
+            met += 1;
+            on = self.next_about(e);
+        }
+        None
+    }
 
-// How many faces the vertices of the four corners of face g have.
-pub(crate) fn face_valences(faces: &[u16], twins: &[u16; 1024], g: usize) -> [usize; 4]
-    requires { InnerFace faces.now twins.now g }
-    ensures { result ≡ list_below (valences_in faces.now g) 4 }
-{
-    [
-        corner_valence(faces, twins, g, 0),
-        corner_valence(faces, twins, g, 1),
-        corner_valence(faces, twins, g, 2),
-        corner_valence(faces, twins, g, 3),
-    ]
+    // How many faces the vertices of the four corners of face g have; none where one of them is on the boundary.
+    pub(crate) fn face_valences(self, g: usize) -> Option<[usize; 4]>
+        requires { 4 * g + 4 ≤ length self.mesh.indices.now }
+        ensures { result ≡ valences_asked self.entry.mesh.indices.now g }
+    {
+        let c = 4 * g;
+        Some([
+            self.ring_size(c)?,
+            self.ring_size(c + 1)?,
+            self.ring_size(c + 2)?,
+            self.ring_size(c + 3)?,
+        ])
+    }
 }
 
 // The cosines at four vertices with so many faces.
-pub(crate) fn cosines_of(valences: &[usize]) -> [i32; 4]
-    requires { length valences.now ≡ 4 }
-    ensures { result ≡ list_below (λ s. cosine (get_or valences.now s 0)) 4 }
+pub(crate) fn cosines_of(valences: &[usize; 4]) -> [i32; 4]
+    ensures { result ≡ cosines_from valences.now }
 {
-    [
-        cosine::cosine(valences[0]),
-        cosine::cosine(valences[1]),
-        cosine::cosine(valences[2]),
-        cosine::cosine(valences[3]),
-    ]
+    std::array::from_fn(|s| cosine::cosine(valences[s]))
 }

@@ -1,16 +1,16 @@
 // What the six vectors of each side of a face are made of: the corner vectors at its ends, and the control values near it.
-ghost use Rattle.std.specs.Prelude.{◌≡◌, ◌≤◌, ◌<◌, length};
-ghost use Rattle.finite.specs.Filled.{filled};
-ghost use Rattle.tangent.specs.Told.{PartSource, SideSource, part_for, part_told, parts_told};
+ghost use Rattle.std.specs.Prelude.{◌≡◌, ◌≤◌, ◌<◌};
+ghost use Rattle.tangent.specs.Told.{SideSource, part_for, part_told, parts_told};
+ghost use Rattle.tangent.specs.Lists.{parts_from};
 
-use crate::ring::corner_vector;
-use crate::side::negated;
-use control::value::{edge_value, inner_value};
-use corner::{next_corner, wide};
+use crate::NUMBERS;
+use crate::ring::{CORNERS, Tables};
+use control::value::Coordinate;
+use corner::next_corner;
 
 // The parts of a side: two corner vectors, two edge points, and the inner points behind them.
-#[derive(Clone, Copy)]
-pub enum Part {
+#[derive(Clone, Copy, Debug, PartialEq, Eq)]
+pub(crate) enum Part {
     AtStart,
     AtEnd,
     Near,
@@ -20,7 +20,7 @@ pub enum Part {
 }
 
 // The order of the parts in their list.
-const PARTS: [Part; 6] = [
+static PARTS: [Part; 6] = [
     Part::AtStart,
     Part::AtEnd,
     Part::Near,
@@ -30,65 +30,38 @@ const PARTS: [Part; 6] = [
 ];
 
 // A part of the side of half-edge c, coordinate k: n and m faces are at its start and at its end.
-fn part_of(
-    values: &[i32; 4096],
-    twins: &[u16; 1024],
-    edge: &[i32],
-    face: &[i32],
-    n: usize,
-    m: usize,
-    k: usize,
-    c: usize,
-    p: Part,
-) -> i64
-    requires { PartSource values.now edge.now face.now n m }
-    ensures { result ≡ part_told values.now twins.now n m k c (part_for p) }
+fn part_of(tables: Tables, n: usize, m: usize, k: usize, c: usize, p: Part) -> i64
+    requires { (n ≤ 16) × (m ≤ 16) }
+    ensures { result ≡ part_told tables.entry.values.now tables.entry.twins.now n m k c (part_for p) }
 {
-    let d = wide(twins[c % 1024]);
+    let d = usize::from(tables.twins[c % CORNERS]);
+    let values = tables.values;
+    let at = Coordinate { values, k };
     match p {
-        Part::AtStart => corner_vector(values, twins, edge, face, n, k, c),
-        Part::AtEnd => negated(corner_vector(values, twins, edge, face, m, k, d)),
-        Part::Near => edge_value(values, n as u16, k, c, d).units,
-        Part::Far => edge_value(values, m as u16, k, d, c).units,
-        Part::InnerNear => inner_value(values, n as u16, k, c).units,
-        Part::InnerFar => inner_value(values, m as u16, k, next_corner(c)).units,
+        Part::AtStart => tables.corner_vector(n, k, c),
+        Part::AtEnd => -tables.corner_vector(m, k, d),
+        Part::Near => at.edge(n as u16, c, d).units,
+        Part::Far => at.edge(m as u16, d, c).units,
+        Part::InnerNear => at.inner(n as u16, c).units,
+        Part::InnerFar => at.inner(m as u16, next_corner(c)).units,
     }
 }
 
 // Number j of the list of parts of face g: part j / 12 of side j % 12 / 3, coordinate j % 3.
-fn listed_part(
-    values: &[i32; 4096],
-    twins: &[u16; 1024],
-    valences: &[usize; 4],
-    edge: &[i32],
-    face: &[i32],
-    g: usize,
-    j: usize,
-) -> i64
-    requires { SideSource values.now valences.now edge.now face.now g × (j < 72) }
-    ensures { result ≡ parts_told values.now twins.now valences.now g j }
+fn listed_part(tables: Tables, valences: &[usize; 4], g: usize, j: usize) -> i64
+    requires { SideSource valences.now g × (j < 72) }
+    ensures { result ≡ parts_told tables.entry.values.now tables.entry.twins.now valences.now g j }
 {
     let s = j % 12 / 3;
     let n = valences[s];
     let m = valences[(s + 1) % 4];
-    let p = PARTS[j / 12];
-    part_of(values, twins, edge, face, n, m, j % 3, 4 * g + s, p)
+    part_of(tables, n, m, j % 3, 4 * g + s, PARTS[j / 12])
 }
 
-// Writes the parts of all four sides over the first 72 places of the list.
-pub(crate) fn fill_parts(
-    values: &[i32; 4096],
-    twins: &[u16; 1024],
-    valences: &[usize; 4],
-    edge: &[i32],
-    face: &[i32],
-    g: usize,
-    parts: &mut [i64],
-)
-    requires { SideSource values.now valences.now edge.now face.now g × (72 ≤ length parts.old) }
-    ensures { parts.new ≡ filled (parts_told values.now twins.now valences.now g) 72 parts.old }
+// The parts of all four sides of face g.
+pub(crate) fn side_parts(tables: Tables, valences: &[usize; 4], g: usize) -> [i64; NUMBERS]
+    requires { SideSource valences.now g }
+    ensures { result ≡ parts_from tables.entry.values.now tables.entry.twins.now valences.now g }
 {
-    for j in 0..72 {
-        parts[j] = listed_part(values, twins, valences, edge, face, g, j);
-    }
+    std::array::from_fn(|j| listed_part(tables, valences, g, j))
 }

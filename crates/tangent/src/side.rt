@@ -1,11 +1,11 @@
 // The six tangent vectors of a side, of one coordinate, from the numbers that they are made of.
-ghost use Rattle.std.specs.Prelude.{◌≡◌, ◌≤◌, ◌^◌, neg_ℤ, nat_abs};
+ghost use Rattle.std.specs.Prelude.{◌≡◌, ◌≤◌, ◌^◌, nat_abs};
 ghost use Rattle.tangent.specs.Vector.{triple_difference, first_term, corrected as corrected_by};
 ghost use Rattle.tangent.specs.Lists.{vector_kind_of, vector_of, SideSized, TermSized, IntoSized};
 
 // The six vectors of a side.
-#[derive(Clone, Copy)]
-pub enum VectorKind {
+#[derive(Clone, Copy, Debug, PartialEq, Eq)]
+pub(crate) enum VectorKind {
     Start,
     Middle,
     End,
@@ -16,16 +16,19 @@ pub enum VectorKind {
 
 // One coordinate of a side: the corner vectors along it, its edge points and the inner points behind them, and the cosines at its ends.
 #[derive(Clone, Copy)]
-pub struct Side {
-    pub start: i64,
-    pub end: i64,
-    pub near: i64,
-    pub far: i64,
-    pub inner_near: i64,
-    pub inner_far: i64,
-    pub start_cosine: i32,
-    pub end_cosine: i32,
+pub(crate) struct Side {
+    pub(crate) start: i64,
+    pub(crate) end: i64,
+    pub(crate) near: i64,
+    pub(crate) far: i64,
+    pub(crate) inner_near: i64,
+    pub(crate) inner_far: i64,
+    pub(crate) start_cosine: i32,
+    pub(crate) end_cosine: i32,
 }
+
+// The divisor of a corrected vector: three times the cosine 1 as it is stored, 3 * 2^20.
+const DIVISOR: u32 = 3_145_728;
 
 // Three times the difference of two control values.
 fn triple_difference(y: i64, z: i64) -> i64
@@ -40,7 +43,7 @@ fn cosine_term(k0: i32, k1: i32, u0: i64, u1: i64) -> i64
     requires { TermSized k0 k1 u0 u1 }
     ensures { (result ≡ first_term k0 k1 u0 u1) × (nat_abs result ≤ 2 ^ 60) }
 {
-    2 * k0 as i64 * u1 - k1 as i64 * u0
+    2 * i64::from(k0) * u1 - i64::from(k1) * u0
 }
 
 // The vector with this cosine term and this difference, rounded once.
@@ -48,7 +51,7 @@ fn corrected(term: i64, x: i64) -> i64
     requires { (nat_abs term ≤ 2 ^ 60) × (nat_abs x ≤ 2 ^ 38) }
     ensures { (result ≡ corrected_by term x) × (nat_abs result ≤ 2 ^ 61) }
 {
-    integer::round(term + 3145728 * x, 3145728).value
+    integer::round(term + i64::from(DIVISOR) * x, DIVISOR).value
 }
 
 // The vector into the face near an end of a side: the cosines there and at the other end, the corner vector there, the edge points near that end
@@ -59,14 +62,6 @@ fn into(k0: i32, k1: i32, u0: i64, near: i64, far: i64, inner: i64) -> i64
 {
     let term = cosine_term(k0, k1, u0, triple_difference(far, near));
     corrected(term, triple_difference(inner, near))
-}
-
-// The negation of a number.
-pub(crate) fn negated(z: i64) -> i64
-    requires { nat_abs z ≤ 2 ^ 35 }
-    ensures { result ≡ neg_ℤ z }
-{
-    -z
 }
 
 // A vector of the side. Seen from its other end, the side has its two ends exchanged, and what runs along it reversed.
@@ -90,7 +85,7 @@ pub(crate) fn vector(a: Side, kind: VectorKind) -> i64
         VectorKind::EndIn => into(
             a.end_cosine,
             a.start_cosine,
-            negated(a.end),
+            -a.end,
             a.far,
             a.near,
             a.inner_far,

@@ -14,7 +14,8 @@ fn main(rt: HostRuntime) {
         return;
     }
     let mut patches = [0i32; printing::PATCH_PLACES];
-    printing::print(
+    // the text says whether the file was refused
+    let _ = printing::print(
         input.as_slice(),
         &mut patches,
         b"tessellate: write failed, the listing is incomplete\n",

@@ -1,28 +1,31 @@
 -- The printed texts: how many digits a number has, texts stored one behind the other, and a whole line.
-use mathlib.Core.Path.{◌≡◌, refl, sym, ap, ◌∙◌, subst}
+use mathlib.Core.Path.{◌≡◌, refl, sym, ap, ap₂, ◌∙◌, subst}
 use mathlib.Core.Bool.{Bool, true, false, cond}
-use mathlib.Core.List.{List, [], ◌∷◌, ◌++◌}
+use mathlib.Core.List.{List, [], ◌∷◌, ◌++◌, append_assoc}
 use Prim.Native.Nat.{ℕ, zero, suc, ◌+◌, ◌/◌, ◌%◌, ◌^◌, ◌≤◌, ◌<◌}
 use native.Mathlib.Nat.{add-zero, zero-add, div-lt_iff_lt-mul, pow-suc, lt_of_lt_of_le}
 use native.Mathlib.Omega.{arith}
-use lib.Dec.{T, ltb, lit<, lit≤}
-use lib.IntN.{ℤ, pos, negsuc, nat_abs}
-use lib.Signed.{lt_z}
-use lib.ListN.{length, drop, set, length-append, length-drop}
-use lib.Seq.{sets, sets-eq, length-sets, append_snoc}
+use lib.Dec.{ltb, lit<, lit≤}
+use lib.IntN.{ℤ, pos, negsuc}
+use lib.ListN.{length, take, drop, set, length-append, length-drop}
+use lib.Seq.{sets, sets-eq, length-sets, drop-drop}
 use mir.Syntax.{w32}
+use borrow.Rule.Slice.PartMut.{put_mid}
+use Rattle.std.specs.Prelude.{map}
 use mir.Val.{SFits}
-use borrow.Author.Tests.{lt-ltb, le-ltb, ltb-true}
+use borrow.Author.Tests.{lt-ltb, le-ltb}
 use Rattle.integer.proofs.Cases.{cond_cases}
-use Rattle.text.specs.Text.{digits, decimal, text, line_places, printed_after, Printed}
-use Rattle.text.specs.Put.{Put, field}
+use Rattle.text.specs.Text.{digits, decimal, text, words, line_places, printed_after, Printed}
+use Rattle.text.specs.declared.Line.{Line}
+use Rattle.text.specs.declared.Word.{Word}
+use Rattle.text.specs.Put.{Put, Room, two_digits, word_text}
 
 -- ---- digits
 one-digit : (k n : ℕ) → n < 10 → digits (suc k) n ≡ (48 + n) ∷ []
 unfolding digits
 one-digit k n h = rw (lt-ltb n 10 h)
 
-more-digits : (k n : ℕ) → 10 ≤ n → digits (suc k) n ≡ field (digits k (n / 10)) (48 + n % 10)
+more-digits : (k n : ℕ) → 10 ≤ n → digits (suc k) n ≡ digits k (n / 10) ++ ((48 + n % 10) ∷ [])
 unfolding digits
 more-digits k n h = rw (le-ltb n 10 h)
 
@@ -35,43 +38,34 @@ unfolding digits
 spare zero j n l h = one-digit j n h ∙ sym (one-digit 0 n h)
 spare (suc k) zero n l h = absurd (omega arith)
 spare (suc k) (suc j) n l h =
-    ap (λ (t : List ℕ). cond (ltb n 10) ((48 + n) ∷ []) (field t (48 + n % 10))) (spare k j (n / 10) (omega arith) (tenth (suc k) n h))
+    ap (λ (t : List ℕ). cond (ltb n 10) ((48 + n) ∷ []) (t ++ ((48 + n % 10) ∷ []))) (spare k j (n / 10) (omega arith) (tenth (suc k) n h))
 
 digits-length : (k n : ℕ) → length (digits k n) ≤ k
 unfolding digits
 digits-length zero n = omega arith
 digits-length (suc k) n =
-    cond_cases (ltb n 10) ((48 + n) ∷ []) (field (digits k (n / 10)) (48 + n % 10)) (λ t. length t ≤ suc k)
+    cond_cases (ltb n 10) ((48 + n) ∷ []) (digits k (n / 10) ++ ((48 + n % 10) ∷ [])) (λ t. length t ≤ suc k)
     (λ a. omega arith)
     (λ a. omega (arith, length-append (digits k (n / 10)) ((48 + n % 10) ∷ []), digits-length k (n / 10)))
 
 pub decimal-one : (n : ℕ) → n < 10 → decimal n ≡ (48 + n) ∷ []
 decimal-one n h = one-digit 19 n h
 
-pub decimal-more : (n : ℕ) → n < 2 ^ 64 → 10 ≤ n → decimal n ≡ field (decimal (n / 10)) (48 + n % 10)
+pub decimal-more : (n : ℕ) → n < 2 ^ 64 → 10 ≤ n → decimal n ≡ decimal (n / 10) ++ ((48 + n % 10) ∷ [])
 decimal-more n f h =
     more-digits 19 n h
-    ∙ ap (λ (t : List ℕ). field t (48 + n % 10)) (sym (spare 18 19 (n / 10) (lit≤ tt) (tenth 19 n (lt_of_lt_of_le f (lit≤ tt)))))
+    ∙ ap (λ (t : List ℕ). t ++ ((48 + n % 10) ∷ [])) (sym (spare 18 19 (n / 10) (lit≤ tt) (tenth 19 n (lt_of_lt_of_le f (lit≤ tt)))))
 
-pub decimal-two : (n : ℕ) → n < 100 → 10 ≤ n → decimal n ≡ field ((48 + n / 10) ∷ []) (48 + n % 10)
-decimal-two n f h = decimal-more n (lt_of_lt_of_le f (lit≤ tt)) h ∙ ap (λ (t : List ℕ). field t (48 + n % 10)) (decimal-one (n / 10) (omega arith))
+pub decimal-two : (n : ℕ) → n < 100 → 10 ≤ n → decimal n ≡ two_digits n
+decimal-two n f h = decimal-more n (lt_of_lt_of_le f (lit≤ tt)) h ∙ ap (λ (t : List ℕ). t ++ ((48 + n % 10) ∷ [])) (decimal-one (n / 10) (omega arith))
 
-pub decimal-hundred : (n : ℕ) → n < 2 ^ 64 → 100 ≤ n → decimal n ≡ field (field (decimal (n / 100)) (48 + n / 10 % 10)) (48 + n % 10)
+pub decimal-hundred : (n : ℕ) → n < 2 ^ 64 → 100 ≤ n → decimal n ≡ decimal (n / 100) ++ two_digits (n % 100)
 decimal-hundred n f h =
-    let tens : decimal (n / 10) ≡ field (decimal (n / 10 / 10)) (48 + n / 10 % 10) = decimal-more (n / 10) (omega (arith, f)) (omega arith) in
-    let hundreds : n / 10 / 10 ≡ n / 100 = omega arith in
+    let tens : decimal (n / 10) ≡ decimal (n / 10 / 10) ++ ((48 + n / 10 % 10) ∷ []) = decimal-more (n / 10) (omega (arith, f)) (omega arith) in
     decimal-more n f (omega arith)
-    ∙ ap (λ (t : List ℕ). field t (48 + n % 10)) (tens ∙ ap (λ (m : ℕ). field (decimal m) (48 + n / 10 % 10)) hundreds)
-
-pub decimal-longer : (n : ℕ) → n < 2 ^ 64 → 100 ≤ n → length (decimal n) ≡ length (decimal (n / 100)) + 2
-decimal-longer n f h =
-    let tens = field (decimal (n / 100)) (48 + n / 10 % 10) in
-    omega (
-      arith,
-      ap length (decimal-hundred n f h),
-      length-append tens ((48 + n % 10) ∷ []),
-      length-append (decimal (n / 100)) ((48 + n / 10 % 10) ∷ []),
-    )
+    ∙ ap (λ (t : List ℕ). t ++ ((48 + n % 10) ∷ [])) tens
+    ∙ append_assoc (decimal (n / 10 / 10)) ((48 + n / 10 % 10) ∷ []) ((48 + n % 10) ∷ [])
+    ∙ ap₂ (λ (m : ℕ) (t : List ℕ). decimal m ++ t) (omega arith) (ap₂ (λ (i j : ℕ). (48 + i) ∷ ((48 + j) ∷ [])) (omega arith) (omega arith))
 
 pub decimal-length : (n : ℕ) → length (decimal n) ≤ 20
 decimal-length n = digits-length 20 n
@@ -80,14 +74,6 @@ decimal-short : (n : ℕ) → n ≤ 2 ^ 31 → length (decimal n) ≤ 10
 decimal-short n h = rw (spare 9 19 n (lit≤ tt) (omega arith)) (digits-length 10 n)
 
 -- ---- signed numbers
-pub text-negative : (z : ℤ) → lt_z z (pos 0) ≡ true → 45 ∷ decimal (nat_abs z) ≡ text z
-text-negative (pos n) t = absurd (omega (arith, ltb-true n 0 t))
-text-negative (negsuc n) t = refl
-
-pub text-not-negative : (z : ℤ) → lt_z z (pos 0) ≡ false → decimal (nat_abs z) ≡ text z
-text-not-negative (pos n) t = refl
-text-not-negative (negsuc n) t = absurd (subst T t tt)
-
 pub text-length : (z : ℤ) → SFits w32 z → length (text z) ≤ 11
 text-length (pos n) f = omega (arith, decimal-short n (omega (arith, f.sfits)))
 text-length (negsuc n) f = omega (arith, decimal-short (suc n) (omega (arith, f.sfits)))
@@ -98,37 +84,55 @@ sets-append l at [] u = ap (λ (i : ℕ). sets l i u) (sym (add-zero at))
 sets-append l at (a ∷ t) u =
     sets-append (set l at a) (suc at) t u ∙ ap (λ (i : ℕ). sets (sets (set l at a) (suc at) t) i u) (omega arith)
 
-pub put-length : {t l m : List ℕ} {at r : ℕ} → Put t at l m r → length m ≡ length l
-put-length {t} {l} {m} {at} a = ap length a.list ∙ length-sets l at t
+pub put-length : {t : List ℕ} {l m : Line} → Put t l m → length m.places.now ≡ length l.places.now
+put-length {t} {l} a = ap length a.list ∙ length-sets l.places.now l.at t
 
-pub put_one : (b at : ℕ) (l : List ℕ) → Put (b ∷ []) at l (set l at b) (at + 1)
-put_one b at l = record { place = refl; list = refl }
-
-pub put_then : {t u l m k : List ℕ} {at p r : ℕ} → Put t at l m p → Put u p m k r → Put (t ++ u) at l k r
-put_then {t} {u} {l} {m} {k} {at} a b = record {
+pub put_then : {t u : List ℕ} {l m k : Line} → Put t l m → Put u m k → Put (t ++ u) l k
+put_then {t} {u} {l} {m} {k} a b = record {
+  same = b.same ∙ a.same;
   place = omega (arith, length-append t u, a.place, b.place);
-  list = rw (sets-append l at t u, ← a.list, ← a.place) b.list;
+  list = b.list ∙ ap₂ (λ (x : List ℕ) (i : ℕ). sets x i u) a.list a.place ∙ sym (sets-append l.places.now l.at t u);
 }
 
--- one byte behind a text
-pub put-field : {t l m : List ℕ} {at p : ℕ} (end : ℕ) → Put t at l m p → Put (field t end) at l (set m p end) (p + 1)
-put-field end a = put_then a (put_one end _ _)
+-- a text that is copied as a whole
+pub sets-part : (l : List ℕ) (at k : ℕ) (t : List ℕ) → at + length t ≤ length l → k ≡ length t → put_mid at k l t ≡ sets l at t
+sets-part l at k t h e =
+    ap (λ (x : List ℕ). take at l ++ (t ++ x)) (drop-drop k at l ∙ ap (λ (i : ℕ). drop (at + i) l) e)
+    ∙ sym (append_assoc (take at l) t (drop (at + length t) l))
+    ∙ sym (sets-eq t l at h)
 
 -- a word of a line, its blank, and the words behind it
-pub put_word : (t : List ℕ) {u l m k : List ℕ} {at p r : ℕ} → Put (field t 32) at l m p → Put u p m k r → Put (t ++ (32 ∷ u)) at l k r
-put_word t {u} {l} {m} {k} {at} {p} {r} a b = subst (λ (x : List ℕ). Put x at l k r) (append_snoc t 32 u) (put_then a b)
+pub words-more : (w : Word) (ws : List Word) (last : Word)
+    → words (map word_text (w ∷ (ws ++ (last ∷ [])))) ≡ word_text w ++ (32 ∷ words (map word_text (ws ++ (last ∷ []))))
+words-more w [] last = refl
+words-more w (v ∷ ws) last = refl
+
+-- The line `now` has room for the words that are left, and they make the line that began as `begin` one with all words.
+pub record Left (all rest : List Word) (begin now : Line) : Type 0 where
+  pub room : Room (words (map word_text rest)) now
+  pub put : (m : Line) → Put (words (map word_text rest)) now m → Put (words (map word_text all)) begin m
+
+module _ {all : List Word} {w : Word} (ws : List Word) (last : Word) {begin now m : Line} (left : Left all (w ∷ (ws ++ (last ∷ []))) begin now)
+    (put : Put (word_text w) now m) where
+  pub left-room : Room (32 ∷ words (map word_text (ws ++ (last ∷ [])))) m
+  left-room =
+      let t = word_text w in
+      let r = 32 ∷ words (map word_text (ws ++ (last ∷ []))) in
+      omega (arith, put.place, put-length put, length-append t r, ap length (words-more w ws last), left.room)
+
+  -- behind a word and its blank
+  pub left-more : {k : Line} → Put (32 ∷ []) m k → Left all (ws ++ (last ∷ [])) begin k
+  left-more {k} blank = record {
+    room = omega (arith, left-room, blank.place, put-length blank);
+    put = λ n p. left.put n (subst (λ (t : List ℕ). Put t now n) (sym (words-more w ws last)) (put_then put (put_then blank p)));
+  }
 
 -- ---- a whole line
-pub printed : {t l m : List ℕ} {r : ℕ} → line_places ≤ length l → r ≤ line_places → Put t 0 l m r → Printed t l m r
-printed {t} {l} h q a = record {
-  places = rw (le-ltb (length l) line_places h) (a.place ∙ zero-add (length t));
-  list =
-      rw (le-ltb (length l) line_places h)
-      (a.list ∙ sets-eq t l 0 (omega (arith, a.place)) ∙ ap (λ (i : ℕ). t ++ drop i l) (zero-add (length t)));
+pub printed : {t l m : List ℕ} {r : ℕ} → line_places ≤ length l → length t ≤ line_places → r ≡ 0 + length t → m ≡ sets l 0 t → Printed t l m r
+printed {t} {l} h q p e = record {
+  places = rw (le-ltb (length l) line_places h) (p ∙ zero-add (length t));
+  list = rw (le-ltb (length l) line_places h) (e ∙ sets-eq t l 0 (omega arith) ∙ ap (λ (i : ℕ). t ++ drop i l) (zero-add (length t)));
 }
-
-pub unprinted : (t l : List ℕ) → length l < line_places → Printed t l l 0
-unprinted t l h = record { places = rw (lt-ltb (length l) line_places h); list = rw (lt-ltb (length l) line_places h) }
 
 -- what was returned is no place beyond the list
 pub printed-within : {t l m : List ℕ} {r : ℕ} → length m ≡ length l → Printed t l m r → r ≤ length l

@@ -1,17 +1,28 @@
 -- What the private functions of `text` store.
 --
---   Put t at before after r   the text t was stored from place `at` on, and nothing else; r is the place behind it
---   field t end           the text t and the byte behind it, a blank or the line's end
---   refused               the bytes of the word `refused`
-use Rattle.std.specs.Prelude.{◌≡◌, List, [], ◌∷◌, ◌++◌, ℕ, ◌+◌, length}
+--   Put t before after    the text t was written to a line behind what was written, and nothing else
+--   Room t line           the line has room for the text t
+--   two_digits n          the two digits of an n below 100, also a zero in front
+--   word_text w           the text of a word
+use Rattle.std.specs.Prelude.{◌≡◌, List, [], ◌∷◌, ℕ, ◌+◌, ◌/◌, ◌%◌, ◌≤◌, length}
 use Rattle.std.proofs.lemmas.List.Edits.{sets}
+use Rattle.text.specs.Text.{decimal, text}
+use Rattle.text.specs.declared.Line.{Line}
+use Rattle.text.specs.declared.Word.{Word}
+use Rattle.text.specs.declared.Word.TheVariants.{Refused, Natural, Signed}
 
-pub record Put (t : List ℕ) (at : ℕ) (before after : List ℕ) (r : ℕ) : Type 0 where
-  pub place : r ≡ at + length t
-  pub list : after ≡ sets before at t
+pub record Put (t : List ℕ) (before after : Line) : Type 0 where
+  pub same : after.places.ghost_name ≡ before.places.ghost_name
+  pub place : after.at ≡ before.at + length t
+  pub list : after.places.now ≡ sets before.places.now before.at t
 
-abbrev pub field : List ℕ → ℕ → List ℕ
-field t end = t ++ (end ∷ [])
+abbrev pub Room : List ℕ → Line → Type 0
+Room t line = line.at + length t ≤ length line.places.now
 
-abbrev pub refused : List ℕ
-refused = 114 ∷ 101 ∷ 102 ∷ 117 ∷ 115 ∷ 101 ∷ 100 ∷ []
+abbrev pub two_digits : ℕ → List ℕ
+two_digits n = (48 + n / 10) ∷ ((48 + n % 10) ∷ [])
+
+abbrev pub word_text : Word → List ℕ
+word_text Refused = 114 ∷ 101 ∷ 102 ∷ 117 ∷ 115 ∷ 101 ∷ 100 ∷ []
+word_text (Natural n) = decimal n
+word_text (Signed z) = text z

@@ -1,91 +1,124 @@
 //! The text of the printed lines, in ASCII.
 #![tactic(auto)]
 
-ghost use Rattle.std.specs.Prelude.{◌+◌, ◌≤◌, ◌<◌, length};
-ghost use Rattle.text.specs.Text.{decimal, text, counts_line, sample_line, refusal_line, Printed};
-ghost use Rattle.text.specs.Put.{Put, field, refused};
+ghost use Rattle.std.specs.Prelude.{◌≡◌, ◌+◌, ◌≤◌, ◌<◌, length, [], ◌∷◌, map};
+ghost use Rattle.text.specs.Text.{words, decimal, text, counts_line, sample_line, refusal_line, Printed};
+ghost use Rattle.text.specs.Put.{Put, Room, two_digits, word_text};
 
 // The places that are enough for every line.
 pub const LINE_PLACES: usize = 128;
 
-// Stores the digits of an n below 100 from a place on, and returns the place behind them.
-fn put_short(n: usize, line: &mut [u8], at: usize) -> usize
-    requires { (n < 100) × (at + length (decimal n) ≤ length line.old) }
-    ensures { Put (decimal n) at line.old line.new result }
-{
-    if n < 10 {
-        line[at] = b'0' + n as u8;
-        return at + 1;
+// A word of a line.
+#[derive(Clone, Copy)]
+enum Word {
+    Refused,
+    Natural(usize),
+    Signed(i32),
+}
+
+// A line that is written from its front on: its places, and how many of them are written.
+#[derive(Drop)]
+struct Line<'a> {
+    places: &'a mut [u8],
+    at: usize,
+}
+
+impl<'a> Line<'a> {
+    // Writes a byte.
+    fn byte(&mut self, b: u8)
+        requires { Room (b ∷ []) self.old }
+        ensures { Put (b ∷ []) self.old self.new }
+    {
+        self.places[self.at] = b;
+        self.at += 1;
     }
-    line[at] = b'0' + (n / 10) as u8;
-    let ones = at + 1;
-    line[ones] = b'0' + (n % 10) as u8;
-    ones + 1
-}
 
-// Stores the digits of n from a place on, and returns the place behind them. Two digits a call, as printing spends most of its time on these calls.
-fn put_digits(n: usize, line: &mut [u8], at: usize) -> usize
-    requires { at + length (decimal n) ≤ length line.old }
-    ensures { Put (decimal n) at line.old line.new result }
-{
-    if n < 100 {
-        return put_short(n, line, at);
+    // Writes the two digits of an n below 100.
+    fn pair(&mut self, n: usize)
+        requires { (n < 100) × Room (two_digits n) self.old }
+        ensures { Put (two_digits n) self.old self.new }
+    {
+        self.byte(b'0' + (n / 10) as u8);
+        self.byte(b'0' + (n % 10) as u8);
     }
-    let tens = put_digits(n / 100, line, at);
-    line[tens] = b'0' + (n / 10 % 10) as u8;
-    let last = tens + 1;
-    line[last] = b'0' + (n % 10) as u8;
-    last + 1
-}
 
-// Stores the text of z from a place on, with a minus sign where z is negative, and returns the place behind it.
-fn put_signed(z: i32, line: &mut [u8], at: usize) -> usize
-    requires { at + 11 ≤ length line.old }
-    ensures { Put (text z) at line.old line.new result }
-{
-    let size = integer::magnitude(z as i64) as usize;
-    if z < 0 {
-        line[at] = b'-';
-        return put_digits(size, line, at + 1);
+    // Writes the digits of n, two a call, as printing spends most of its time here.
+    fn digits(&mut self, n: usize)
+        requires { Room (decimal n) self.old }
+        ensures { Put (decimal n) self.old self.new }
+    {
+        if n < 10 {
+            self.byte(b'0' + n as u8);
+        } else if n < 100 {
+            self.pair(n);
+        } else {
+            self.digits(n / 100);
+            self.pair(n % 100);
+        }
     }
-    put_digits(size, line, at)
+
+    // Writes z, with a minus sign where z is negative.
+    fn signed(&mut self, z: i32)
+        requires { Room (text z) self.old }
+        ensures { Put (text z) self.old self.new }
+    {
+        if z < 0 {
+            self.byte(b'-');
+        }
+        self.digits(z.unsigned_abs() as usize);
+    }
+
+    // Writes the word `refused`.
+    fn refused(&mut self)
+        requires { Room (word_text Word.Refused) self.old }
+        ensures { Put (word_text Word.Refused) self.old self.new }
+    {
+        let end = self.at + 7;
+        self.places[self.at..end].copy_from_slice(b"refused");
+        self.at = end;
+    }
+
+    // Writes a word.
+    fn word(&mut self, word: Word)
+        requires { Room (word_text word) self.old }
+        ensures { Put (word_text word) self.old self.new }
+    {
+        match word {
+            Word::Refused => self.refused(),
+            Word::Natural(n) => self.digits(n),
+            Word::Signed(z) => self.signed(z),
+        }
+    }
+
+    // Writes words, with a blank behind each but the last, and behind that the line's end.
+    fn words(&mut self, all: &[Word])
+        requires { Room (words (map word_text all.now)) self.old }
+        ensures { Put (words (map word_text all.now)) self.old self.new }
+    {
+        let Some((last, others)) = all.split_last() else {
+            return self.byte(b'\n');
+        };
+        for word in others {
+            self.word(*word);
+            self.byte(b' ');
+        }
+        self.word(*last);
+        self.byte(b'\n');
+    }
 }
 
-// Stores a number and the byte behind it, and returns the place behind that.
-fn put_number(n: usize, end: u8, line: &mut [u8], at: usize) -> usize
-    requires { at + 21 ≤ length line.old }
-    ensures put { Put (field (decimal n) end) at line.old line.new result }
-    ensures upper_bound { result ≤ at + 21 }
+// The length 0 for no room, and no Option: the three calls below promise it (docs/SPECIFICATION.md).
+// Writes a line of words to the front of `places` and gives its length, with its end; writes nothing and gives 0 where there are fewer than 128 places.
+fn write_line(all: &[Word], places: &mut [u8]) -> usize
+    requires { length (words (map word_text all.now)) ≤ 128 }
+    ensures { Printed (words (map word_text all.now)) places.old places.new result }
 {
-    let last = put_digits(n, line, at);
-    line[last] = end;
-    last + 1
-}
-
-// Stores a signed number and the byte behind it, and returns the place behind that.
-fn put_coordinate(z: i32, end: u8, line: &mut [u8], at: usize) -> usize
-    requires { at + 12 ≤ length line.old }
-    ensures put { Put (field (text z) end) at line.old line.new result }
-    ensures upper_bound { result ≤ at + 12 }
-{
-    let last = put_signed(z, line, at);
-    line[last] = end;
-    last + 1
-}
-
-// Stores `refused` and a blank at the front.
-fn put_refused(line: &mut [u8])
-    requires { 8 ≤ length line.old }
-    ensures { Put (field refused 32) 0 line.old line.new 8 }
-{
-    line[0] = b'r';
-    line[1] = b'e';
-    line[2] = b'f';
-    line[3] = b'u';
-    line[4] = b's';
-    line[5] = b'e';
-    line[6] = b'd';
-    line[7] = b' ';
+    if places.len() < LINE_PLACES {
+        return 0;
+    }
+    let mut line = Line { places, at: 0 };
+    line.words(all);
+    line.at
 }
 
 // The line of an accepted mesh's counts V, F, E, B.
@@ -97,13 +130,8 @@ fn put_refused(line: &mut [u8])
 pub fn counts_line(v: usize, f: usize, e: usize, b: usize, line: &mut [u8]) -> usize
     ensures { Printed (counts_line v f e b) line.old line.new result }
 {
-    if line.len() < LINE_PLACES {
-        return 0;
-    }
-    let f_at = put_number(v, b' ', line, 0);
-    let e_at = put_number(f, b' ', line, f_at);
-    let b_at = put_number(e, b' ', line, e_at);
-    put_number(b, b'\n', line, b_at)
+    use Word::Natural;
+    write_line(&[Natural(v), Natural(f), Natural(e), Natural(b)], line)
 }
 
 // The line of a sample: face, a, b, x, y, z.
@@ -111,15 +139,18 @@ pub fn counts_line(v: usize, f: usize, e: usize, b: usize, line: &mut [u8]) -> u
 pub fn sample_line(f: usize, a: usize, b: usize, x: i32, y: i32, z: i32, line: &mut [u8]) -> usize
     ensures { Printed (sample_line f a b x y z) line.old line.new result }
 {
-    if line.len() < LINE_PLACES {
-        return 0;
-    }
-    let a_at = put_number(f, b' ', line, 0);
-    let b_at = put_number(a, b' ', line, a_at);
-    let x_at = put_number(b, b' ', line, b_at);
-    let y_at = put_coordinate(x, b' ', line, x_at);
-    let z_at = put_coordinate(y, b' ', line, y_at);
-    put_coordinate(z, b'\n', line, z_at)
+    use Word::{Natural, Signed};
+    write_line(
+        &[
+            Natural(f),
+            Natural(a),
+            Natural(b),
+            Signed(x),
+            Signed(y),
+            Signed(z),
+        ],
+        line,
+    )
 }
 
 // The line of a refusal.
@@ -127,9 +158,5 @@ pub fn sample_line(f: usize, a: usize, b: usize, x: i32, y: i32, z: i32, line: &
 pub fn refusal_line(k: u8, line: &mut [u8]) -> usize
     ensures { Printed (refusal_line k) line.old line.new result }
 {
-    if line.len() < LINE_PLACES {
-        return 0;
-    }
-    put_refused(line);
-    put_number(k as usize, b'\n', line, 8)
+    write_line(&[Word::Refused, Word::Natural(usize::from(k))], line)
 }

@@ -1,8 +1,8 @@
 // Runs the calls on each trial that an argument names (a file, see reading.rt), and prints one line for it, which begins with the
 // name; a patch trial, a mirror trial, a line trial, a weight trial and a tangent trial have more lines. mesh_trial.rt, patch_trial.rt,
 // mirror_trial.rt, sample_trial.rt, marked_trial.rt, line_trial.rt, weight_trial.rt and tangent_trial.rt say what follows the name. `no
-// file` says that none has that name, as a name that is no UTF-8 text, `not whole` that the file is longer or shorter than its sizes and lists, and `too long` that a list
-// has more places than reading.rt has for it.
+// file` says that none has that name, as a name that is no UTF-8 text, `not whole` that the file is longer or shorter than its sizes and
+// lists, and `too long` that a list has more places than reading.rt has for it.
 #![tactic(auto)]
 
 mod line_trial;
@@ -17,24 +17,11 @@ mod sums;
 mod tangent_trial;
 mod weight_trial;
 
-use crate::printing::print_text;
-use crate::reading::{head_length, u16_at};
+use crate::reading::{Failure, Kind, Reader};
 use std::env::{Env, FillError};
 use std::fs::File;
-use std::io::{ErrorKind, Read, Stdout};
+use std::io::{ErrorKind, Read};
 use std::{io, str};
-
-// What the file of a sample trial has where that of a mesh trial has V.
-const SAMPLE: usize = 65535;
-
-// What that of a line trial has there.
-const LINE: usize = 65529;
-
-// What that of a weight trial has there.
-const WEIGHTS: usize = 65527;
-
-// What that of a marked sample trial has there.
-const MARKED: usize = 65523;
 
 // The places for a name: one that is longer is no name of a file, and taken for the empty one.
 const NAME_PLACES: usize = 4096;
@@ -43,19 +30,17 @@ const NAME_PLACES: usize = 4096;
 const FILE_PLACES: u64 = 65536;
 
 // The trial in a file's bytes.
-fn run(out: Stdout, b: &[u8]) -> io::Result<()> {
-    let mark = u16_at(b, 0);
-    if mark == SAMPLE {
-        sample_trial::run(out, b)
-    } else if mark == LINE {
-        line_trial::run(out, b)
-    } else if mark == WEIGHTS {
-        weight_trial::run(out, b)
-    } else if mark == MARKED {
-        marked_trial::run(out, b)
-    } else {
-        let at = head_length(b);
-        mesh_trial::run(out, &b[0..at], &b[at..])
+fn run(rt: HostRuntime, bytes: &[u8]) -> Result<(), Failure> {
+    let mut file = Reader::new(bytes);
+    match Kind::from(file.number::<u16>()?) {
+        Kind::Mesh => mesh_trial::run(rt, &mut Reader::new(bytes)),
+        Kind::Patch => patch_trial::run(rt, &mut file),
+        Kind::Mirror => mirror_trial::run(rt, &mut file),
+        Kind::Tangent => tangent_trial::run(rt, &mut file),
+        Kind::Sample => sample_trial::run(rt, &mut file),
+        Kind::Marked => marked_trial::run(rt, &mut file),
+        Kind::Line => line_trial::run(rt, &mut file),
+        Kind::Weight => weight_trial::run(rt, &mut file),
     }
 }
 
@@ -68,10 +53,15 @@ fn read_file(rt: HostRuntime, file: File) -> io::Result<Vec<u8>> {
     }
 }
 
-// The trial in an open file.
+// The trial in an open file, or why it has none.
 fn run_file(rt: HostRuntime, file: File) -> io::Result<()> {
     let input = read_file(rt, file)?;
-    run(rt.stdout(), input.as_slice())
+    match run(rt, input.as_slice()) {
+        Ok(()) => Ok(()),
+        Err(Failure::NotWhole) => print!(rt; " not whole"),
+        Err(Failure::TooLong) => print!(rt; " too long"),
+        Err(Failure::Io(error)) => Err(error),
+    }
 }
 
 // The file of a name, if there is one.
@@ -82,15 +72,16 @@ fn open(rt: HostRuntime, name: &[u8]) -> Option<File> {
 
 // The trial of a name.
 fn trial(rt: HostRuntime, name: &[u8]) -> io::Result<()> {
-    let out = rt.stdout();
-    print_text(out, name)?;
+    rt.write_all(name)?;
     match open(rt, name) {
         Some(file) => run_file(rt, file)?,
-        None => print_text(out, b" no file")?,
+        None => print!(rt; " no file")?,
     }
-    print_text(out, b"\n")
+    println!(rt)
 }
 
+// Argument by argument, since `env::args` ends at a name that is no UTF-8 text, which has its line too. vectors has the same ten lines: a crate for them would
+// be no plainer.
 fn main(rt: HostRuntime) -> io::Result<()> {
     for i in 1..usize::MAX {
         let mut name = [0u8; NAME_PLACES];

@@ -1,134 +1,95 @@
-// A trial of the mesh check, and the lists of a trial of the patch call, the mirror call or the tangent call. The line of the mesh check
+// A trial of the mesh check, and the mesh of a trial of the patch call, the mirror call or the tangent call. The line of the mesh check
 // goes on
 //
 //     V F E B twins P Q R S       of an accepted mesh
 //     refused N twins P Q R S     of a refused one
 //
 // P to S are the lent twins as they are afterwards, at the places 0, 4F - 1, 4F and the last; `-` is a place that the list does not
-// have. Every place of the list holds 7 before the call. The lists of all four kinds of trial are read here; patch_trial.rt,
-// mirror_trial.rt and tangent_trial.rt go on with those that have a head.
-ghost use Rattle.std.specs.Prelude.{◌<◌};
-
-use crate::printing::{print_checked, print_twins};
-use crate::reading::{PLACES, can_run, is_mirror, is_tangent, read_i32s, read_u16s, room, u16_at};
-use crate::{mirror_trial, patch_trial, tangent_trial};
+// have. Every place of the list holds 7 before the call.
+use crate::printing::{print_answer, print_counts};
+use crate::reading::{Failure, PLACES, Reader, fits};
+use mesh::model::MeshLists;
+use std::alloc::{AllocError, Global};
 use std::io;
-use std::io::Stdout;
 
-// Where the positions begin.
-const POSITIONS_AT: usize = 12;
-
-// Where the tags begin.
-fn tags_at(b: &[u8]) -> usize
-    ensures { result < 524288 }
-{
-    POSITIONS_AT + 4 * u16_at(b, 4)
+// A mesh as a file has it, and the length of the list that is lent for its twins.
+#[derive(Drop)]
+pub(crate) struct MeshFile<'a> {
+    vertices: u16,
+    faces: u16,
+    positions: Vec<i32>,
+    tags: &'a [u8],
+    indices: Vec<u16>,
+    twins: usize,
 }
 
-// Where the faces begin.
-fn faces_at(b: &[u8]) -> usize
-    ensures { result < 1048576 }
-{
-    tags_at(b) + u16_at(b, 6)
-}
-
-// The tags; none where the file ends before they do.
-fn tags(b: &[u8]) -> &[u8] {
-    let at = tags_at(b);
-    let end = at + u16_at(b, 6);
-    if end <= b.len() {
-        return &b[at..end];
+impl<'a> MeshFile<'a> {
+    // The mesh of a file, which ends with it.
+    pub(crate) fn read(alloc: Global, file: &mut Reader<'a>) -> Result<MeshFile<'a>, Failure> {
+        let vertices = file.number()?;
+        let faces = file.number()?;
+        let positions = file.size()?;
+        let tags = file.size()?;
+        let indices = file.size()?;
+        let twins = file.size()?;
+        let mesh = MeshFile {
+            vertices,
+            faces,
+            positions: file.list(alloc, positions)?,
+            tags: file.bytes(tags)?,
+            indices: file.list(alloc, indices)?,
+            twins,
+        };
+        file.end()?;
+        Ok(mesh)
     }
-    &b[0..0]
-}
 
-// The length of a file with these sizes.
-fn length(b: &[u8]) -> usize {
-    faces_at(b) + 2 * u16_at(b, 8)
-}
-
-// Whether each list that is read or lent has room.
-fn has_room(b: &[u8]) -> bool {
-    (u16_at(b, 4) <= PLACES) & (u16_at(b, 8) <= PLACES) & (u16_at(b, 10) <= PLACES)
-}
-
-// Whether each list that a head gives a length has room.
-fn head_has_room(head: &[u8]) -> bool {
-    if is_mirror(head) {
-        return mirror_trial::has_room(head);
+    // That each list has room.
+    pub(crate) fn fits(&self) -> Result<(), Failure> {
+        fits(self.positions.len(), PLACES)?;
+        fits(self.indices.len(), PLACES)?;
+        fits(self.twins, PLACES)
     }
-    if is_tangent(head) {
-        return tangent_trial::has_room(head);
+
+    // The mesh as the calls take it.
+    pub(crate) fn lists(&self) -> MeshLists<'_> {
+        MeshLists {
+            vertices: usize::from(self.vertices),
+            faces: usize::from(self.faces),
+            positions: self.positions.as_slice(),
+            tags: self.tags,
+            indices: self.indices.as_slice(),
+        }
     }
-    patch_trial::has_room(head)
-}
 
-// The check of the mesh with its lists, and the answer and the twins printed.
-fn show(
-    out: Stdout,
-    b: &[u8],
-    positions: &[i32],
-    faces: &[u16],
-    twins: &mut [u16],
-) -> io::Result<()> {
-    let f = u16_at(b, 2);
-    print_checked(
-        out,
-        mesh::check(u16_at(b, 0), f, positions, tags(b), faces, twins),
-    )?;
-    print_twins(out, twins, 4 * f)
-}
-
-// The trial with its lists: of the check without a head, and of the mirror call, the tangent call or the patch call with one.
-fn with_twins(
-    out: Stdout,
-    head: &[u8],
-    b: &[u8],
-    positions: &[i32],
-    faces: &[u16],
-    twins: &mut [u16],
-) -> io::Result<()> {
-    let v = u16_at(b, 0);
-    let f = u16_at(b, 2);
-    if head.len() == 0 {
-        show(out, b, positions, faces, twins)
-    } else if is_mirror(head) {
-        mirror_trial::run(out, head, v, f, positions, tags(b), faces, twins)
-    } else if is_tangent(head) {
-        tangent_trial::run(out, head, v, f, positions, tags(b), faces)
-    } else {
-        patch_trial::run(out, head, v, f, positions, tags(b), faces, twins)
+    // The list for the twins.
+    pub(crate) fn lent_twins(&self, alloc: Global) -> Result<Vec<u16>, AllocError> {
+        Ok(vec![in alloc; 7u16; self.twins]?)
     }
 }
 
-// The trial with its positions and a list for its faces: reads the faces, and goes on with a list for the twins.
-fn with_faces(
-    out: Stdout,
-    head: &[u8],
-    b: &[u8],
-    positions: &[i32],
-    faces: &mut [u16],
-) -> io::Result<()> {
-    read_u16s(b, faces_at(b), faces);
-    let n = room(u16_at(b, 10));
-    let mut twins = [7u16; PLACES];
-    with_twins(out, head, b, positions, faces, &mut twins[0..n])
-}
-
-// The trial with a list for its positions: reads them, and goes on with a list for the faces.
-fn with_positions(out: Stdout, head: &[u8], b: &[u8], positions: &mut [i32]) -> io::Result<()> {
-    read_i32s(b, POSITIONS_AT, positions);
-    let n = room(u16_at(b, 8));
-    let mut faces = [0u16; PLACES];
-    with_faces(out, head, b, positions, &mut faces[0..n])
-}
-
-// The trial in a file's head and the bytes after it.
-pub(crate) fn run(out: Stdout, head: &[u8], b: &[u8]) -> io::Result<()> {
-    if !can_run(out, b, length(b), has_room(b) & head_has_room(head))? {
-        return Ok(());
+// The twins at the places 0, n - 1, n and the last; what is before place 0 is no place.
+fn print_twins(rt: HostRuntime, twins: &[u16], n: usize) -> io::Result<()> {
+    print!(rt; " twins")?;
+    for at in [
+        Some(0),
+        n.checked_sub(1),
+        Some(n),
+        twins.len().checked_sub(1),
+    ] {
+        match at.and_then(|at| twins.get(at)) {
+            Some(twin) => print!(rt; " {twin}")?,
+            None => print!(rt; " -")?,
+        }
     }
-    let n = room(u16_at(b, 4));
-    let mut positions = [0i32; PLACES];
-    with_positions(out, head, b, &mut positions[0..n])
+    Ok(())
+}
+
+// The trial in a file.
+pub(crate) fn run(rt: HostRuntime, file: &mut Reader<'_>) -> Result<(), Failure> {
+    let mesh = MeshFile::read(rt.alloc(), file)?;
+    mesh.fits()?;
+    let mut twins = mesh.lent_twins(rt.alloc())?;
+    print_answer(rt, mesh::check(mesh.lists(), &mut twins), print_counts)?;
+    Ok(print_twins(rt, &twins, 4 * usize::from(mesh.faces))?)
 }

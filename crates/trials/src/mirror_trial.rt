@@ -7,121 +7,98 @@
 // clear, 48 to a line, and a line `tags` and a line `faces` with every place. Where the call is done, a line `check` follows with the
 // answer of the mesh check on the image, and a line `image` that goes on as that of a patch trial of it (patch_trial.rt). Every place of
 // the lent lists holds 7 before the call.
-use crate::patch_trial;
-use crate::patch_trial::print_bytes;
-use crate::printing::{print_checked, print_every, print_outcome, print_text};
-use crate::reading::{PLACES, room, u16_at};
+use crate::mesh_trial::MeshFile;
+use crate::patch_trial::PatchHead;
+use crate::printing::{print_all, print_answer, print_counts, print_done};
+use crate::reading::{Failure, PLACES, Reader, fits};
 use crate::sums::print_list;
-use answer::model::Outcome;
+use mesh::model::MeshLists;
 use std::io;
-use std::io::Stdout;
 
-// Where the head of a patch trial begins in that of a mirror trial.
-const PATCH_AT: usize = 8;
-
-// The head of a patch trial in that of a mirror trial; none where there are fewer bytes.
-fn patch_head(head: &[u8]) -> &[u8] {
-    if head.len() < PATCH_AT {
-        return &head[0..0];
-    }
-    &head[PATCH_AT..]
+// The head of a mirror trial: the lengths of the lent lists, and the head of the image's patch trial.
+#[derive(Clone, Copy)]
+struct MirrorHead {
+    positions: usize,
+    tags: usize,
+    indices: usize,
+    patch: PatchHead,
 }
 
-// Whether each list that is lent has room.
-pub(crate) fn has_room(head: &[u8]) -> bool {
-    (u16_at(head, 2) <= PLACES)
-        & (u16_at(head, 4) <= PLACES)
-        & (u16_at(head, 6) <= PLACES)
-        & patch_trial::has_room(patch_head(head))
+impl MirrorHead {
+    // The head behind its first number; the first number of a patch trial is passed over.
+    fn read(file: &mut Reader<'_>) -> Result<MirrorHead, Failure> {
+        let positions = file.size()?;
+        let tags = file.size()?;
+        let indices = file.size()?;
+        file.size()?;
+        let patch = PatchHead::read(file)?;
+        Ok(MirrorHead {
+            positions,
+            tags,
+            indices,
+            patch,
+        })
+    }
+
+    // That each list has room.
+    fn fits(&self) -> Result<(), Failure> {
+        fits(self.positions, PLACES)?;
+        fits(self.tags, PLACES)?;
+        fits(self.indices, PLACES)?;
+        self.patch.fits()
+    }
+
+    // The mesh check and the patch call on an image, with what they gave printed.
+    fn show_image(
+        &self,
+        rt: HostRuntime,
+        image: MeshLists<'_>,
+        twins: &mut [u16],
+    ) -> io::Result<()> {
+        print!(rt; "\n check")?;
+        print_answer(rt, mesh::check(image, twins), print_counts)?;
+        print!(rt; "\n image")?;
+        self.patch.show(rt, image, twins)
+    }
+
+    // The mirror call on a mesh and the lent lists, with what it gave printed.
+    fn show(&self, rt: HostRuntime, mesh: MeshLists<'_>, twins: &mut [u16]) -> io::Result<()> {
+        let mut positions = vec![in rt.alloc(); 7i32; self.positions]?;
+        let mut tags = vec![in rt.alloc(); 7u8; self.tags]?;
+        let mut indices = vec![in rt.alloc(); 7u16; self.indices]?;
+        let outcome = edit::mirror(mesh, &mut positions, &mut tags, &mut indices);
+        print_answer(rt, outcome, print_done)?;
+        let image = MeshLists {
+            vertices: mesh.vertices,
+            faces: mesh.faces,
+            positions: &positions,
+            tags: &tags,
+            indices: &indices,
+        };
+        print_lists(rt, image)?;
+        if outcome.is_ok() {
+            self.show_image(rt, image, twins)?;
+        }
+        Ok(())
+    }
 }
 
 // The three lent lists after the call.
-fn print_lists(out: Stdout, positions: &[i32], tags: &[u8], faces: &[u16]) -> io::Result<()> {
-    print_text(out, b"\n positions")?;
-    print_list(out, positions)?;
-    print_text(out, b"\n tags")?;
-    print_bytes(out, tags)?;
-    print_text(out, b"\n faces")?;
-    print_every(out, faces)
+fn print_lists(rt: HostRuntime, image: MeshLists<'_>) -> io::Result<()> {
+    print!(rt; "\n positions")?;
+    print_list(rt, image.positions)?;
+    print!(rt; "\n tags")?;
+    print_all(rt, image.tags)?;
+    print!(rt; "\n faces")?;
+    print_all(rt, image.indices)
 }
 
-// The mesh check and the patch call on an image, with what they gave printed.
-fn show_image(
-    out: Stdout,
-    head: &[u8],
-    v: usize,
-    f: usize,
-    positions: &[i32],
-    tags: &[u8],
-    faces: &[u16],
-    twins: &mut [u16],
-) -> io::Result<()> {
-    print_text(out, b"\n check")?;
-    print_checked(out, mesh::check(v, f, positions, tags, faces, twins))?;
-    print_text(out, b"\n image")?;
-    patch_trial::run(out, patch_head(head), v, f, positions, tags, faces, twins)
-}
-
-// The mirror call on a mesh and the lent lists, with what it gave printed.
-fn show(
-    out: Stdout,
-    head: &[u8],
-    v: usize,
-    f: usize,
-    positions: &[i32],
-    tags: &[u8],
-    faces: &[u16],
-    twins: &mut [u16],
-    out_positions: &mut [i32],
-    out_tags: &mut [u8],
-    out_faces: &mut [u16],
-) -> io::Result<()> {
-    let outcome = edit::mirror(
-        v,
-        f,
-        positions,
-        tags,
-        faces,
-        out_positions,
-        out_tags,
-        out_faces,
-    );
-    print_outcome(out, outcome)?;
-    print_lists(out, out_positions, out_tags, out_faces)?;
-    if let Outcome::Done = outcome {
-        show_image(out, head, v, f, out_positions, out_tags, out_faces, twins)?;
-    }
-    Ok(())
-}
-
-// The trial with a file's head and the arguments of the check: goes on with lists for the image.
-pub(crate) fn run(
-    out: Stdout,
-    head: &[u8],
-    v: usize,
-    f: usize,
-    positions: &[i32],
-    tags: &[u8],
-    faces: &[u16],
-    twins: &mut [u16],
-) -> io::Result<()> {
-    let m = room(u16_at(head, 2));
-    let k = room(u16_at(head, 4));
-    let n = room(u16_at(head, 6));
-    let mut out_positions = [7i32; PLACES];
-    let mut out_tags = [7u8; PLACES];
-    let mut out_faces = [7u16; PLACES];
-    show(
-        out,
-        head,
-        v,
-        f,
-        positions,
-        tags,
-        faces,
-        twins,
-        &mut out_positions[0..m],
-        &mut out_tags[0..k],
-        &mut out_faces[0..n],
-    )
+// The trial in a file.
+pub(crate) fn run(rt: HostRuntime, file: &mut Reader<'_>) -> Result<(), Failure> {
+    let head = MirrorHead::read(file)?;
+    let mesh = MeshFile::read(rt.alloc(), file)?;
+    mesh.fits()?;
+    head.fits()?;
+    let mut twins = mesh.lent_twins(rt.alloc())?;
+    Ok(head.show(rt, mesh.lists(), &mut twins)?)
 }

@@ -9,15 +9,15 @@
 // N, and after `marked` the two sums of the marks of its samples, 1 for exact and 0, where 2 stands for a marked sample that is refused or
 // has another point than the sample. Of numbers x0, x1 .. the two sums are that of the numbers and that of the sums x0, x0 + x1 .. on the
 // way, both modulo 2^32. Every place of the three lists holds 7 before the call.
-ghost use Rattle.std.specs.Prelude.{◌^◌, ◌<◌, ◌≤◌};
-
-use crate::printing::{print_checked, print_every, print_number, print_text};
-use crate::reading::{byte_at, u16_at};
+use crate::mesh_trial::MeshFile;
+use crate::printing::{print_all, print_answer, print_counts};
+use crate::reading::{Failure, Reader, fits};
 use crate::sample_trial::print_answers;
-use crate::sums::{SampleSums, no_samples, print_list, print_sums, with_answers};
-use limits::model::Checked;
+use crate::sums::{Sums, print_list};
+use answer::refusal::Refusal;
+use mesh::model::MeshLists;
+use sample::model::{MarkedPoint, Place, Point};
 use std::io;
-use std::io::Stdout;
 
 // The places of the list of patches: three more than the largest mesh takes up.
 const PATCH_PLACES: usize = 12291;
@@ -25,172 +25,137 @@ const PATCH_PLACES: usize = 12291;
 // Those of the list of marks: three more too.
 const MARK_PLACES: usize = 4099;
 
-// The length of the list of patches.
-fn patch_count(head: &[u8]) -> usize
-    ensures { result < 2 ^ 16 }
-{
-    u16_at(head, 2)
+// The head of a patch trial: the lengths of the lent lists, and N.
+#[derive(Clone, Copy)]
+pub(crate) struct PatchHead {
+    patches: usize,
+    marks: usize,
+    steps: usize,
 }
 
-// The length of the list of marks.
-fn mark_count(head: &[u8]) -> usize
-    ensures { result < 2 ^ 16 }
-{
-    u16_at(head, 4)
-}
-
-// Whether both lists have room.
-pub(crate) fn has_room(head: &[u8]) -> bool {
-    (patch_count(head) <= PATCH_PLACES) & (mark_count(head) <= MARK_PLACES)
-}
-
-// The places that the list of patches takes up, as far as there are any.
-fn patch_room(head: &[u8]) -> usize
-    ensures { result ≤ 12291 }
-{
-    let n = patch_count(head);
-    if n < PATCH_PLACES { n } else { PATCH_PLACES }
-}
-
-// The places that the list of marks takes up, as far as there are any.
-fn mark_room(head: &[u8]) -> usize
-    ensures { result ≤ 4099 }
-{
-    let n = mark_count(head);
-    if n < MARK_PLACES { n } else { MARK_PLACES }
-}
-
-// The sums with the samples of face f at one b.
-fn row_sums(
-    sums: SampleSums,
-    patches: &[i32],
-    marks: &[u8],
-    f: usize,
-    n: usize,
-    b: usize,
-) -> SampleSums
-    requires { n < 2 ^ 16 }
-{
-    let mut total = sums;
-    for a in 0..n + 1 {
-        total = with_answers(
-            total,
-            sample::sample(patches, f, n, a, b),
-            sample::marked_sample(patches, marks, f, n, a, b),
-        );
+impl PatchHead {
+    // The head behind its first number.
+    pub(crate) fn read(file: &mut Reader<'_>) -> Result<PatchHead, Failure> {
+        Ok(PatchHead {
+            patches: file.size()?,
+            marks: file.size()?,
+            steps: file.size()?,
+        })
     }
-    total
+
+    // That both lists have room.
+    pub(crate) fn fits(&self) -> Result<(), Failure> {
+        fits(self.patches, PATCH_PLACES)?;
+        fits(self.marks, MARK_PLACES)
+    }
+
+    // The patch call on a mesh and the lent lists, with what it gave printed.
+    pub(crate) fn show(
+        &self,
+        rt: HostRuntime,
+        mesh: MeshLists<'_>,
+        twins: &mut [u16],
+    ) -> io::Result<()> {
+        let mut patches = vec![in rt.alloc(); 7i32; self.patches]?;
+        let mut marks = vec![in rt.alloc(); 7u8; self.marks]?;
+        let answer = patch::patches(mesh, twins, &mut patches, &mut marks);
+        print_answer(rt, answer, print_counts)?;
+        print_lists(rt, twins, &patches, &marks)?;
+        let Ok(accepted) = answer else {
+            return Ok(());
+        };
+        for face in 0..accepted.faces {
+            print_samples(rt, &patches, &marks, face, self.steps)?;
+        }
+        Ok(())
+    }
 }
 
-// The sums of the samples of face f.
-fn face_sums(patches: &[i32], marks: &[u8], f: usize, n: usize) -> SampleSums
-    requires { n < 2 ^ 16 }
-{
-    let mut sums = no_samples();
-    for b in 0..n + 1 {
-        sums = row_sums(sums, patches, marks, f, n, b);
+// The two sums of samples, where a refused one counts as its number, and those of their marks.
+#[derive(Clone, Copy, Default)]
+struct SampleSums {
+    samples: Sums,
+    marks: Sums,
+}
+
+impl SampleSums {
+    // The answers of both calls at one more place.
+    fn add(&mut self, sampled: Result<Point, Refusal>, marked: Result<MarkedPoint, Refusal>) {
+        match sampled {
+            Ok(point) => {
+                self.samples.add(point.x);
+                self.samples.add(point.y);
+                self.samples.add(point.z);
+            }
+            Err(refusal) => self.samples.add(u8::from(refusal)),
+        }
+        self.marks.add(mark(sampled, marked));
+    }
+
+    // The samples of a face at one b.
+    fn add_row(&mut self, patches: &[i32], marks: &[u8], face: usize, n: usize, b: usize) {
+        for a in 0..=n {
+            let place = Place { face, a, b };
+            self.add(
+                sample::sample(patches, n, place),
+                sample::marked_sample(patches, marks, n, place),
+            );
+        }
+    }
+}
+
+// The mark of a marked sample, 1 or 0; 2 where it is refused or has another point than the sample.
+fn mark(sampled: Result<Point, Refusal>, marked: Result<MarkedPoint, Refusal>) -> u8 {
+    match marked {
+        Ok(marked) if sampled == Ok(marked.point) => u8::from(marked.exact),
+        _ => 2,
+    }
+}
+
+// The sums of the samples of a face.
+fn face_sums(patches: &[i32], marks: &[u8], face: usize, n: usize) -> SampleSums {
+    let mut sums = SampleSums::default();
+    for b in 0..=n {
+        sums.add_row(patches, marks, face, n, b);
     }
     sums
 }
 
-// The line of the samples of face f.
-fn print_samples(out: Stdout, patches: &[i32], marks: &[u8], f: usize, n: usize) -> io::Result<()>
-    requires { n < 2 ^ 16 }
-{
-    let sums = face_sums(patches, marks, f, n);
-    print_text(out, b"\n samples")?;
-    print_sums(out, sums.samples)?;
-    print_answers(out, patches, f, n, n / 2, n / 2)?;
-    print_text(out, b" marked")?;
-    print_sums(out, sums.marks)
-}
-
-// The lines of the samples of f faces.
-fn print_faces(out: Stdout, patches: &[i32], marks: &[u8], f: usize, n: usize) -> io::Result<()>
-    requires { n < 2 ^ 16 }
-{
-    for g in 0..f {
-        print_samples(out, patches, marks, g, n)?;
-    }
-    Ok(())
-}
-
-// The bytes at every place of a list.
-pub(crate) fn print_bytes(out: Stdout, list: &[u8]) -> io::Result<()> {
-    for i in 0..list.len() {
-        print_number(out, byte_at(list, i))?;
-    }
-    Ok(())
-}
-
-// The lists after the call, and the samples of an accepted mesh.
-fn print_lists(
-    out: Stdout,
-    answer: Checked,
-    n: usize,
-    twins: &[u16],
+// The line of the samples of a face.
+fn print_samples(
+    rt: HostRuntime,
     patches: &[i32],
     marks: &[u8],
-) -> io::Result<()>
-    requires { n < 2 ^ 16 }
-{
-    print_text(out, b" twins")?;
-    print_every(out, twins)?;
-    print_text(out, b"\n patches")?;
-    print_list(out, patches)?;
-    print_text(out, b"\n marks")?;
-    print_bytes(out, marks)?;
-    let Checked::Accepted(mesh) = answer else {
-        return Ok(());
-    };
-    print_faces(out, patches, marks, mesh.faces, n)
-}
-
-// The patch call on a mesh and the lent lists, with what it gave printed.
-fn show(
-    out: Stdout,
+    face: usize,
     n: usize,
-    v: usize,
-    f: usize,
-    positions: &[i32],
-    tags: &[u8],
-    faces: &[u16],
-    twins: &mut [u16],
-    patches: &mut [i32],
-    marks: &mut [u8],
-) -> io::Result<()>
-    requires { n < 2 ^ 16 }
-{
-    let answer = patch::patches(v, f, positions, tags, faces, twins, patches, marks);
-    print_checked(out, answer)?;
-    print_lists(out, answer, n, twins, patches, marks)
+) -> io::Result<()> {
+    let SampleSums { samples, marks } = face_sums(patches, marks, face, n);
+    print!(rt; "\n samples {samples}")?;
+    let half = Place {
+        face,
+        a: n / 2,
+        b: n / 2,
+    };
+    print_answers(rt, patches, n, half)?;
+    print!(rt; " marked {marks}")
 }
 
-// The trial with a file's head and the arguments of the check: goes on with lists for the patches and the marks.
-pub(crate) fn run(
-    out: Stdout,
-    head: &[u8],
-    v: usize,
-    f: usize,
-    positions: &[i32],
-    tags: &[u8],
-    faces: &[u16],
-    twins: &mut [u16],
-) -> io::Result<()> {
-    let m = patch_room(head);
-    let k = mark_room(head);
-    let mut patches = [7i32; PATCH_PLACES];
-    let mut marks = [7u8; MARK_PLACES];
-    show(
-        out,
-        u16_at(head, 6),
-        v,
-        f,
-        positions,
-        tags,
-        faces,
-        twins,
-        &mut patches[0..m],
-        &mut marks[0..k],
-    )
+// The lists after the call.
+fn print_lists(rt: HostRuntime, twins: &[u16], patches: &[i32], marks: &[u8]) -> io::Result<()> {
+    print!(rt; " twins")?;
+    print_all(rt, twins)?;
+    print!(rt; "\n patches")?;
+    print_list(rt, patches)?;
+    print!(rt; "\n marks")?;
+    print_all(rt, marks)
+}
+
+// The trial in a file.
+pub(crate) fn run(rt: HostRuntime, file: &mut Reader<'_>) -> Result<(), Failure> {
+    let head = PatchHead::read(file)?;
+    let mesh = MeshFile::read(rt.alloc(), file)?;
+    mesh.fits()?;
+    head.fits()?;
+    let mut twins = mesh.lent_twins(rt.alloc())?;
+    Ok(head.show(rt, mesh.lists(), &mut twins)?)
 }

@@ -24,147 +24,164 @@
 //
 // Of the cosines and weights: 65527 as a 16-bit number; n as a 64-bit number; then further places i as 64-bit numbers, to the end of the
 // file.
-ghost use Rattle.std.specs.Prelude.{◌≡◌, ◌+◌, ◌^◌, ◌<◌, ◌≤◌, length};
-
-use crate::printing::print_text;
+use std::alloc::{AllocError, AllocFailed, Global};
 use std::io;
-use std::io::Stdout;
-
-// What the file of a patch trial has where that of a mesh trial has V.
-const PATCH: usize = 65533;
-
-// What that of a mirror trial has there.
-const MIRROR: usize = 65531;
-
-// What that of a tangent trial has there.
-const TANGENT: usize = 65525;
 
 // The places of each list that is read or lent, but for the tags of the mesh and the marks of a marked sample, which stay in the file, and
 // the lent patches and marks.
 pub(crate) const PLACES: usize = 2048;
 
-// Whether the head of a file is that of a mirror trial.
-pub(crate) fn is_mirror(head: &[u8]) -> bool {
-    u16_at(head, 0) == MIRROR
+// The kind of a trial, by the first number of its file.
+#[derive(Clone, Copy, Debug, PartialEq, Eq)]
+pub(crate) enum Kind {
+    Mesh,
+    Patch,
+    Mirror,
+    Tangent,
+    Sample,
+    Marked,
+    Line,
+    Weight,
 }
 
-// Whether it is that of a tangent trial.
-pub(crate) fn is_tangent(head: &[u8]) -> bool {
-    u16_at(head, 0) == TANGENT
-}
-
-// The length of the head of a file that is whole: 16 bytes of a mirror trial, 12 of a tangent trial, 8 of a patch trial and none of a
-// mesh trial.
-fn whole_head_length(b: &[u8]) -> usize {
-    if is_mirror(b) {
-        return 16;
-    }
-    if is_tangent(b) {
-        return 12;
-    }
-    if u16_at(b, 0) == PATCH { 8 } else { 0 }
-}
-
-// The length of a file's head, as far as there are bytes.
-pub(crate) fn head_length(b: &[u8]) -> usize
-    ensures { result ≤ length b.now }
-{
-    let n = whole_head_length(b);
-    if n < b.len() { n } else { b.len() }
-}
-
-// The places that a list of n numbers takes up, as far as there are any.
-pub(crate) fn room(n: usize) -> usize
-    ensures { result ≤ 2048 }
-{
-    if n < PLACES { n } else { PLACES }
-}
-
-// Whether a trial can be run: the file's length is that of its sizes and lists, and its lists have room. Says why not.
-pub(crate) fn can_run(out: Stdout, b: &[u8], length: usize, has_room: bool) -> io::Result<bool> {
-    if b.len() != length {
-        print_text(out, b" not whole")?;
-        return Ok(false);
-    }
-    if !has_room {
-        print_text(out, b" too long")?;
-        return Ok(false);
-    }
-    Ok(true)
-}
-
-// A byte as a number.
-fn wide(x: u8) -> usize
-    ensures { (result ≡ x) × (result < 256) }
-{
-    x as usize
-}
-
-// The byte at a place; 0 beyond the last.
-pub(crate) fn byte_at(b: &[u8], at: usize) -> usize
-    ensures { result < 256 }
-{
-    if at < b.len() { wide(b[at]) } else { 0 }
-}
-
-// The 16-bit number at a place.
-pub(crate) fn u16_at(b: &[u8], at: usize) -> usize
-    requires { at + 1 < 2 ^ 64 }
-    ensures { result < 2 ^ 16 }
-{
-    byte_at(b, at) + 256 * byte_at(b, at + 1)
-}
-
-// The 32-bit number at a place.
-fn u32_at(b: &[u8], at: usize) -> usize
-    requires { at + 3 < 2 ^ 64 }
-    ensures { result < 2 ^ 32 }
-{
-    u16_at(b, at) + 65536 * u16_at(b, at + 2)
-}
-
-// The 64-bit number at a place.
-pub(crate) fn u64_at(b: &[u8], at: usize) -> usize
-    requires { at + 7 < 2 ^ 64 }
-{
-    u32_at(b, at) + 4294967296 * u32_at(b, at + 4)
-}
-
-// The 32-bit two's complement number at a place.
-fn i32_at(b: &[u8], at: usize) -> i32
-    requires { at + 3 < 2 ^ 64 }
-{
-    let x = u32_at(b, at);
-    if x < 2147483648 {
-        return x as i32;
-    }
-    !((4294967295 - x) as i32)
-}
-
-// How many 32-bit numbers there are from a place to the end of the file.
-pub(crate) fn i32_count(b: &[u8], at: usize) -> usize
-    ensures { result < 2 ^ 61 }
-{
-    if b.len() < at {
-        return 0;
-    }
-    (b.len() - at) / 4
-}
-
-// Fills a list with the 32-bit numbers from a place on.
-pub(crate) fn read_i32s(b: &[u8], at: usize, list: &mut [i32])
-    requires { at < 2 ^ 32 }
-{
-    for i in 0..list.len() {
-        list[i] = i32_at(b, at + 4 * i);
+impl From<u16> for Kind {
+    // The first number of a mesh trial is V, which none of the others is.
+    fn from(first: u16) -> Kind {
+        match first {
+            65535 => Kind::Sample,
+            65533 => Kind::Patch,
+            65531 => Kind::Mirror,
+            65529 => Kind::Line,
+            65527 => Kind::Weight,
+            65525 => Kind::Tangent,
+            65523 => Kind::Marked,
+            _ => Kind::Mesh,
+        }
     }
 }
 
-// Fills a list with the 16-bit numbers from a place on.
-pub(crate) fn read_u16s(b: &[u8], at: usize, list: &mut [u16])
-    requires { at < 2 ^ 32 }
-{
-    for i in 0..list.len() {
-        list[i] = u16_at(b, at + 2 * i) as u16;
+// Why a trial does not run to its end: the file is longer or shorter than its sizes and lists, a list has more places than there are for
+// it, or memory or the output fails.
+#[derive(Debug, Drop)]
+pub(crate) enum Failure {
+    NotWhole,
+    TooLong,
+    Io(io::Error),
+}
+
+impl From<io::Error> for Failure {
+    // Output that fails.
+    fn from(error: io::Error) -> Failure {
+        Failure::Io(error)
+    }
+}
+
+impl From<AllocError> for Failure {
+    // Memory that runs out.
+    fn from(error: AllocError) -> Failure {
+        Failure::Io(io::Error::from(error))
+    }
+}
+
+impl<T: Drop> From<AllocFailed<T>> for Failure {
+    // The same, where a number was to be stored.
+    fn from(error: AllocFailed<T>) -> Failure {
+        Failure::from(AllocError::from(error))
+    }
+}
+
+// That a list of so many places is no longer than a limit.
+pub(crate) fn fits(places: usize, limit: usize) -> Result<(), Failure> {
+    if limit < places {
+        return Err(Failure::TooLong);
+    }
+    Ok(())
+}
+
+// The bytes of a file that are still to be read.
+#[derive(Drop)]
+pub(crate) struct Reader<'a> {
+    rest: &'a [u8],
+}
+
+// A number as a file has it.
+pub(crate) trait Number: Sized {
+    // The next number.
+    fn read(file: &mut Reader<'_>) -> Result<Self, Failure>;
+}
+
+impl Number for u16 {
+    // Two bytes.
+    fn read(file: &mut Reader<'_>) -> Result<u16, Failure> {
+        Ok(u16::from_le_bytes(*file.array()?))
+    }
+}
+
+impl Number for i32 {
+    // Four bytes, two's complement.
+    fn read(file: &mut Reader<'_>) -> Result<i32, Failure> {
+        Ok(i32::from_le_bytes(*file.array()?))
+    }
+}
+
+impl Number for usize {
+    // Eight bytes.
+    fn read(file: &mut Reader<'_>) -> Result<usize, Failure> {
+        Ok(usize::from_le_bytes(*file.array()?))
+    }
+}
+
+impl<'a> Reader<'a> {
+    // All bytes of a file.
+    pub(crate) fn new(bytes: &'a [u8]) -> Reader<'a> {
+        Reader { rest: bytes }
+    }
+
+    // The next n bytes.
+    pub(crate) fn bytes(&mut self, n: usize) -> Result<&'a [u8], Failure> {
+        let (bytes, rest) = self.rest.split_at_checked(n).ok_or(Failure::NotWhole)?;
+        self.rest = rest;
+        Ok(bytes)
+    }
+
+    // The next N bytes.
+    fn array<const N: usize>(&mut self) -> Result<&'a [u8; N], Failure> {
+        self.bytes(N)?.as_array().ok_or(Failure::NotWhole)
+    }
+
+    // The next number.
+    pub(crate) fn number<T: Number>(&mut self) -> Result<T, Failure> {
+        T::read(self)
+    }
+
+    // The next number of 16 bits, a size or a length.
+    pub(crate) fn size(&mut self) -> Result<usize, Failure> {
+        Ok(usize::from(self.number::<u16>()?))
+    }
+
+    // The next n numbers.
+    pub(crate) fn list<T: Number + Drop>(
+        &mut self,
+        alloc: Global,
+        n: usize,
+    ) -> Result<Vec<T>, Failure> {
+        let mut list = Vec::new(alloc);
+        for _ in 0..n {
+            list.push(self.number()?)?;
+        }
+        Ok(list)
+    }
+
+    // How many bytes are left.
+    pub(crate) fn left(&self) -> usize {
+        self.rest.len()
+    }
+
+    // That no byte is left.
+    pub(crate) fn end(&self) -> Result<(), Failure> {
+        if self.rest.is_empty() {
+            return Ok(());
+        }
+        Err(Failure::NotWhole)
     }
 }

@@ -6,16 +6,10 @@
 //     table face B..         those in its list of faces
 //     generated edge A..     those in the generator's list of edges
 //     generated face B..     those in its list of faces
-ghost use Rattle.std.specs.Prelude.{◌^◌, ◌<◌, ◌≤◌};
-
-use crate::printing::{print_signed, print_text};
-use crate::reading::{can_run, u64_at};
+use crate::printing::print_all;
+use crate::reading::{Failure, Reader};
 use cosine::model::Weights;
 use std::io;
-use std::io::Stdout;
-
-// Where the further places begin.
-const FAR_AT: usize = 10;
 
 // The places that are tried of every n.
 const NEAR: usize = 17;
@@ -23,89 +17,48 @@ const NEAR: usize = 17;
 // The places of each n in a list of weights.
 const ROW: usize = 16;
 
-// How many further places a file names.
-fn far_count(b: &[u8]) -> usize
-    ensures { result < 2 ^ 60 }
+// The weights at the first places, and at those that the file names.
+fn print_weights<F: Fn(usize) -> i32>(rt: HostRuntime, far: &[usize], weight: F) -> io::Result<()>
+    requires { F.IsAlwaysCallable weight }
 {
-    if b.len() < FAR_AT {
-        return 0;
-    }
-    (b.len() - FAR_AT) / 8
-}
-
-// The weight of n at place i: of a face, or of an edge.
-fn print_weight(out: Stdout, of_face: bool, n: usize, i: usize) -> io::Result<()> {
-    if of_face {
-        print_signed(out, cosine::face_weight(n, i))
-    } else {
-        print_signed(out, cosine::edge_weight(n, i))
-    }
-}
-
-// The weights of n at the first places.
-fn print_near(out: Stdout, of_face: bool, n: usize) -> io::Result<()> {
-    for i in 0..NEAR {
-        print_weight(out, of_face, n, i)?;
-    }
-    Ok(())
-}
-
-// Those at the places that the file names.
-fn print_far(out: Stdout, of_face: bool, n: usize, b: &[u8]) -> io::Result<()> {
-    for k in 0..far_count(b) {
-        print_weight(out, of_face, n, u64_at(b, FAR_AT + 8 * k))?;
-    }
-    Ok(())
-}
-
-// The sixteen numbers of a list from a place on.
-fn print_places(out: Stdout, list: &[i32; 224], at: usize) -> io::Result<()>
-    requires { at ≤ 208 }
-{
-    for i in 0..ROW {
-        print_signed(out, list[at + i])?;
+    for i in (0..NEAR).chain(far.iter().copied()) {
+        let number = weight(i);
+        print!(rt; " {number}")?;
     }
     Ok(())
 }
 
 // The numbers of a list for n, or `-` where it has none.
-fn print_row(out: Stdout, list: &[i32; 224], n: usize) -> io::Result<()> {
-    if n < 3 {
-        print_text(out, b" -")
-    } else if n <= 16 {
-        print_places(out, list, ROW * (n - 3))
-    } else {
-        print_text(out, b" -")
+fn print_row(rt: HostRuntime, list: &[i32], n: usize) -> io::Result<()> {
+    match n.checked_sub(3).and_then(|at| list.chunks(ROW).nth(at)) {
+        Some(row) => print_all(rt, row),
+        None => print!(rt; " -"),
     }
 }
 
 // The numbers of both lists for n, each after the word for where they come from and the one for its kind.
-fn print_lists(out: Stdout, word: &[u8], weights: Weights, n: usize) -> io::Result<()> {
-    print_text(out, word)?;
-    print_text(out, b" edge")?;
-    print_row(out, &weights.edge, n)?;
-    print_text(out, word)?;
-    print_text(out, b" face")?;
-    print_row(out, &weights.face, n)
+fn print_lists(rt: HostRuntime, word: &str, weights: Weights, n: usize) -> io::Result<()> {
+    print!(rt; "\n {word} edge")?;
+    print_row(rt, &weights.edge, n)?;
+    print!(rt; "\n {word} face")?;
+    print_row(rt, &weights.face, n)
 }
 
 // The calls with n and the places, and what they gave printed.
-fn show(out: Stdout, b: &[u8], n: usize) -> io::Result<()> {
-    print_signed(out, cosine::cosine(n))?;
-    print_text(out, b"\n edge")?;
-    print_near(out, false, n)?;
-    print_far(out, false, n, b)?;
-    print_text(out, b"\n face")?;
-    print_near(out, true, n)?;
-    print_far(out, true, n, b)?;
-    print_lists(out, b"\n table", cosine::weights(), n)?;
-    print_lists(out, b"\n generated", cosine::generated_weights(), n)
+fn show(rt: HostRuntime, n: usize, far: &[usize]) -> io::Result<()> {
+    let cosine = cosine::cosine(n);
+    print!(rt; " {cosine}\n edge")?;
+    print_weights(rt, far, |i| cosine::edge_weight(n, i))?;
+    print!(rt; "\n face")?;
+    print_weights(rt, far, |i| cosine::face_weight(n, i))?;
+    print_lists(rt, "table", cosine::weights(), n)?;
+    print_lists(rt, "generated", cosine::generated_weights(), n)
 }
 
-// The trial in a file's bytes.
-pub(crate) fn run(out: Stdout, b: &[u8]) -> io::Result<()> {
-    if can_run(out, b, FAR_AT + 8 * far_count(b), true)? {
-        show(out, b, u64_at(b, 2))?;
-    }
-    Ok(())
+// The trial in a file.
+pub(crate) fn run(rt: HostRuntime, file: &mut Reader<'_>) -> Result<(), Failure> {
+    let n = file.number()?;
+    let far = file.list(rt.alloc(), file.left() / 8)?;
+    file.end()?;
+    Ok(show(rt, n, &far)?)
 }

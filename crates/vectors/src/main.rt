@@ -11,6 +11,7 @@ use std::{io, str};
 const NAME_PLACES: usize = 4096;
 
 // The bytes of an open file, up to those that show that it is too long. Where a read fails they are those before it.
+// As `trials` reads its files, which stands on no crate of this program's: a crate for these ten lines alone would be no plainer.
 fn read_file(rt: HostRuntime, file: File) -> io::Result<Vec<u8>> {
     let mut input = Vec::new(rt.alloc());
     let most = printing::FILE_PLACES as u64;
@@ -24,7 +25,7 @@ fn read_file(rt: HostRuntime, file: File) -> io::Result<Vec<u8>> {
 fn print_file(rt: HostRuntime, file: File) -> io::Result<()> {
     let input = read_file(rt, file)?;
     let mut patches = [0i32; printing::PATCH_PLACES];
-    printing::print(
+    let _ = printing::print(
         input.as_slice(),
         &mut patches,
         b"",
@@ -34,7 +35,7 @@ fn print_file(rt: HostRuntime, file: File) -> io::Result<()> {
     Ok(())
 }
 
-// The file of a name, if there is one.
+// The file of a name, if there is one. trials has the same, as it has `read_file` and the loop over names: a crate for them would be no plainer.
 fn open(rt: HostRuntime, name: &[u8]) -> Option<File> {
     let path = str::from_utf8(name).ok()?;
     File::open(&rt, path).ok()
@@ -50,6 +51,7 @@ fn vector(rt: HostRuntime, name: &[u8]) -> io::Result<()> {
     }
 }
 
+// Argument by argument, since `env::args` ends at a name that is no UTF-8 text, which has its lines too.
 fn main(rt: HostRuntime) -> io::Result<()> {
     for i in 1..usize::MAX {
         let mut name = [0u8; NAME_PLACES];

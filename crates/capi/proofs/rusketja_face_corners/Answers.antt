@@ -17,10 +17,6 @@ first_some : (corners : List ℕ) (f d : ℕ) → (length corners ≡ 0 → ⊥)
 first_some [] f d some = absurd (some refl)
 first_some (p ∷ ps) f d some = refl
 
-none : (corners : List ℕ) (f d : ℕ) (xs : List ℕ) → length corners ≡ 0 → (d ≡ first_corner corners f d) × (take (length corners) xs ≡ corners)
-none [] f d xs e = (refl, refl)
-none (p ∷ ps) f d xs e = absurd (omega (arith, e))
-
 part-taken : (b : Bool) (xs : List ℕ) → (length (cond b xs []) ≡ 0 → ⊥) → b ≡ true
 part-taken true xs some = refl
 part-taken false xs some = absurd (some refl)
@@ -59,10 +55,3 @@ returns-then-n-ne0 c =
       first-is = first_some (face_corners s.indices.now s.f) s.f s.first.now (some-told c);
       part-is = ap (λ (k : ℕ). take k (drop (4 * s.f) s.indices.now)) n ∙ part s.indices.now s.f (some-told c);
     }
-
-pub returns-else-n-ne0 : goal.returns-else-n-ne0
-returns-else-n-ne0 c =
-    let s = c.args in
-    let n = ap length c.face_corners-corners.ensures in
-    let e = none (face_corners s.indices.now s.f) s.f s.first.now (drop s.first.now s.indices.now) (sym n ∙ c.if-n-ne0.false) in
-    record { count-is = n; first-is = e.0; part-is = ap (λ (k : ℕ). take k (drop s.first.now s.indices.now)) n ∙ e.1 }

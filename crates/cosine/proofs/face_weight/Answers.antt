@@ -12,6 +12,4 @@ use Rattle.cosine.proofs.face_weight.Goals as goal
 
 pub returns : goal.returns
 unfolding half_even nearest_ℕ nearest list_below cosines cosine root chain multiple_cosine hypotenuse weight_by weights_by
-returns c =
-    let s = c in
-    read_back w32 c.entry.type_inv (listed-is face_numerator s.args.n s.args.i _ _ refl c.entry.ensures)
+returns c = read_back w32 c.entry.type_inv (listed-is face_numerator c.args.n c.args.i _ _ refl c.entry.ensures)

@@ -1,20 +1,15 @@
--- `any_vertex_twice` meets its contract: the corners passed have vertices of their own in their faces.
-use native.Mathlib.Numerals.{add-one-dec}
-use borrow.Author.Rules.{rules}
-use Rattle.finite.proofs.AnyAll.{any-start, any-more, any_found, any-not}
+-- `any_vertex_twice` meets its contract: it asks each corner of the whole faces whether another of its face has its vertex.
+use Rattle.std.proofs.Common.{refl, ◌∙◌, rules, arith, ◌*◌, ◌/◌, length, ℕ}
+use Rattle.std.proofs.lemmas.Iterator.{YieldsList-from_range}
+use Rattle.std.proofs.lemmas.Iterator.Search.{any_from_yields_List}
+use Rattle.finite.specs.Fold.{any_below}
+use Rattle.finite.proofs.Lists.{any-range}
+use Rattle.entries.specs.Entries.{vertex_again}
 use Rattle.entries.proofs.any_vertex_twice.Goals as goal
 
-pub loop-c-init : goal.loop-c-init
-loop-c-init c = search (any-start, rules)
-
-pub returns-then-vertex_twice : goal.returns-then-vertex_twice
-returns-then-vertex_twice c = search (any_found, rules)
-
-pub loop-c-smaller : goal.loop-c-smaller
-loop-c-smaller c = add-one-dec _ _ c.loop-c-test.true
-
-pub loop-c-preserved : goal.loop-c-preserved
-loop-c-preserved c = search (any-more, rules)
-
 pub returns : goal.returns
-returns c = search (any-not, rules)
+returns c =
+    let n = 4 * (length c.args.faces.now / 4) in
+    let test = λ (d : ℕ). any_below (vertex_again c.args.faces.now d) 3 in
+    any_from_yields_List test _ _ c.any.result c.any.ensures.ran (YieldsList-from_range 0 n n refl (omega arith)) (λ x b q k. search rules)
+    ∙ any-range test n

@@ -1,38 +1,32 @@
 -- `quotient` meets its contract: the rounded magnitude is at most the magnitude, so with the sign of `num` it fits,
 -- and by the sign's two cases it is `nearest`.
-use mathlib.Core.Path.{◌≡◌, ◌∙◌, ap}
-use mathlib.Core.Bool.{true, false}
-use Prim.Native.Nat.{ℕ, ◌≤◌}
-use native.Mathlib.Omega.{arith}
-use lib.IntN.{pos, neg_ℤ, nat_abs}
+use Rattle.std.proofs.Common.{◌≡◌, ◌∙◌, ap, ℕ, ◌≤◌, true, false, arith, w64, pos, neg_ℤ, nat_abs, FitsSigned}
 use lib.Signed.{lt_z}
-use mir.Syntax.{w64}
-use mir.Val.{SFits}
 use mir.Facts.{to_z-of_z}
 use Rattle.integer.specs.Nearest.{nearest_ℕ}
 use Rattle.integer.proofs.Rounding.{mag-negative, mag-not-negative, nearest_negative, nearest-not-negative, nearest_ℕ-≤}
 use Rattle.integer.proofs.quotient.Goals.{After-round_magnitude-size, Else-num-lt0, Then-num-lt0}
 use Rattle.integer.proofs.quotient.Goals as goal
 
-size : (c : After-round_magnitude-size) → c.round_magnitude-size.result ≡ nearest_ℕ (nat_abs c.before.before.args.num) c.before.before.args.den
+size : (c : After-round_magnitude-size) → c.round_magnitude-size.result ≡ nearest_ℕ (nat_abs c.args.num) c.args.den
 size c =
-    let f : SFits w64 c.before.before.args.num = c.before.before.ranges.num in
-    c.round_magnitude-size.ensures ∙ ap (λ (a : ℕ). nearest_ℕ a c.before.before.args.den) (simp to_z-of_z at c.before.magnitude.ensures)
+    let f : FitsSigned w64 c.args.num = c.ranges.num in
+    c.round_magnitude-size.ensures ∙ ap (λ (a : ℕ). nearest_ℕ a c.args.den) (simp to_z-of_z at c.unsigned_abs.ensures.value)
 
-size-≤ : (c : After-round_magnitude-size) → c.round_magnitude-size.result ≤ nat_abs c.before.before.args.num
-size-≤ c = rw (size c) (nearest_ℕ-≤ (nat_abs c.before.before.args.num) c.before.before.args.den)
+size-≤ : (c : After-round_magnitude-size) → c.round_magnitude-size.result ≤ nat_abs c.args.num
+size-≤ c = rw (size c) (nearest_ℕ-≤ (nat_abs c.args.num) c.args.den)
 
-negative : (c : Then-num-lt0) → lt_z c.before.before.before.args.num (pos 0) ≡ true
-negative c = let f : SFits w64 c.before.before.before.args.num = c.before.before.before.ranges.num in simp to_z-of_z at c.if-num-lt0.true
+negative : (c : Then-num-lt0) → lt_z c.args.num (pos 0) ≡ true
+negative c = let f : FitsSigned w64 c.args.num = c.ranges.num in simp to_z-of_z at c.if-num-lt0.true
 
-not_negative : (c : Else-num-lt0) → lt_z c.before.before.before.args.num (pos 0) ≡ false
-not_negative c = let f : SFits w64 c.before.before.before.args.num = c.before.before.before.ranges.num in simp to_z-of_z at c.if-num-lt0.false
+not_negative : (c : Else-num-lt0) → lt_z c.args.num (pos 0) ≡ false
+not_negative c = let f : FitsSigned w64 c.args.num = c.ranges.num in simp to_z-of_z at c.if-num-lt0.false
 
 pub negated-requires : goal.negated-requires
-negated-requires c = omega (arith, size-≤ c.before, mag-negative c.before.before.before.args.num (negative c))
+negated-requires c = omega (arith, size-≤ c.before, mag-negative c.args.num (negative c))
 
 pub overflow_cast-result : goal.overflow_cast-result
-overflow_cast-result c = record { sfits = omega (arith, size-≤ c.before, mag-not-negative c.before.before.before.args.num (not_negative c)) }
+overflow_cast-result c = record { sfits = omega (arith, size-≤ c.before, mag-not-negative c.args.num (not_negative c)) }
 
 pub returns-then-num-lt0 : goal.returns-then-num-lt0
 returns-then-num-lt0 c =

@@ -1,11 +1,6 @@
 -- `rest_of_magnitude` meets its contract: the test is the one that sends the quotient up, and the rest and the divisor are far below 2^63.
-use mathlib.Core.Path.{◌≡◌, ◌∙◌}
-use Prim.Native.Nat.{ℕ, ◌%◌, ◌<◌}
+use Rattle.std.proofs.Common.{◌≡◌, ◌∙◌, ℕ, ◌%◌, ◌<◌, arith, w64, to_z, pos, ◌-ℤ◌, FitsSigned}
 use native.Mathlib.Nat.{mod-lt}
-use native.Mathlib.Omega.{arith}
-use lib.IntN.{pos, ◌-ℤ◌}
-use mir.Syntax.{w64}
-use mir.Val.{SFits, to_z}
 use mir.Facts.{to_z-of_z, to_z_pos}
 use Rattle.integer.proofs.Laws.{abs--, sfits-abs}
 use Rattle.integer.proofs.Rounding.{rest_up, rest-down}
@@ -26,28 +21,16 @@ module _ (s : Start) where
   divisor-is : to_z w64 s.args.den ≡ pos s.args.den
   divisor-is = to_z_pos w64 (omega arith)
 
-  less-fits : SFits w64 (pos rest -ℤ pos s.args.den)
+  less-fits : FitsSigned w64 (pos rest -ℤ pos s.args.den)
   less-fits = sfits-abs (pos rest -ℤ pos s.args.den) (omega (arith, small, abs-- (pos rest) (pos s.args.den)))
-
-pub overflow_mul-rest : goal.overflow_mul-rest
-overflow_mul-rest c = omega (arith, small c)
-
-pub overflow_add-rest : goal.overflow_add-rest
-overflow_add-rest c = omega (arith, small c)
-
-pub overflow_cast-result : goal.overflow_cast-result
-overflow_cast-result c = record { sfits = omega (arith, small c.before) }
-
-pub overflow_sub-result : goal.overflow_sub-result
-overflow_sub-result c = let s = c.before in rw (rest-is s, divisor-is s) (less-fits s)
-
-pub overflow_cast-result-else-d-rest : goal.overflow_cast-result-else-d-rest
-overflow_cast-result-else-d-rest c = record { sfits = omega (arith, small c.before) }
 
 pub returns-then-d-rest : goal.returns-then-d-rest
 returns-then-d-rest c =
-    let s = c.before in
-    rw (rest-is s, divisor-is s) (to_z-of_z (less-fits s) ∙ rest_up s.args.size s.args.den s.requires (omega arith))
+    let s : Start = c.before.before in
+    rw (c.from-d.ensures, rest-is s, divisor-is s)
+    (to_z-of_z (less-fits s) ∙ rest_up s.args.size s.args.den s.requires (rw c.from-d.ensures at c.if-d-rest.true))
 
 pub returns-else-d-rest : goal.returns-else-d-rest
-returns-else-d-rest c = let s = c.before in rest-is s ∙ rest-down s.args.size s.args.den s.requires (omega arith)
+returns-else-d-rest c =
+    let s : Start = c.before.before in
+    rw c.from-d.ensures (rest-is s ∙ rest-down s.args.size s.args.den s.requires (rw c.from-d.ensures at c.if-d-rest.false))

@@ -2,7 +2,7 @@
 use Prim.Native.Nat.{◌+◌, ◌-◌, ◌*◌}
 use native.Mathlib.Omega.{arith}
 use Rattle.mask.specs.Mask.{sharp_corner_mask}
-use Rattle.mask.proofs.MachineLaws.{Sum, one, term, ◌⊞◌, fraction, fits}
+use Rattle.mask.proofs.MachineLaws.{Sum, term, ◌⊞◌, fraction, fits}
 use Rattle.mask.proofs.boundary_corner.Goals.{Start}
 use Rattle.mask.proofs.boundary_corner.Goals as goal
 
@@ -12,18 +12,6 @@ module _ (s : Start) where
 
   abbrev neighbours : Sum
   neighbours = term (16 - s.args.g) s.args.s
-
-pub overflow_cast-result-2 : goal.overflow_cast-result-2
-overflow_cast-result-2 s = fits (one s.args.p) s.ranges.p (omega arith)
-
-pub overflow_mul-result-2 : goal.overflow_mul-result-2
-overflow_mul-result-2 s = fits (own s) s.ranges.p (omega (arith, s.requires))
-
-pub overflow_cast-result-4 : goal.overflow_cast-result-4
-overflow_cast-result-4 s = fits (one s.args.s) s.ranges.s (omega arith)
-
-pub overflow_mul-result-3 : goal.overflow_mul-result-3
-overflow_mul-result-3 s = fits (neighbours s) s.ranges.s (omega arith)
 
 pub overflow_add-result-2 : goal.overflow_add-result-2
 overflow_add-result-2 s = fits (own s ⊞ neighbours s) (s.ranges.p, s.ranges.s) (omega (arith, s.requires))

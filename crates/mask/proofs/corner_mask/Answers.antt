@@ -7,13 +7,11 @@ use Rattle.mask.proofs.corner_mask.Goals as goal
 pub returns-then-rule-gt-MAX_SHARPNESS : goal.returns-then-rule-gt-MAX_SHARPNESS
 unfolding corner_mask
 returns-then-rule-gt-MAX_SHARPNESS c =
-    let t = c in
-    let s = t in
-    rw (lt-ltb max_sharpness s.args.rule t.if-rule-gt-MAX_SHARPNESS.true) (simp (to_z-of_z s.ranges.p, to_z-of_z s.ranges.ring) at c.smooth_corner.ensures)
+    rw (lt-ltb max_sharpness c.args.rule c.if-rule-gt-MAX_SHARPNESS.true)
+    (simp (to_z-of_z c.ranges.p, to_z-of_z c.ranges.ring) at c.smooth_corner.ensures)
 
 pub returns : goal.returns
 unfolding corner_mask
 returns c =
-    let t = c in
-    let s = t in
-    rw (le-ltb max_sharpness s.args.rule t.if-rule-gt-MAX_SHARPNESS.false) (simp (to_z-of_z s.ranges.p, to_z-of_z s.ranges.sharp) at c.boundary_corner.ensures)
+    rw (le-ltb max_sharpness c.args.rule c.if-rule-gt-MAX_SHARPNESS.false)
+    (simp (to_z-of_z c.ranges.p, to_z-of_z c.ranges.sharp) at c.boundary_corner.ensures)

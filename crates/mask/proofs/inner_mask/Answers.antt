@@ -3,71 +3,35 @@ use Prim.Native.Nat.{◌+◌}
 use native.Mathlib.Omega.{arith}
 use Rattle.mask.specs.Mask.{inner_mask}
 use Rattle.mask.proofs.MachineLaws.{Sum, one, term, ◌⊞◌, Ranged, Narrow, narrow, fraction, fits}
-use Rattle.mask.proofs.inner_mask.Goals.{After-struct_told-1, After-struct_told-2-1, After-struct_told-3-1, After-struct_told-4-1, Start}
+use Rattle.mask.proofs.inner_mask.Goals.{Start}
 use Rattle.mask.proofs.inner_mask.Goals as goal
 
--- the function's entry, from the place of each value that is read
-abbrev start₁ : After-struct_told-1 → Start
-start₁ c = (goal.at.After-struct_told-1 c).Start
-
-abbrev start₂ : After-struct_told-2-1 → Start
-start₂ c = start₁ (goal.at.After-struct_told-2-1 c).After-struct_told-1
-
-abbrev start₃ : After-struct_told-3-1 → Start
-start₃ c = start₂ (goal.at.After-struct_told-3-1 c).After-struct_told-2-1
-
-abbrev start₄ : After-struct_told-4-1 → Start
-start₄ c = start₃ (goal.at.After-struct_told-4-1 c).After-struct_told-3-1
-
 -- the sum by its terms, from the left
-abbrev sum₁ : Start → Sum
-sum₁ s = term s.args.w s.args.a.here
+module _ (s : Start) where
+  abbrev sum₂ : Sum
+  sum₂ = term s.args.w s.args.a.here ⊞ term 2 s.args.a.next
 
-abbrev sum₂ : Start → Sum
-sum₂ s = sum₁ s ⊞ term 2 s.args.a.next
+  abbrev sum₃ : Sum
+  sum₃ = sum₂ ⊞ term 2 s.args.a.prev
 
-abbrev sum₃ : Start → Sum
-sum₃ s = sum₂ s ⊞ term 2 s.args.a.prev
+  abbrev sum : Sum
+  sum = sum₃ ⊞ one s.args.a.across
 
-abbrev sum : Start → Sum
-sum s = sum₃ s ⊞ one s.args.a.across
-
-values : (s : Start) → Narrow s.args.a
-values s = narrow s.args.a (omega (arith, s.well_formed)) (omega (arith, s.well_formed)) (omega (arith, s.well_formed)) (omega (arith, s.well_formed))
-
-ranged : (s : Start) → Ranged (sum s)
-ranged s = let a = values s in (((a.here, a.next), a.prev), a.across)
-
-pub overflow_cast-result-2 : goal.overflow_cast-result-2
-overflow_cast-result-2 c = let s = start₁ c in fits (one s.args.a.here) (values s).here (omega arith)
-
-pub overflow_mul-result : goal.overflow_mul-result
-overflow_mul-result c = let s = start₁ c in fits (sum₁ s) (values s).here (omega (arith, s.well_formed))
-
-pub overflow_cast-result-3 : goal.overflow_cast-result-3
-overflow_cast-result-3 c = let s = start₂ c in fits (one s.args.a.next) (values s).next (omega arith)
-
-pub overflow_mul-result-2 : goal.overflow_mul-result-2
-overflow_mul-result-2 c = let s = start₂ c in fits (term 2 s.args.a.next) (values s).next (omega arith)
+  ranged : Ranged sum
+  ranged =
+      let a : Narrow s.args.a =
+      narrow s.args.a (omega (arith, s.well_formed)) (omega (arith, s.well_formed)) (omega (arith, s.well_formed)) (omega (arith, s.well_formed)) in
+      (((a.here, a.next), a.prev), a.across)
 
 pub overflow_add-result : goal.overflow_add-result
-overflow_add-result c = let s = start₂ c in fits (sum₂ s) (ranged s).0.0 (omega (arith, s.well_formed))
-
-pub overflow_cast-result-4 : goal.overflow_cast-result-4
-overflow_cast-result-4 c = let s = start₃ c in fits (one s.args.a.prev) (values s).prev (omega arith)
-
-pub overflow_mul-result-3 : goal.overflow_mul-result-3
-overflow_mul-result-3 c = let s = start₃ c in fits (term 2 s.args.a.prev) (values s).prev (omega arith)
+overflow_add-result c = let s = (goal.at.overflow_add-result c).Start in fits (sum₂ s) (ranged s).0.0 (omega (arith, s.well_formed))
 
 pub overflow_add-result-2 : goal.overflow_add-result-2
-overflow_add-result-2 c = let s = start₃ c in fits (sum₃ s) (ranged s).0 (omega (arith, s.well_formed))
-
-pub overflow_cast-result-5 : goal.overflow_cast-result-5
-overflow_cast-result-5 c = let s = start₄ c in fits (one s.args.a.across) (values s).across (omega arith)
+overflow_add-result-2 c = let s = (goal.at.overflow_add-result-2 c).Start in fits (sum₃ s) (ranged s).0 (omega (arith, s.well_formed))
 
 pub overflow_add-result-3 : goal.overflow_add-result-3
-overflow_add-result-3 c = let s = start₄ c in fits (sum s) (ranged s) (omega (arith, s.well_formed))
+overflow_add-result-3 c = let s = (goal.at.overflow_add-result-3 c).Start in fits (sum s) (ranged s) (omega (arith, s.well_formed))
 
 pub returns : goal.returns
 unfolding inner_mask
-returns c = let s = start₄ c in fraction (sum s) (ranged s) (omega (arith, s.well_formed)) (s.args.w + 5)
+returns c = let s = (goal.at.returns c).Start in fraction (sum s) (ranged s) (omega (arith, s.well_formed)) (s.args.w + 5)

@@ -1,19 +1,21 @@
--- `ring_of` meets its contract: it passes the two neighbours and the vertex across, which fit 32 bits.
+-- `ring_of` meets its contract: it is a sum of numbers of 32 bits whose weights sum to 5.
 use native.Mathlib.Omega.{arith}
-use mir.Syntax.{w64}
-use mir.Facts.{to_z-of_z}
-use Rattle.integer.proofs.Laws.{read_back}
-use Rattle.mask.proofs.MachineLaws.{Narrow, narrow}
-use Rattle.mask.proofs.ring_of.Goals.{After-ring_sum, Start}
+use Rattle.mask.proofs.MachineLaws.{Sum, one, term, ◌⊞◌, Ranged, Narrow, narrow, exact-stored, fits}
+use Rattle.mask.proofs.ring_of.Goals.{Start}
 use Rattle.mask.proofs.ring_of.Goals as goal
 
-abbrev start : After-ring_sum → Start
-start c = (goal.at.After-ring_sum c).Start
+module _ (s : Start) where
+  abbrev sum : Sum
+  sum = term 2 s.args.a.next ⊞ term 2 s.args.a.prev ⊞ one s.args.a.across
 
-values : (s : Start) → Narrow s.args.a
-values s = narrow s.args.a (omega (arith, s.well_formed)) (omega (arith, s.well_formed)) (omega (arith, s.well_formed)) (omega (arith, s.well_formed))
+  ranged : Ranged sum
+  ranged =
+      let a : Narrow s.args.a =
+      narrow s.args.a (omega (arith, s.well_formed)) (omega (arith, s.well_formed)) (omega (arith, s.well_formed)) (omega (arith, s.well_formed)) in
+      ((a.next, a.prev), a.across)
+
+pub overflow_add-result-2 : goal.overflow_add-result-2
+overflow_add-result-2 c = let s = (goal.at.overflow_add-result-2 c).Start in fits (sum s) (ranged s) (omega arith)
 
 pub returns : goal.returns
-returns c =
-    let a = values (start c) in
-    read_back w64 c.ring_sum.type_inv (simp (to_z-of_z a.next, to_z-of_z a.prev, to_z-of_z a.across) at c.ring_sum.ensures)
+returns c = let s = (goal.at.returns c).Start in exact-stored (sum s) (ranged s) (omega arith)

@@ -2,7 +2,6 @@
 use Prim.Native.Nat.{◌+◌, ◌*◌, ◌≤◌}
 use native.Mathlib.Nat.{mul-le-mul}
 use native.Mathlib.Omega.{arith}
-use Rattle.integer.proofs.Laws.{sfits-abs}
 use Rattle.mask.specs.Mask.{smooth_corner_mask}
 use Rattle.mask.proofs.MachineLaws.{Sum, one, term, ◌⊞◌, fraction, fits}
 use Rattle.mask.proofs.smooth_corner.Goals.{Start}
@@ -15,27 +14,18 @@ module _ (s : Start) where
   abbrev sum : Sum
   sum = term (s.args.n * s.args.n) s.args.p ⊞ one s.args.s
 
-pub overflow_mul-result : goal.overflow_mul-result
-overflow_mul-result s = omega (arith, square s)
-
-pub overflow_cast-result : goal.overflow_cast-result
-overflow_cast-result s = sfits-abs _ (omega (arith, square s))
-
-pub overflow_cast-result-2 : goal.overflow_cast-result-2
-overflow_cast-result-2 s = fits (one s.args.p) s.ranges.p (omega arith)
-
 pub overflow_mul-result-2 : goal.overflow_mul-result-2
-overflow_mul-result-2 s = fits (term (s.args.n * s.args.n) s.args.p) s.ranges.p (omega (arith, square s))
-
-pub overflow_cast-result-3 : goal.overflow_cast-result-3
-overflow_cast-result-3 s = fits (one s.args.s) s.ranges.s (omega arith)
+overflow_mul-result-2 c =
+    let s = (goal.at.overflow_mul-result-2 c).Start in
+    rw c.from-m.ensures (fits (term (s.args.n * s.args.n) s.args.p) s.ranges.p (omega (arith, square s)))
 
 pub overflow_add-result : goal.overflow_add-result
-overflow_add-result s = fits (sum s) (s.ranges.p, s.ranges.s) (omega (arith, square s))
-
-pub overflow_mul-result-3 : goal.overflow_mul-result-3
-overflow_mul-result-3 s = omega (arith, square s)
+overflow_add-result c =
+    let s = (goal.at.overflow_add-result c).Start in
+    rw c.from-m.ensures (fits (sum s) (s.ranges.p, s.ranges.s) (omega (arith, square s)))
 
 pub returns : goal.returns
 unfolding smooth_corner_mask
-returns s = fraction (sum s) (s.ranges.p, s.ranges.s) (omega (arith, square s)) (s.args.n * (s.args.n + 5))
+returns c =
+    let s = (goal.at.returns c).Start in
+    rw c.from-m.ensures (fraction (sum s) (s.ranges.p, s.ranges.s) (omega (arith, square s)) (s.args.n * (s.args.n + 5)))

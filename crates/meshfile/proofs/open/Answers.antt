@@ -1,19 +1,15 @@
 -- `open` meets its contract: a file that decoding refuses is refused, and else the parts of the lists that were written are the file's mesh.
-use mathlib.Core.Path.{◌≡◌, sym, ap, subst}
-use mathlib.Core.List.{List}
-use Prim.Native.Nat.{ℕ, ◌*◌, ◌≤◌}
+use Rattle.std.proofs.Common.{◌≡◌, sym, ap, subst, ℕ, ◌*◌, ◌≤◌, List, ℤ, pos, length, replicate, Err, arith}
+use Rattle.std.proofs.lemmas.Grind.{common_steps}
+use Rattle.std.proofs.lemmas.List.{length-replicate, length-take-le}
 use native.Mathlib.Nat.{le_of_eq}
-use native.Mathlib.Omega.{arith}
-use lib.IntN.{ℤ, pos}
-use lib.ListN.{length, replicate, length-replicate}
 use Rattle.limits.specs.Limits.{max_vertices, max_faces}
-use Rattle.decoding.specs.File.{vertices, faces, steps, position_at, index_at}
+use Rattle.decoding.specs.File.{vertices, faces, steps, position_at, tag_at, index_at}
 use Rattle.decoding.specs.declared.model.Header.{Header}
-use Rattle.decoding.specs.Decoding.{decoded}
 use Rattle.decoding.proofs.FileLaws.{Whole, file-whole}
 use Rattle.mesh.specs.WellFormed.{MeshSized}
 use Rattle.meshfile.proofs.OpenLaws.{FileRead, file-read, file-turned-down, part-fits, mesh-is, whole-sized, open-mesh, open-refused}
-use Rattle.meshfile.proofs.open.Goals.{After-decode, After-tessellate-arg-in-Read-1, After-tessellate-arg-in-Read-3-1, In-Read, Start}
+use Rattle.meshfile.proofs.open.Goals.{In_ok-header}
 use Rattle.meshfile.proofs.open.Goals as goal
 
 -- ---- the three lists of `open`, before they are written
@@ -29,73 +25,71 @@ no-indices = replicate (4 * max_faces) 0
 as_long : {A : Type 0} (n : ℕ) (a : A) → n ≤ length (replicate n a)
 as_long n a = le_of_eq (sym (length-replicate n a))
 
-abbrev start : After-decode → Start
-start c = (goal.at.After-decode c).Start
-
-abbrev file : After-decode → List ℕ
-file c = (start c).args.bytes.now
+pub returns-in_err-header : goal.returns-in_err-header
+returns-in_err-header c =
+    let r : c.from_residual.result ≡ Err c.in_err-header.field-0.0 = grind (arith, common_steps) in
+    open-refused c.args.bytes.now c.args.patches.now _ r
+    (file-turned-down c.args.bytes.now no-positions no-tags no-indices
+    (as_long (3 * max_vertices) (pos 0)) (as_long {A = ℕ} max_vertices 0) (as_long {A = ℕ} (4 * max_faces) 0) c.in_err-header.ensures)
 
 -- ---- the file was read
-module _ (c : In-Read) where
-  abbrev call : After-decode
-  call = (goal.at.In-Read c).After-decode
+module _ (c : In_ok-header) where
+  abbrev file : List ℕ
+  file = c.args.bytes.now
 
   abbrev header : Header
-  header = c.in-Read.header
+  header = c.in_ok-header.header
 
-  read : FileRead (file call) no-positions no-tags no-indices header call.decode.new.positions call.decode.new.tags call.decode.new.faces
-  read = file-read (file call) _ _ _ (ap decoded c.in-Read.is) call.decode.ensures
+  read : FileRead file no-positions no-tags no-indices header c.decode.new.positions c.decode.new.tags c.decode.new.faces
+  read = file-read file _ _ _ c.in_ok-header.ensures
 
-  whole : Whole (file call)
-  whole = file-whole (file call) read.passed
+  whole : Whole file
+  whole = file-whole file read.passed
 
-  vertices-are : header.vertices ≡ vertices (file call)
+  vertices-are : header.vertices ≡ vertices file
   vertices-are = ap (λ (h : Header). h.vertices) read.header_is
 
-  faces-are : header.faces ≡ faces (file call)
+  faces-are : header.faces ≡ faces file
   faces-are = ap (λ (h : Header). h.faces) read.header_is
 
-  steps-are : header.steps ≡ steps (file call)
+  steps-are : header.steps ≡ steps file
   steps-are = ap (λ (h : Header). h.steps) read.header_is
 
 -- ---- the parts of the lists are handed on
-abbrev tags-told : After-tessellate-arg-in-Read-1 → In-Read
-tags-told c = (goal.at.After-tessellate-arg-in-Read-1 c).In-Read
+module _ (c : In_ok-header) where
+  positions-fit : 3 * (header c).vertices ≤ length c.decode.new.positions
+  positions-fit = rw (read c).header_is (part-fits (position_at (file c)) (3 * vertices (file c)) _ _ (read c).positions-are)
 
-abbrev told : After-tessellate-arg-in-Read-3-1 → In-Read
-told c = tags-told (goal.at.After-tessellate-arg-in-Read-3-1 c).After-tessellate-arg-in-Read-1
+  tags-fit : (header c).vertices ≤ length c.decode.new.tags
+  tags-fit = rw (read c).header_is (part-fits (tag_at (file c)) (vertices (file c)) _ _ (read c).tags-are)
 
-pub overflow_mul-p : goal.overflow_mul-p
-overflow_mul-p c = omega (arith, vertices-are c, (whole c).vertices-high)
+  faces-fit : 4 * (header c).faces ≤ length c.decode.new.faces
+  faces-fit = rw (read c).header_is (part-fits (index_at (file c)) (4 * faces (file c)) _ _ (read c).faces-are)
 
-pub overflow_mul-i : goal.overflow_mul-i
-overflow_mul-i c = omega (arith, faces-are c, (whole c).faces-high)
+pub slice_bounds-positions-end : goal.slice_bounds-positions-end
+slice_bounds-positions-end c = positions-fit c
 
-pub slice_bounds-tessellate-end : goal.slice_bounds-tessellate-end
-slice_bounds-tessellate-end c =
-    omega (arith, vertices-are c, part-fits (position_at (file (call c))) (3 * vertices (file (call c))) _ _ (read c).positions-are)
+pub slice_bounds-mesh-end : goal.slice_bounds-mesh-end
+slice_bounds-mesh-end c = sym (length-take-le _ _ (positions-fit (goal.at.slice_bounds-mesh-end c).In_ok-header))
 
-pub slice_bounds-tessellate-end-in-Read-2 : goal.slice_bounds-tessellate-end-in-Read-2
-slice_bounds-tessellate-end-in-Read-2 c =
-    let k = tags-told c in
-    omega (arith, faces-are k, part-fits (index_at (file (call k))) (4 * faces (file (call k))) _ _ (read k).faces-are)
+pub slice_bounds-tags-end : goal.slice_bounds-tags-end
+slice_bounds-tags-end c = tags-fit (goal.at.slice_bounds-tags-end c).In_ok-header
+
+pub slice_bounds-mesh-end-2 : goal.slice_bounds-mesh-end-2
+slice_bounds-mesh-end-2 c = sym (length-take-le _ _ (tags-fit (goal.at.slice_bounds-mesh-end-2 c).In_ok-header))
+
+pub slice_bounds-faces-end : goal.slice_bounds-faces-end
+slice_bounds-faces-end c = faces-fit (goal.at.slice_bounds-faces-end c).In_ok-header
+
+pub slice_bounds-mesh-end-3 : goal.slice_bounds-mesh-end-3
+slice_bounds-mesh-end-3 c = sym (length-take-le _ _ (faces-fit (goal.at.slice_bounds-mesh-end-3 c).In_ok-header))
 
 pub tessellate-requires : goal.tessellate-requires
 tessellate-requires c =
-    let k = told c in
-    subst MeshSized (sym (mesh-is (file (call k)) (read k))) (whole-sized (file (call k)) (whole k))
+    let k = (goal.at.tessellate-requires c).In_ok-header in
+    subst MeshSized (sym (mesh-is (file k) (read k))) (whole-sized (file k) (whole k))
 
-pub returns-in-Read : goal.returns-in-Read
-returns-in-Read c =
-    let t = c in
-    let k = told (goal.at.returns-in-Read t).After-tessellate-arg-in-Read-3-1 in
-    let b = file (call k) in
-    open-mesh b (start (call k)).args.patches.now (read k).passed (mesh-is b (read k)) (steps-are k) t.tessellate.ensures
-
-pub returns-in-Refused : goal.returns-in-Refused
-returns-in-Refused c =
-    let b = file (goal.at.returns-in-Refused c).After-decode in
-    open-refused b _
-    (file-turned-down b no-positions no-tags no-indices
-    (as_long (3 * max_vertices) (pos 0)) (as_long {A = ℕ} max_vertices 0) (as_long {A = ℕ} (4 * max_faces) 0)
-    (ap decoded c.in-Refused.is) c.decode.ensures)
+pub returns : goal.returns
+returns c =
+    let k = (goal.at.returns c).In_ok-header in
+    open-mesh (file k) c.args.patches.now (read k).passed (mesh-is (file k) (read k)) (steps-are k) c.tessellate.ensures

@@ -3,7 +3,7 @@
 use Rattle.std.proofs.Common.{◌≡◌, refl, ap, ◌∙◌, subst, ◌≤◌, ◌<◌, [], ◌++◌, length, take, arith}
 use Rattle.std.specs.Io.KnownBytes.{Appends}
 use Rattle.std.proofs.KnownBytes.{Appends-nil, Appends-trans}
-use Rattle.meshfile.specs.Answer.{opened}
+use Rattle.answer.specs.Table.{answered}
 use Rattle.text.specs.Text.{line_places}
 use Rattle.listing.specs.Listing.{joined, line_at, handed_count}
 use Rattle.listing.proofs.StretchLaws.{leads-on, leads-within, begun, further, stretches-lines}
@@ -14,14 +14,14 @@ loop-line-init g c = (omega arith, refl, ([], begun, Appends-nil (g.W.Write.cont
 
 pub loop-line-smaller : goal.loop-line-smaller
 loop-line-smaller g c =
-    let more : c.loop-line.line < handed_count (opened c.args.file) = omega (arith, c.loop-line-test.true, c.line_count-lines.ensures) in
+    let more : c.loop-line.line < handed_count (answered c.args.file) = omega (arith, c.loop-line-test.true, c.line_count-lines.ensures) in
     let room : line_places ≤ length c.loop-line.out = omega (arith, c.requires, c.loop-line.invariant.1) in
     omega (arith, more, c.line_count-lines.ensures, leads-on c.stretch-next.ensures more room)
 
 pub loop-line-preserved : goal.loop-line-preserved
 loop-line-preserved g c =
-    let more : c.loop-line.line < handed_count (opened c.args.file) = omega (arith, c.loop-line-test.true, c.line_count-lines.ensures) in
-    let within : c.stretch-next.result.line ≤ handed_count (opened c.args.file) = leads-within c.stretch-next.ensures (omega (arith, more)) in
+    let more : c.loop-line.line < handed_count (answered c.args.file) = omega (arith, c.loop-line-test.true, c.line_count-lines.ensures) in
+    let within : c.stretch-next.result.line ≤ handed_count (answered c.args.file) = leads-within c.stretch-next.ensures (omega (arith, more)) in
     let so_far = c.loop-line.invariant.2 in
     let held = g.W.Write.contents in (
       omega (arith, within, c.line_count-lines.ensures),
@@ -36,7 +36,7 @@ loop-line-preserved g c =
 pub returns : goal.returns
 returns g c =
     let so_far = c.loop-line.invariant.2 in
-    let answer = opened c.args.file in
+    let answer = answered c.args.file in
     let patches = c.args.patches.now in
     let last : c.loop-line.line ≡ handed_count answer = omega (arith, c.loop-line-test.false, c.loop-line.invariant.0, c.line_count-lines.ensures) in
     let whole : so_far.0 ≡ joined (line_at answer patches) (handed_count answer) =

@@ -3,4 +3,4 @@ use Rattle.surface.proofs.WitnessLaws.{witnessed}
 use Rattle.surface.proofs.witness.Goals as goal
 
 pub returns : goal.returns
-returns c = witnessed c.evaluate-first.ensures c.sample-other.ensures c.evaluate.ensures
+returns c = witnessed c.evaluate-first.ensures c.sample-other.ensures c.evaluate-second.ensures

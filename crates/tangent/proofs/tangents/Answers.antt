@@ -1,24 +1,21 @@
 -- `tangents` meets its contract: what the check refuses is refused, then what the call finds of its own; where nothing is met, the face has no
 -- corner on the boundary, and its numbers are written from the twins that the check left.
-use mathlib.Core.Path.{◌≡◌, refl, sym, ap, ◌∙◌}
-use mathlib.Core.List.{List}
-use Prim.Native.Nat.{ℕ}
-use native.Mathlib.Nat.{le_of_eq}
-use lib.IntN.{ℤ}
-use Rattle.answer.specs.Table.{result}
-use Rattle.limits.specs.declared.model.Mesh.{Mesh}
-use Rattle.mesh.specs.IndexedMesh.{IndexedMesh, indexed}
-use Rattle.mesh.specs.Answer.{checked, check_answer}
+use Rattle.std.proofs.Common.{◌≡◌, Err, Result, sym, ap, ◌∙◌, subst, List, ℕ, ℤ, rules}
+use Rattle.answer.specs.Table.{result, answered}
+use Rattle.answer.specs.declared.refusal.Refusal.{Refusal}
+use Rattle.mesh.specs.IndexedMesh.{IndexedMesh, mesh_in}
+use Rattle.mesh.specs.Answer.{check_answer}
+use Rattle.tangent.specs.Answer.{TangentsGiven}
 use Rattle.tangent.specs.Lists.{Fanned}
 use Rattle.tangent.proofs.FillLaws.{drawn}
-use Rattle.tangent.proofs.AnswerLaws.{own_twins, refused, check-refused, formed, fanned, own-refused, face-below, face-closed, list-long, done}
-use Rattle.tangent.proofs.tangents.Goals.{In_default, Start}
+use Rattle.tangent.proofs.AnswerLaws.{own_twins, stopped, check-refused, formed, fanned, own-refused, face-below, face-closed, done}
+use Rattle.tangent.proofs.tangents.Goals.{In_ok-check, In_ok-valences, Start}
 use Rattle.tangent.proofs.tangents.Goals as goal
 
 -- ---- at the entry: the mesh that was passed, and the list that was lent
 module _ (s : Start) where
   abbrev mesh : IndexedMesh
-  mesh = indexed s.args.v s.args.f s.args.positions.now s.args.tags.now s.args.faces.now
+  mesh = mesh_in s.args.mesh
 
   abbrev lent : List ℤ
   lent = s.args.tangents.now
@@ -26,49 +23,60 @@ module _ (s : Start) where
   abbrev face : ℕ
   face = s.args.g
 
--- ---- it accepted
-module _ (c : In_default) where
+  abbrev Given : Result Unit Refusal → Type 0
+  Given r = TangentsGiven mesh face lent r lent
+
+-- ---- the check accepted
+module _ (c : In_ok-check) where
   abbrev entry : Start
-  entry = (goal.at.In_default c).Start
+  entry = (goal.at.In_ok-check c).Start
 
-  -- the counts that it gave
-  accepted : (m : Mesh) × (result m ≡ check_answer (mesh entry) own_twins)
-  accepted = (_, sym (ap checked c.in_default.is) ∙ c.check-answer.ensures.answer-is)
+  accepted : result c.in_ok-check.field-0 ≡ check_answer (mesh entry) own_twins
+  accepted = sym (ap answered c.in_ok-check.was) ∙ c.check.ensures.answer-is
 
-  twins-left : Fanned (mesh entry).indices c.check-answer.new.twins
-  twins-left = fanned (mesh entry) (face entry) (lent entry) accepted.1 _ c.check-answer.ensures.twins-are
+  twins-left : Fanned (mesh entry).indices c.check.new.twins
+  twins-left = fanned (mesh entry) (face entry) (lent entry) accepted _ c.check.ensures.twins-are
 
-pub returns-in-Refused : goal.returns-in-Refused
-returns-in-Refused c =
-    let s = (goal.at.returns-in-Refused c).Start in
-    refused (mesh s) (face s) (lent s)
-    (check-refused (mesh s) (face s) (lent s) (sym (ap checked c.in-Refused.is) ∙ c.check-answer.ensures.answer-is)) _ refl
+-- ---- and the face was found
+abbrev checked : In_ok-valences → In_ok-check
+checked c = (goal.at.In_ok-valences c).In_ok-check
 
-pub face_refusal-own-requires : goal.face_refusal-own-requires
-face_refusal-own-requires c =
-    let k = (goal.at.face_refusal-own-requires c).In_default in
+-- ---- the answers, in the order of the code
+pub returns-in_err-check : goal.returns-in_err-check
+returns-in_err-check c =
+    let s = (goal.at.returns-in_err-check c).Start in
+    let gone : c.from_residual.result ≡ Err c.in_err-check.field-0.0 = search rules in
+    subst (Given s) (sym gone)
+    (stopped (mesh s) (face s) (lent s) _
+    (check-refused (mesh s) (face s) (lent s) (sym (ap answered c.in_err-check.was) ∙ c.check.ensures.answer-is)))
+
+pub invariant_of-accepted : goal.invariant_of-accepted
+invariant_of-accepted c =
+    let k = (goal.at.invariant_of-accepted c).In_ok-check in
     let s = entry k in
-    (twins-left k, (formed (mesh s) (face s) (lent s) (accepted k).1).sized.indices-are)
+    record { fanned = twins-left k; listed = (formed (mesh s) (face s) (lent s) (accepted k)).sized.indices-are }
 
-pub returns-then-own-ne0 : goal.returns-then-own-ne0
-returns-then-own-ne0 c =
-    let k = (goal.at.returns-then-own-ne0 c).In_default in
+pub returns-in_err-valences : goal.returns-in_err-valences
+returns-in_err-valences c =
+    let k = (goal.at.returns-in_err-valences c).In_ok-check in
     let s = entry k in
-    refused (mesh s) (face s) (lent s)
-    (own-refused (mesh s) (face s) (lent s) (accepted k).1 _ c.face_refusal-own.ensures c.if-own-ne0.true) _ refl
+    let gone : c.from_residual-in_err-valences.result ≡ Err c.in_err-valences.field-0.0 = search rules in
+    subst (Given s) (sym gone)
+    (stopped (mesh s) (face s) (lent s) _ (own-refused (mesh s) (face s) (lent s) (accepted k) _ c.asked_face.ensures.own _ c.in_err-valences.was))
 
-pub fill_tangents-requires : goal.fill_tangents-requires
-fill_tangents-requires c =
-    let k = (goal.at.fill_tangents-requires c).In_default in
+pub face_tangents-requires : goal.face_tangents-requires
+face_tangents-requires c =
+    let k = checked (goal.at.face_tangents-requires c).In_ok-valences in
     let s = entry k in
-    let w = formed (mesh s) (face s) (lent s) (accepted k).1 in
-    let ok = c.face_refusal-own.ensures in
-    drawn w (face s) (face-below (mesh s) (face s) (lent s) (accepted k).1 _ ok c.if-own-ne0.false)
-    (face-closed (mesh s) (face s) (lent s) (accepted k).1 _ ok c.if-own-ne0.false) (twins-left k) (lent s)
-    (le_of_eq (sym (list-long (mesh s) (face s) (lent s) (accepted k).1 _ ok c.if-own-ne0.false)))
+    let w = formed (mesh s) (face s) (lent s) (accepted k) in
+    let own = c.asked_face.ensures.own in
+    let was = c.in_ok-valences.was in
+    drawn w (face s) (face-below (mesh s) (face s) (lent s) (accepted k) _ own _ was)
+    (face-closed (mesh s) (face s) (lent s) (accepted k) _ own _ was) _ c.in_ok-valences.ensures.counts
 
 pub returns : goal.returns
 returns c =
-    let k = (goal.at.returns c).In_default in
+    let k = checked (goal.at.returns c).In_ok-valences in
     let s = entry k in
-    done (mesh s) (face s) (lent s) (accepted k).1 _ c.face_refusal-own.ensures c.if-own-ne0.false _ refl (twins-left k) c.fill_tangents.ensures
+    done (mesh s) (face s) (lent s) (accepted k) _ c.asked_face.ensures.own _ c.in_ok-valences.was (twins-left k)
+    (c.copy_from_slice.ensures.after ∙ c.face_tangents.ensures)

@@ -1,16 +1,12 @@
--- `counts_line` meets its contract: the four numbers are stored one behind the other, each with the byte behind it.
-use native.Mathlib.Omega.{arith}
-use Rattle.text.specs.Text.{decimal, counts_line}
-use Rattle.text.proofs.TextLaws.{put_word, printed, unprinted}
+-- `counts_line` meets its contract: its four numbers have at most 20 digits each.
+use Rattle.std.proofs.Common.{length-append, arith}
+use Rattle.text.specs.Text.{counts_line}
+use Rattle.text.proofs.TextLaws.{decimal-length}
 use Rattle.text.proofs.counts_line.Goals as goal
 
-pub returns-then-line-lt-LINE_PLACES : goal.returns-then-line-lt-LINE_PLACES
-returns-then-line-lt-LINE_PLACES c = unprinted _ _ c.if-line-lt-LINE_PLACES.true
+pub write_line-requires : goal.write_line-requires
+write_line-requires c = simp length-append (omega (arith, decimal-length c.args.v, decimal-length c.args.f, decimal-length c.args.e, decimal-length c.args.b))
 
 pub returns : goal.returns
 unfolding counts_line
-returns c =
-    printed (omega arith) (omega arith)
-    (put_word (decimal c.args.v) c.put_number-f_at.ensures.put
-    (put_word (decimal c.args.f) c.put_number-e_at.ensures.put
-    (put_word (decimal c.args.e) c.put_number-b_at.ensures.put c.put_number.ensures.put)))
+returns c = c.write_line.ensures

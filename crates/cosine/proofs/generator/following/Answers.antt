@@ -1,16 +1,11 @@
 -- `following` meets its contract: with no number of the recurrence above 2^21 in size, the product and the difference fit 64 bits.
-use mathlib.Core.Path.{◌≡◌, ap, ap₂, ◌∙◌}
-use Prim.Native.Nat.{◌^◌, ◌≤◌}
-use native.Mathlib.Omega.{arith}
-use lib.IntN.{ℤ, pos, nat_abs, ◌-ℤ◌, ◌*ℤ◌}
-use mir.Syntax.{w64}
-use mir.Val.{SFits, to_z, of_z}
+use Rattle.std.proofs.Common.{◌≡◌, ap, ap₂, ◌∙◌, ◌^◌, ◌≤◌, arith, w64, ℤ, pos, nat_abs, ◌-ℤ◌, ◌*ℤ◌, FitsSigned, to_z, of_z}
 use mir.Facts.{to_z-of_z}
 use Rattle.integer.specs.Nearest.{nearest}
-use Rattle.integer.proofs.Laws.{abs-*, abs-*-≤, abs--, sfits-abs, read_back}
+use Rattle.integer.proofs.Laws.{abs-*, abs-*-≤, abs--, sfits-abs}
 use Rattle.integer.proofs.NearestLaws.{nearest-bounded}
 use Rattle.cosine.specs.Cosine.{scale}
-use Rattle.cosine.proofs.generator.following.Goals.{After-round, After-struct_told-1, Start}
+use Rattle.cosine.proofs.generator.following.Goals.{After-round, Start}
 use Rattle.cosine.proofs.generator.following.Goals as goal
 
 -- ---- at the start: the product
@@ -24,37 +19,37 @@ module _ (c : Start) where
   double-size : nat_abs double ≤ 2 ^ 21
   double-size = omega (arith, abs-* (pos 2) c.args.c)
 
-  double-fits : SFits w64 double
+  double-fits : FitsSigned w64 double
   double-fits = sfits-abs double (omega (arith, double-size))
 
   product-size : nat_abs product ≤ 2 ^ 42
   product-size = abs-*-≤ double c.args.last double-size c.requires.1
 
-  product-fits : SFits w64 product
+  product-fits : FitsSigned w64 product
   product-fits = sfits-abs product (omega (arith, product-size))
 
 -- ---- what `round` gave, and the difference
-module _ (c : After-struct_told-1) where
-  abbrev divided : After-round
-  divided = (goal.at.After-struct_told-1 c).After-round
-
+module _ (c : After-round) where
   abbrev start : Start
-  start = (goal.at.After-round divided).Start
+  start = (goal.at.After-round c).Start
 
   abbrev quotient : ℤ
   quotient = nearest (product start) scale
 
-  rounded : to_z w64 (of_z w64 divided.round.result.value) ≡ quotient
-  rounded =
-      read_back w64 c.struct_told-1.given.0.1
-      (divided.round.ensures.0
-      ∙ ap (λ (z : ℤ). nearest z scale)
-      (simp (to_z-of_z start.ranges.c, to_z-of_z (double-fits start), to_z-of_z start.ranges.last, to_z-of_z (product-fits start))))
+  quotient-size : nat_abs quotient ≤ 2 ^ 42
+  quotient-size = nearest-bounded (product start) scale (2 ^ 42) (omega arith) (omega (arith, product-size start))
 
-  rest-fits : SFits w64 (quotient -ℤ start.args.before)
-  rest-fits =
-      let b = nearest-bounded (product start) scale (2 ^ 42) (omega arith) (omega (arith, product-size start)) in
-      sfits-abs (quotient -ℤ start.args.before) (omega (arith, b, abs-- quotient start.args.before))
+  given : c.round.result.value ≡ quotient
+  given =
+      c.round.ensures.0
+      ∙ ap (λ (z : ℤ). nearest z scale)
+      (simp (to_z-of_z start.ranges.c, to_z-of_z (double-fits start), to_z-of_z start.ranges.last, to_z-of_z (product-fits start)))
+
+  rounded : to_z w64 (of_z w64 c.round.result.value) ≡ quotient
+  rounded = ap (λ (z : ℤ). to_z w64 (of_z w64 z)) given ∙ to_z-of_z (sfits-abs {w = w64} quotient (omega (arith, quotient-size)))
+
+  rest-fits : FitsSigned w64 (quotient -ℤ start.args.before)
+  rest-fits = sfits-abs (quotient -ℤ start.args.before) (omega (arith, quotient-size, abs-- quotient start.args.before))
 
 -- ---- the answers, in the order of the code
 pub overflow_mul-c : goal.overflow_mul-c
@@ -64,7 +59,10 @@ pub overflow_mul-c-2 : goal.overflow_mul-c-2
 overflow_mul-c-2 c = simp (to_z-of_z c.ranges.c, to_z-of_z (double-fits c), to_z-of_z c.ranges.last) (product-fits c)
 
 pub overflow_sub-result : goal.overflow_sub-result
-overflow_sub-result c = rw (rounded c, to_z-of_z (start c).ranges.before) (rest-fits c)
+overflow_sub-result c =
+    let r : After-round = (goal.at.overflow_sub-result c).After-round in rw (rounded r, to_z-of_z c.ranges.before) (rest-fits r)
 
 pub returns : goal.returns
-returns c = ap (λ (z : ℤ). to_z w64 (of_z w64 z)) (ap₂ ◌-ℤ◌ (rounded c) (to_z-of_z (start c).ranges.before)) ∙ to_z-of_z (rest-fits c)
+returns c =
+    let r : After-round = (goal.at.returns c).After-round in
+    ap (λ (z : ℤ). to_z w64 (of_z w64 z)) (ap₂ ◌-ℤ◌ (rounded r) (to_z-of_z c.ranges.before)) ∙ to_z-of_z (rest-fits r)

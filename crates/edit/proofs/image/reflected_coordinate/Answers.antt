@@ -25,15 +25,12 @@ kept zero z h = absurd (h refl)
 kept (suc k) z h = refl
 
 pub overflow_sub-result : goal.overflow_sub-result
-overflow_sub-result c =
-    let s = c in
-    simp (to_z-of_z s.ranges.z) (fits s.args.z s.requires)
+overflow_sub-result c = simp (to_z-of_z c.ranges.z) (fits c.args.z c.requires)
 
 pub returns-then-k-eq0 : goal.returns-then-k-eq0
 returns-then-k-eq0 c =
-    let s = c in
-    simp (to_z-of_z s.ranges.z, to_z-of_z (fits s.args.z s.requires))
-    (minus s.args.z ∙ ap (λ (k : ℕ). reflected k s.args.z) (sym c.if-k-eq0.true))
+    simp (to_z-of_z c.ranges.z, to_z-of_z (fits c.args.z c.requires))
+    (minus c.args.z ∙ ap (λ (k : ℕ). reflected k c.args.z) (sym c.if-k-eq0.true))
 
 pub returns : goal.returns
-returns c = let s = c in simp (to_z-of_z s.ranges.z) (kept s.args.k s.args.z c.if-k-eq0.false)
+returns c = simp (to_z-of_z c.ranges.z) (kept c.args.k c.args.z c.if-k-eq0.false)

@@ -9,7 +9,8 @@ use Rattle.line.specs.declared.model.Differences.{Differences}
 use Rattle.line.specs.Differences.{forward, forward₂, forward₃, differences_at}
 use Rattle.line.proofs.SizedLaws.{read, ReadAs, sized, times-fits, times-sized, plus-fits, plus-sized, sum_fits, sum-sized}
 use Rattle.line.proofs.DifferenceLaws.{same-differences, first-size, second-size, third-size, cubic-start}
-use Rattle.line.proofs.differences.first_sums.Goals.{After-add_product, After-add_product-2, After-add_product-first, After-add_product-half, After-differences-d, After-struct_told-2-1, After-struct_told-5-1, Start}
+use Rattle.line.proofs.differences.first_sums.Goals.{After-add_product, After-add_product-2, After-add_product-first, After-add_product-half}
+use Rattle.line.proofs.differences.first_sums.Goals.{After-differences-d, After-struct_told-2-1, After-struct_told-5-1, Start}
 use Rattle.line.proofs.differences.first_sums.Goals as goal
 
 zero : ReadAs (pos 0) (pos 0) 0
@@ -120,7 +121,9 @@ pub overflow_mul-m : goal.overflow_mul-m
 overflow_mul-m c = omega (arith, (start c).requires.few)
 
 pub add_product-half-requires : goal.add_product-half-requires
-add_product-half-requires c = let d = c in sum_fits zero (curve-second (goal.at.add_product-half-requires d).After-differences-d) _ 96 (omega (arith, (start (goal.at.add_product-half-requires d).After-differences-d).requires.few)) (omega arith)
+add_product-half-requires c =
+    let d = (goal.at.add_product-half-requires c).After-differences-d in
+    sum_fits zero (curve-second d) _ 96 (omega (arith, (start d).requires.few)) (omega arith)
 
 pub overflow_add-half : goal.overflow_add-half
 overflow_add-half c = let h = read-third c in plus-fits (half h) (curve-third (entries h)) (omega arith)
@@ -144,7 +147,9 @@ pub overflow_mul-m-5 : goal.overflow_mul-m-5
 overflow_mul-m-5 c = omega (arith, cube (start (entries-2 c)))
 
 pub add_product-requires : goal.add_product-requires
-add_product-requires c = let d = entries-2 (goal.at.add_product-requires c).After-add_product-first in sum_fits zero (curve-value d) _ 32768 (omega (arith, cube (start d))) (omega arith)
+add_product-requires c =
+    let d = entries-2 (goal.at.add_product-requires c).After-add_product-first in
+    sum_fits zero (curve-value d) _ 32768 (omega (arith, cube (start d))) (omega arith)
 
 pub overflow_mul-d : goal.overflow_mul-d
 overflow_mul-d c = times-fits 3 (curve-third (entries-3 (read-third-2 c))) (omega arith)
@@ -156,7 +161,9 @@ pub add_product-requires-2 : goal.add_product-requires-2
 add_product-requires-2 c = sum_fits zero (whole-half (read-third-2 c)) 2 2 (omega arith) (omega arith)
 
 pub add_product-requires-3 : goal.add_product-requires-3
-add_product-requires-3 c = sum_fits zero (curve-third (entries-3 (past-sum (goal.at.add_product-requires-3 c).After-add_product-2))) 6 6 (omega arith) (omega arith)
+add_product-requires-3 c =
+    let d = entries-3 (past-sum (goal.at.add_product-requires-3 c).After-add_product-2) in
+    sum_fits zero (curve-third d) 6 6 (omega arith) (omega arith)
 
 pub returns : goal.returns
 returns c =

@@ -12,7 +12,8 @@ use Rattle.line.specs.Points.{curve_in}
 use Rattle.line.proofs.SizedLaws.{read}
 use Rattle.line.proofs.LineLaws.{of_three, line_along, curve-summable, drawn-start, drawn-length}
 use Rattle.line.proofs.LineLaws.{drawn-asked, drawn-tame, drawn-told, drawn-more}
-use Rattle.line.proofs.points.write_points.Goals.{After-along_z-1, After-first_sums-z, After-line-1, After-quotient-p, After-quotient-q, After-quotient-r, After-stepped-z, At-loop-a, In-loop-a, Start}
+use Rattle.line.proofs.points.write_points.Goals.{After-along_z-1, After-first_sums-z, After-line-1, After-quotient-p, After-quotient-q}
+use Rattle.line.proofs.points.write_points.Goals.{After-quotient-r, After-stepped-z, At-loop-a, In-loop-a, Start}
 use Rattle.line.proofs.points.write_points.Goals as goal
 
 -- ---- at the entry: the curve of coordinate k
@@ -138,7 +139,6 @@ shape_of-line c = same (goal.at.shape_of-line c).At-loop-a
 
 pub returns : goal.returns
 returns c =
-    let l = c in
-    let s = (entry (goal.at.returns l).At-loop-a).args in
-    l.loop-a.invariant.points
-    ∙ ap (λ (a : ℕ). filled (line_along s.n s.curves) (3 * a) s.line.now) (le_antisymm l.loop-a.invariant.within c.loop-a-test.false)
+    let s = (entry (goal.at.returns c).At-loop-a).args in
+    c.loop-a.invariant.points
+    ∙ ap (λ (a : ℕ). filled (line_along s.n s.curves) (3 * a) s.line.now) (le_antisymm c.loop-a.invariant.within c.loop-a-test.false)

@@ -5,7 +5,7 @@ use lib.IntN.{ℤ}
 use Rattle.answer.specs.Table.{result}
 use Rattle.line.specs.Line.{point_in}
 use Rattle.listing.specs.Listing.{line_of}
-use Rattle.listing.specs.declared.model.Place.{Place}
+use Rattle.sample.specs.declared.model.Place.{Place}
 use Rattle.listing.proofs.RowLaws.{Running}
 use Rattle.listing.proofs.samples.point_lines.Given as goal
 

@@ -3,8 +3,8 @@
 use mathlib.Core.Bool.{false}
 use mathlib.Core.List.{List}
 use mathlib.Core.Path.{◌≡◌}
-use Prim.Native.Nat.{ℕ, ◌-◌, ◌≤◌}
-use lib.ListN.{length}
+use Prim.Native.Nat.{ℕ}
+use Rattle.std.specs.Prelude.{Option}
 use Rattle.finite.specs.Fold.{any_below}
 use Rattle.corner.specs.Corner.{next}
 use Rattle.mesh.specs.HalfEdge.{runs}
@@ -12,15 +12,9 @@ use Rattle.mesh.specs.Tables.{vertex_of, Chained}
 use Rattle.mesh.proofs.chain.link_corners.Given as goal
 
 -- the corners below c are chained, and no half-edge of theirs runs as an earlier one does
-pub record Linking (faces : List ℕ) (n : ℕ) (head₀ link₀ head link : List ℕ) (c : ℕ) : Type 0 where
-  pub within : c ≤ n
-  pub heads-kept : length head ≡ length head₀
-  pub links-kept : length link ≡ length link₀
+pub record Linking (faces : List ℕ) (head link : List (Option ℕ)) (c : ℕ) : Type 0 where
   pub chained : Chained (vertex_of faces) c head link
   pub apart : any_below (λ d. any_below (runs (vertex_of faces) (vertex_of faces d) (vertex_of faces (next d))) d) c ≡ false
 
 abbrev pub invariant-loop-c : goal.invariant-loop-c
-invariant-loop-c l = Linking l.faces l.n l.initial.head l.initial.link l.head l.link l.c
-
-abbrev pub decreases-loop-c : goal.decreases-loop-c
-decreases-loop-c l = l.n - l.c
+invariant-loop-c l = Linking l.faces l.tables.head l.tables.link l.c

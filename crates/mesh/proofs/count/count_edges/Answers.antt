@@ -1,48 +1,17 @@
--- `count_edges` meets its contract: the count is that of the half-edges passed.
-use mathlib.Core.List.{List}
-use mathlib.Core.Path.{◌≡◌, ap}
-use Prim.Native.Nat.{ℕ}
-use native.Mathlib.Numerals.{add-one-le, add-one-dec}
-use native.Mathlib.Omega.{arith}
+-- `count_edges` meets its contract: it counts the places of the half-edges that come before their twins.
+use mathlib.Core.Path.{◌∙◌}
 use lib.Dec.{ltb}
+use Prim.Native.Nat.{ℕ}
 use borrow.Author.Rules.{rules}
-use Rattle.finite.proofs.Counting.{count-start, count-bit, count-all, count-le, indicator-le}
-use Rattle.mesh.proofs.count.count_edges.Invariants.{leads}
-use Rattle.mesh.proofs.count.count_edges.Goals.{After-bit-count, At-loop-c, In-loop-c}
+use Rattle.std.proofs.lemmas.Iterator.{YieldsList-from_slice}
+use Rattle.std.proofs.lemmas.Iterator.Consumers.{YieldsList-from_enumerate, YieldsList-from_filter, count_from_yields_List}
+use Rattle.mesh.proofs.ListLaws.{count-places}
 use Rattle.mesh.proofs.count.count_edges.Goals as goal
 
--- ---- the twin of half-edge c is read and compared
-module _ (c : After-bit-count) where
-  abbrev passing : In-loop-c
-  passing = (goal.at.After-bit-count c).In-loop-c
-
-  abbrev at-loop : At-loop-c
-  at-loop = (goal.at.In-loop-c passing).At-loop-c
-
-  abbrev twins : List ℕ
-  twins = at-loop.args.twins.now
-
-  told : ltb at-loop.loop-c.c c.wide.result ≡ leads twins at-loop.loop-c.c
-  told = ap (ltb at-loop.loop-c.c) c.wide.ensures
-
--- ---- the answers, in the order of the code
-pub loop-c-init : goal.loop-c-init
-loop-c-init c = (omega arith, count-start (leads c.args.twins.now))
-
-pub overflow_add-count : goal.overflow_add-count
-overflow_add-count c =
-    let i = (at-loop c).loop-c.c in
-    omega (arith, c.bit-count.ensures, indicator-le (ltb i c.wide.result), count-le (leads (twins c)) i)
-
-pub loop-c-smaller : goal.loop-c-smaller
-loop-c-smaller c = add-one-dec _ _ (passing c).loop-c-test.true
-
-pub loop-c-preserved : goal.loop-c-preserved
-loop-c-preserved c =
-    let l = (at-loop c).loop-c in (
-      add-one-le (passing c).loop-c-test.true,
-      count-bit (leads (twins c)) l.c l.count c.bit-count.result _ l.invariant.1 (told c) c.bit-count.ensures,
-    )
-
 pub returns : goal.returns
-returns c = search (count-all, rules)
+returns c =
+    count_from_yields_List c.filter.result c.count.result c.count.ensures.ran
+    (YieldsList-from_filter _ (λ (t : ℕ × ℕ). ltb t.0 t.1)
+    (YieldsList-from_enumerate (YieldsList-from_slice c.args.twins.now (cc)) (cc))
+    c.filter.ensures.closure (λ x b q k. search rules))
+    ∙ count-places ltb c.args.twins.now

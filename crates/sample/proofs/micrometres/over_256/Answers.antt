@@ -8,4 +8,4 @@ use Rattle.sample.proofs.micrometres.over_256.Goals as goal
 -- the divisor's bits are those of 256.0
 pub returns : goal.returns
 unfolding of_bits
-returns c = rw (to_z-of_z c.ranges.n) (over256-exact c.args.n _ c.ranges.n.sfits refl)
+returns c = rw (c.from.ensures, to_z-of_z c.ranges.n) (over256-exact c.args.n _ c.ranges.n.sfits refl)

@@ -2,18 +2,12 @@
 use mathlib.Core.Path.{refl}
 use Prim.Native.Nat.{◌^◌}
 use native.Mathlib.Omega.{arith}
-use Rattle.tangent.proofs.MachineLaws.{Term, wide, times, ◌⊟◌, size, result, fits}
+use Rattle.tangent.proofs.MachineLaws.{Term, wide, times, ◌⊟◌, size, result}
 use Rattle.tangent.proofs.side.triple_difference.Goals.{Start}
 use Rattle.tangent.proofs.side.triple_difference.Goals as goal
 
 abbrev between : Start → Term
 between s = wide s.args.y (2 ^ 35) ⊟ wide s.args.z (2 ^ 35)
-
-pub overflow_sub-result : goal.overflow_sub-result
-overflow_sub-result s = fits (between s) s.requires refl
-
-pub overflow_mul-result : goal.overflow_mul-result
-overflow_mul-result s = fits (times 3 (between s)) s.requires refl
 
 pub returns : goal.returns
 returns s =

@@ -6,12 +6,13 @@ use mir.Syntax.{w64}
 use mir.Val.{to_z, of_z}
 use mir.Facts.{to_z-of_z}
 use Rattle.integer.proofs.Difference.{int, ~, prove-eq}
-use Rattle.integer.proofs.Laws.{abs_neg, read_back}
+use Rattle.integer.proofs.Laws.{read_back}
 use Rattle.tangent.specs.Vector.{first_term, second_term, corrected}
 use Rattle.tangent.specs.Lists.{vector_of}
 use Rattle.tangent.proofs.DocumentLaws.{triple-difference-back, first_back}
+use Rattle.tangent.proofs.MachineLaws.{negation, negation-fits}
 use Rattle.tangent.proofs.SideLaws.{Fitting, fitting}
-use Rattle.tangent.proofs.side.vector.Goals.{After-negated, Start}
+use Rattle.tangent.proofs.side.vector.Goals.{Start}
 use Rattle.tangent.proofs.side.vector.Goals as goal
 
 -- ---- at the start: the numbers of the side fit
@@ -27,10 +28,6 @@ from-the-end k0 k1 near far end =
     first_back k1 k0 (neg_ℤ end) (pos 3 *ℤ (near -ℤ far))
     ∙ ap₂ (second_term k0 k1) (triple-difference-back near far) (prove-eq (~ (~ (int end))) (int end) (omega arith))
 
--- ---- the end vector, reversed
-reversed-is : (c : After-negated) → to_z w64 (of_z w64 c.negated.result) ≡ neg_ℤ c.args.a.end
-reversed-is c = read_back w64 c.negated.type_inv (rw (to_z-of_z (whole (goal.at.After-negated c).Start).end) at c.negated.ensures)
-
 -- ---- the answers, in the order of the code
 pub triple_difference-requires : goal.triple_difference-requires
 triple_difference-requires c =
@@ -41,21 +38,6 @@ pub triple_difference-requires-in-Inner : goal.triple_difference-requires-in-Inn
 triple_difference-requires-in-Inner c =
     let w = whole (goal.at.triple_difference-requires-in-Inner c).Start in
     (rw (to_z-of_z w.inner-far) c.requires.inner-far, rw (to_z-of_z w.inner-near) c.requires.inner-near)
-
-pub negated-requires : goal.negated-requires
-negated-requires c = rw (to_z-of_z (whole (goal.at.negated-requires c).Start).end) c.requires.end
-
-pub into-requires-in-EndIn : goal.into-requires-in-EndIn
-into-requires-in-EndIn c =
-    let w = whole (goal.at.into-requires-in-EndIn c).Start in
-    record {
-      cosine = rw (to_z-of_z w.end-cosine) c.requires.end-cosine;
-      other-cosine = rw (to_z-of_z w.start-cosine) c.requires.start-cosine;
-      corner = rw (reversed-is (goal.at.into-requires-in-EndIn c).After-negated) (omega (arith, abs_neg c.args.a.end, c.requires.end));
-      near = rw (to_z-of_z w.far) c.requires.far;
-      far = rw (to_z-of_z w.near) c.requires.near;
-      inner = rw (to_z-of_z w.inner-far) c.requires.inner-far;
-    }
 
 pub returns-in-Start : goal.returns-in-Start
 unfolding vector_of
@@ -103,9 +85,13 @@ unfolding vector_of
 returns-in-EndIn c =
     let w = whole (goal.at.returns-in-EndIn c).Start in
     let a = c.args.a in
+    let reversed : to_z w64 (of_z w64 (pos 0 -ℤ to_z w64 (of_z w64 a.end))) ≡ neg_ℤ a.end =
+    ap (λ (z : ℤ). to_z w64 (of_z w64 (pos 0 -ℤ z))) (to_z-of_z w.end)
+    ∙ ap (λ (z : ℤ). to_z w64 (of_z w64 z)) (negation a.end)
+    ∙ to_z-of_z (negation-fits a.end (omega (arith, c.requires.end))) in
     rw c.in-EndIn.is (
       read_back w64 c.into-in-EndIn.type_inv
-          (rw (to_z-of_z w.end-cosine, to_z-of_z w.start-cosine, reversed-is (goal.at.returns-in-EndIn c).After-negated, to_z-of_z w.far, to_z-of_z w.near, to_z-of_z w.inner-far)
+          (rw (to_z-of_z w.end-cosine, to_z-of_z w.start-cosine, reversed, to_z-of_z w.far, to_z-of_z w.near, to_z-of_z w.inner-far)
           at c.into-in-EndIn.ensures.0
           ∙ ap (λ (t : ℤ). corrected t (pos 3 *ℤ (a.inner_far -ℤ a.far)))
           (from-the-end a.start_cosine a.end_cosine a.near a.far a.end)),

@@ -1,0 +1,1 @@
+-- `vertex_point` meets its contract: each coordinate of the corner point is looked up by its own call, and its mark in the table of marks.

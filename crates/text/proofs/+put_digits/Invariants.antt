@@ -1,5 +1,0 @@
--- the number, of which each call takes a hundredth
-use Rattle.text.proofs.+put_digits.Given as goal
-
-abbrev pub decreases-put_digits : goal.decreases-put_digits
-decreases-put_digits l = l.n
