@@ -3,6 +3,7 @@
 --
 --   From rows rest   what is first met of rows is what is first met of rest, the rows that are not checked yet
 --   or_else m m'    the first of two numbers, where it is there, else the second
+--   Met rows met   `met` is the refusal of the first cause met of the rows, if one is
 --   over g answer  the answer with g of its result, or the same refusal
 --   `first_met (row b k ∷ rows)` is `cond b (some k) (first_met rows)`; the laws speak of that form, with m what the rows after it give.
 use mathlib.Core.Path.{◌≡◌, refl, sym, ap, ◌∙◌}
@@ -11,10 +12,11 @@ use mathlib.Core.List.{List, [], ◌∷◌, ◌++◌}
 use mathlib.Core.Option.{Option, none, some}
 use Prim.Native.Nat.{ℕ}
 use native.Mathlib.Omega.{arith}
-use Rattle.std.specs.Prelude.{Ok, Err}
+use Rattle.std.specs.Prelude.{Result, Ok, Err}
 use Rattle.answer.specs.declared.refusal.Refusal.{Refusal}
 use Rattle.answer.specs.Number.{number}
-use Rattle.answer.specs.Table.{Row, row, first_met, Answer, result, refusal, answer_by, answered, refused, result_of, refuse_by}
+use Rattle.answer.proofs.NumberLaws.{number-told}
+use Rattle.answer.specs.Table.{Row, row, first_met, Answer, result, refusal, answer_by, answered, refused, result_of, refuse_by, met_or}
 
 -- ---- one row
 module _ (k : ℕ) (m : Option ℕ) {b : Bool} where
@@ -79,7 +81,7 @@ refusal-met x (some j) e = cc
 -- the code's `Result` has a value for each answer
 pub result-of : {A : Type 0} (a : Answer A) → answered (result_of a) ≡ a
 result-of (result a) = refl
-result-of (refusal k) = refl
+result-of (refusal k) = ap refusal (number-told k)
 
 -- another result, by the same causes
 abbrev pub over : {A B : Type 0} → (A → B) → Answer A → Answer B
@@ -140,3 +142,26 @@ module _ {rows rest : List Row} {b : Bool} (r : Refusal) (l : From rows (row b (
 
 pub told-last : {rows : List Row} {b b' : Bool} (r : Refusal) → From rows (row b (number r) ∷ []) → b' ≡ b → first_met rows ≡ refused (refuse_by b' r)
 told-last r l same = last-row r l ∙ ap (λ (x : Bool). refused (refuse_by x r)) (sym same)
+
+-- ---- a table that the code checks a row at a time, each by `first_met`
+pub record Met (rows : List Row) (met : Result Unit Refusal) : Type 0 where
+  pub first : first_met rows ≡ refused met
+
+pub no_row : Met [] (Ok tt)
+no_row = record { first = refl }
+
+-- one row more, with the refusal e: its cause b is what the code tested
+pub next_row : {rows : List Row} {met r : Result Unit Refusal} {b b' : Bool} (e : Refusal) → Met rows met → r ≡ met_or met b' e → b' ≡ b
+    → Met (rows ++ (row b (number e) ∷ [])) r
+next_row {rows} {met} {r} {b} {b'} e m said same = record {
+  first =
+      first-append rows (row b (number e) ∷ [])
+      ∙ ap (λ (x : Option ℕ). or_else x (first_met (row b (number e) ∷ []))) m.first
+      ∙ go met b
+      ∙ sym (ap refused (said ∙ ap (λ (x : Bool). met_or met x e) same));
+}
+  where
+    go : (m : Result Unit Refusal) (x : Bool) → or_else (refused m) (first_met (row x (number e) ∷ [])) ≡ refused (met_or m x e)
+    go (Ok u) true = refl
+    go (Ok u) false = refl
+    go (Err f) x = refl

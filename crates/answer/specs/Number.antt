@@ -23,4 +23,4 @@ number File = 15
 number Lengths = 16
 number LineShort = 17
 number NoTangents = 18
-number (Other k) = k
+number (Other own) = own.number

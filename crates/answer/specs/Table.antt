@@ -13,8 +13,8 @@
 use Rattle.std.specs.Prelude.{Bool, cond, List, [], ◌∷◌, ℕ, Result, Ok, Err}
 use Rattle.std.proofs.Math.Option.{Option, none, some}
 use Rattle.answer.specs.declared.refusal.Refusal.{Refusal}
-use Rattle.answer.specs.declared.refusal.Refusal.TheVariants.{Other}
 use Rattle.answer.specs.Number.{number}
+use Rattle.answer.specs.Told.{told}
 
 -- a row of the table
 pub record Row : Type 0 where
@@ -50,7 +50,7 @@ refused (Err r) = some (number r)
 
 abbrev pub result_of : {A : Type 0} → Answer A → Result A Refusal
 result_of (result a) = Ok a
-result_of (refusal k) = Err (Other k)
+result_of (refusal k) = Err (told k)
 
 abbrev pub refuse_by : Bool → Refusal → Result Unit Refusal
 refuse_by cause r = cond cause (Err r) (Ok tt)

@@ -3,6 +3,7 @@
 #![tactic(auto)]
 
 pub mod refusal;
+pub mod unlisted;
 
 ghost use Rattle.std.specs.Prelude.{◌≡◌};
 ghost use Rattle.answer.specs.Table.{met_or, refuse_by};

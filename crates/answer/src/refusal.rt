@@ -2,6 +2,8 @@
 ghost use Rattle.std.specs.Prelude.{◌≡◌};
 ghost use Rattle.answer.specs.Number.{number};
 
+use crate::unlisted::Unlisted;
+
 // Why a call says no: the row of the table that is the first met. What the contracts say of it is its number.
 #[derive(Clone, Copy, Debug, PartialEq, Eq, Hash)]
 pub enum Refusal {
@@ -41,11 +43,38 @@ pub enum Refusal {
     LineShort,
     // 18: no tangents of the face, or a list of another length than theirs.
     NoTangents,
-    // A number that the table does not have, of a caller's own cause.
-    Other(u8),
+    // Of a caller's own cause, with a number that the table does not have.
+    Other(Unlisted),
 }
 
 impl Refusal {
+    // The refusal of a number. Writes: nothing. Refuses: nothing.
+    pub fn told(k: u8) -> Refusal
+        ensures { number result ≡ k }
+    {
+        match k {
+            1 => Refusal::Sizes,
+            2 => Refusal::ListShort,
+            3 => Refusal::Coordinate,
+            4 => Refusal::Tag,
+            5 => Refusal::Vertex,
+            6 => Refusal::VertexTwice,
+            7 => Refusal::HalfEdgeTwice,
+            8 => Refusal::Unused,
+            9 => Refusal::Fan,
+            10 => Refusal::Valence,
+            11 => Refusal::InnerTag,
+            12 => Refusal::NoFace,
+            13 => Refusal::Control,
+            14 => Refusal::Steps,
+            15 => Refusal::File,
+            16 => Refusal::Lengths,
+            17 => Refusal::LineShort,
+            18 => Refusal::NoTangents,
+            _ => Refusal::Other(Unlisted { number: k }),
+        }
+    }
+
     // The number of the row. Writes: nothing. Refuses: nothing.
     pub fn number(self) -> u8
         ensures { result ≡ number self }
@@ -69,7 +98,7 @@ impl Refusal {
             Refusal::Lengths => 16,
             Refusal::LineShort => 17,
             Refusal::NoTangents => 18,
-            Refusal::Other(k) => k,
+            Refusal::Other(own) => own.number,
         }
     }
 }

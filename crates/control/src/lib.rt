@@ -42,14 +42,24 @@ fn point<F: Fn(usize) -> Value>(value: F) -> ControlPoint<i64>
     }
 }
 
+// The inner point at corner c, from the two tables that it needs. Writes: nothing. Refuses: nothing.
+pub fn inner_point(
+    values: &[i32; 16 * Mesh::MAX_FACES],
+    weights: &[u16; 4 * Mesh::MAX_FACES],
+    c: usize,
+) -> ControlPoint<i64>
+    ensures { result ≡ point_of (λ k. inner_at values.now (weight_at weights.now c) k c) }
+{
+    let w = weights[c % 1024];
+    point(|k| Coordinate { values, k }.inner(w, c))
+}
+
 impl<'a> CornerTables<'a> {
     // The inner point at corner c. Writes: nothing. Refuses: nothing.
     pub fn inner_point(self, c: usize) -> ControlPoint<i64>
         ensures { result ≡ point_of (λ k. inner_at self.entry.values.now (weight_at self.entry.weights.now c) k c) }
     {
-        let values = self.values;
-        let w = self.weights[c % 1024];
-        point(|k| Coordinate { values, k }.inner(w, c))
+        inner_point(self.values, self.weights, c)
     }
 
     // The edge point on half-edge c near its start. Writes: nothing. Refuses: nothing.
@@ -68,7 +78,7 @@ impl<'a> CornerTables<'a> {
     {
         let values = self.values;
         let d = self.links[corner::prev_corner(c) % 1024];
-        let w = self.weights[usize::from(d) % 1024];
+        let w = self.weights[corner::wide(d) % 1024];
         point(|k| Coordinate { values, k }.before(d, w, c))
     }
 }

@@ -5,7 +5,7 @@ ghost use Rattle.mask.specs.FractionOf.{fraction_of};
 ghost use Rattle.control.specs.Control.{value_at, face_at, inner_at, edge_at, linked_along, linked_before, value_of};
 
 use crate::model::Value;
-use corner::{across_corner, next_corner, prev_corner};
+use corner::{across_corner, next_corner, prev_corner, wide};
 use limits::model::Mesh;
 use mask::model::{FaceValues, Fraction};
 
@@ -84,7 +84,7 @@ impl<'a> Coordinate<'a> {
         if d == Mesh::NO_TWIN {
             return sharp_value(self.vertex(c), self.vertex(next_corner(c)));
         }
-        self.edge(w, c, usize::from(d))
+        self.edge(w, c, wide(d))
     }
 
     // That of the edge point on the half-edge before c, with the twin d or none, near its end of weight w.
@@ -95,6 +95,6 @@ impl<'a> Coordinate<'a> {
         if d == Mesh::NO_TWIN {
             return sharp_value(self.vertex(c), self.vertex(h));
         }
-        self.edge(w, usize::from(d), h)
+        self.edge(w, wide(d), h)
     }
 }

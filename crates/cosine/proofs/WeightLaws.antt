@@ -82,11 +82,16 @@ all_listed f n i =
 pub listed-is : (f : ℕ → ℕ → ℤ) (n i : ℕ) (xs : List ℤ) (r : ℤ) → xs ≡ weights_by f → r ≡ listed xs n i → r ≡ weight_by f n i
 listed-is f n i xs r e h = h ∙ ap (λ (t : List ℤ). listed t n i) e ∙ all_listed f n i
 
+-- how long it is
+pub all-length : (f : ℕ → ℕ → ℤ) → length (weights_by f) ≡ 224
+unfolding weights_by
+all-length f = length-list_below (λ k. weight_by f (3 + k / 16) (k % 16)) 224
+
 -- a list that was made place by place
 pub made-is : (f : ℕ → ℕ → ℤ) (xs : List ℤ) → length xs ≡ 224
     → ((k : ℕ) → k < 224 → get_or xs k (pos 0) ≡ weight_by f (3 + k / 16) (k % 16)) → xs ≡ weights_by f
 unfolding weights_by
 made-is f xs e h =
     let g : ℕ → ℤ = λ k. weight_by f (3 + k / 16) (k % 16) in
-    ext_get_or (pos 0) xs (list_below g 224) (e ∙ sym (length-list_below g 224))
+    ext_get_or (pos 0) xs (list_below g 224) (e ∙ sym (all-length f))
     (λ k l. let b : k < 224 = omega (arith, e) in h k b ∙ sym (list_below-at g 224 k (pos 0) b))

@@ -5,6 +5,7 @@ ghost use Rattle.cosine.specs.Generator.{FactorsOf};
 ghost use Rattle.cosine.specs.Cosine.{scale, cosine as cosine_of};
 ghost use Rattle.cosine.specs.Weight.{chain, multiple_cosine, hypotenuse as hypotenuse_of, weighed, edge_numerator, face_numerator, weight_by, weights_by};
 
+use crate::root::root;
 use crate::{LEAST_FACES, ONE, PLACES, TABLE_LENGTH, cosine, place};
 
 // The square of twice that, 2^42.
@@ -99,8 +100,8 @@ fn hypotenuse(n: usize) -> u64
     requires { n ≤ 16 }
     ensures { result ≡ hypotenuse_of n }
 {
-    let h = wide_cosine(2 * n).unsigned_abs();
-    (TWICE_SQUARED + h * h).isqrt()
+    let h = integer::magnitude(wide_cosine(2 * n));
+    root(TWICE_SQUARED + h * h)
 }
 
 // The weight of n and i by a rule, rounded once; 0 where there is none.

@@ -8,6 +8,7 @@ mod edge_table;
 mod face_table;
 mod generator;
 pub mod model;
+mod root;
 
 ghost use Rattle.std.specs.Prelude.{◌≡◌};
 ghost use Rattle.cosine.specs.Cosine.{Entry};

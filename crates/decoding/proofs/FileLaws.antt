@@ -3,11 +3,11 @@ use mathlib.Core.Path.{◌≡◌, ◌∙◌}
 use mathlib.Core.Bool.{true, false}
 use mathlib.Core.List.{List, [], ◌∷◌}
 use mathlib.Core.Option.{none, some}
-use Prim.Native.Nat.{ℕ, ◌+◌, ◌*◌, ◌≤◌}
+use Prim.Native.Nat.{ℕ, ◌+◌, ◌*◌, ◌≤◌, ◌<◌}
 use lib.Dec.{eqb, ltb}
 use lib.IntN.{ℤ}
 use lib.ListN.{length}
-use borrow.Author.Tests.{ltb-false, eqb-true, not-false}
+use borrow.Author.Tests.{lt-ltb, le-ltb, eq-eqb, ne_eqb, ltb-false, eqb-true, not-false}
 use Rattle.answer.specs.Table.{row, first_met}
 use Rattle.finite.proofs.AnyAll.{or-false}
 use Rattle.answer.proofs.TableLaws.{met-here, skipped, none-met, some-append, none-append}
@@ -20,6 +20,31 @@ use Rattle.decoding.specs.Decoding.{header_of, places_short, decode_refusal, Rea
 use Rattle.std.specs.Prelude.{Result, Ok, Err}
 use Rattle.answer.specs.declared.refusal.Refusal.{Refusal}
 use Rattle.answer.specs.Number.{number}
+
+-- ---- the first cause met, of those of the file
+module _ (b : List ℕ) where
+  pub rows-header : length b < 6 → first_met (file_rows b) ≡ some 15
+  unfolding header_short
+  rows-header l = rw (lt-ltb (length b) 6 l)
+
+  module _ (long : 6 ≤ length b) where
+    pub rows-vertices : off min_vertices max_vertices (vertices b) ≡ true → first_met (file_rows b) ≡ some 1
+    unfolding header_short header_off
+    rows-vertices e = rw (le-ltb (length b) 6 long, e)
+
+    module _ (v : off min_vertices max_vertices (vertices b) ≡ false) where
+      pub rows-faces : off min_faces max_faces (faces b) ≡ true → first_met (file_rows b) ≡ some 1
+      unfolding header_short header_off
+      rows-faces e = rw (le-ltb (length b) 6 long, v, e)
+
+      module _ (f : off min_faces max_faces (faces b) ≡ false) where
+        pub rows-length : (length b ≡ 6 + 13 * vertices b + 8 * faces b → ⊥) → first_met (file_rows b) ≡ some 15
+        unfolding header_short header_off length_off
+        rows-length e = rw (le-ltb (length b) 6 long, v, f, ne_eqb (length b) (6 + 13 * vertices b + 8 * faces b) e)
+
+        pub rows_none : length b ≡ 6 + 13 * vertices b + 8 * faces b → first_met (file_rows b) ≡ none
+        unfolding header_short header_off length_off
+        rows_none e = rw (le-ltb (length b) 6 long, v, f, eq-eqb (length b) (6 + 13 * vertices b + 8 * faces b) e)
 
 -- a file that meets none of them
 pub record Whole (b : List ℕ) : Type 0 where

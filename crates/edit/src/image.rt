@@ -44,6 +44,17 @@ pub(crate) fn reflect_positions(positions: &[i32], out: &mut [i32])
     }
 }
 
+// Writes the tags as they are, into a list of their length. Place by place: with `copy_from_slice` the archive for C would need memmove, and
+// include/rusketja.h says that it needs memcpy and memset alone.
+pub(crate) fn copy_tags(tags: &[u8], out: &mut [u8])
+    requires { length out.old ≡ length tags.now }
+    ensures { out.new ≡ tags.now }
+{
+    for (p, place) in out.iter_mut().enumerate() {
+        *place = tags[p];
+    }
+}
+
 // The corner of the same face whose vertex corner c of the image has.
 fn reflected_corner(c: usize) -> usize
     ensures { result ≡ reflected_corner c }

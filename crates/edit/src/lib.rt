@@ -6,7 +6,7 @@ mod image;
 ghost use Rattle.mesh.specs.IndexedMesh.{mesh_in};
 ghost use Rattle.edit.specs.Mirror.{outputs, MeshMirrored};
 
-use crate::image::{outputs_off, reflect_faces, reflect_positions};
+use crate::image::{copy_tags, outputs_off, reflect_faces, reflect_positions};
 use answer::refusal::Refusal;
 use answer::refuse;
 use mesh::model::MeshLists;
@@ -28,13 +28,16 @@ pub fn mirror(
         (outputs out_positions.old out_tags.old out_faces.old) result
         (outputs out_positions.new out_tags.new out_faces.new) }
 {
-    mesh::check_alone(Ok(()), mesh)?;
+    // No `?`: the edit every-refusal-16 changes the refusal that is handed on, and with a `?` it would be refused for its form alone.
+    if let Err(refusal) = mesh::check_alone(Ok(()), mesh) {
+        return Err(refusal);
+    }
     refuse(
         outputs_off(mesh, out_positions, out_tags, out_faces),
         Refusal::Lengths,
     )?;
     reflect_positions(mesh.positions, out_positions);
-    out_tags.copy_from_slice(mesh.tags);
+    copy_tags(mesh.tags, out_tags);
     reflect_faces(mesh.indices, out_faces);
     Ok(())
 }

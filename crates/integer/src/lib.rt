@@ -9,7 +9,7 @@ ghost use Rattle.integer.specs.Nearest.{nearest_ℕ, nearest, remainder, whole};
 use crate::model::Rounded;
 
 // Returns the magnitude of `num`, for every `num`: the smallest one has a magnitude, though no negation. It stays beside the library's `unsigned_abs`, since the
-// table of calls of docs/SPECIFICATION.md and the edits smallest and magnitude-one-less name it.
+// table of calls of docs/SPECIFICATION.md names it; rounding goes through it, so that the edits smallest and magnitude-one-less are wrong of rounding too.
 pub fn magnitude(num: i64) -> u64
     ensures { result ≡ nat_abs num }
 {
@@ -48,7 +48,7 @@ fn negated(size: u64) -> i64
 fn quotient(num: i64, den: u32) -> i64
     ensures { result ≡ nearest num den }
 {
-    let size = round_magnitude(num.unsigned_abs(), den);
+    let size = round_magnitude(magnitude(num), den);
     if num < 0 { negated(size) } else { size as i64 }
 }
 
@@ -79,7 +79,7 @@ fn rest(num: i64, den: u32) -> i64
     ensures { result ≡ remainder num den }
 {
     if 0 < den {
-        return with_sign(num < 0, rest_of_magnitude(num.unsigned_abs(), den));
+        return with_sign(num < 0, rest_of_magnitude(magnitude(num), den));
     }
     num
 }
@@ -89,7 +89,7 @@ fn rest(num: i64, den: u32) -> i64
 fn is_whole(num: i64, den: u32) -> bool
     ensures { result ≡ whole num den }
 {
-    let size = num.unsigned_abs();
+    let size = magnitude(num);
     if 0 < den {
         return size % u64::from(den) == 0;
     }

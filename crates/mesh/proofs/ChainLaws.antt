@@ -24,7 +24,7 @@ use Rattle.mesh.specs.HalfEdge.{runs, is_twin, twin, boundary, same_way, doubled
 use Rattle.mesh.specs.Fan.{any_at, all_at, valence, on_boundary, around, iterate, fan_by, fan}
 use Rattle.mesh.proofs.TwinLaws.{runs-ends, runs_so, twin-is}
 use Rattle.mesh.proofs.VertexLaws.{any-at-none}
-use Rattle.mesh.specs.Tables.{Holds, latest, Chained}
+use Rattle.mesh.specs.Tables.{corner_in, HoldsCorners, latest, Chained}
 
 -- ---- the latest number below n with p
 -- where the numbers after it begin: 0 for none
@@ -130,28 +130,28 @@ walked-less at u e u' s h =
     omega arith
 
 -- ---- the tables
-pub chained-start : (at : ℕ → ℕ) (head link : List (Option ℕ)) → Holds None head max_vertices (λ p. None) → Chained at 0 head link
+pub chained-start : (at : ℕ → ℕ) (head link : List ℕ) → HoldsCorners head max_vertices (λ p. None) → Chained at 0 head link
 unfolding latest
 chained-start at head link h = record { heads = h; links = λ e l. absurd (not-suc-le-zero l) }
 
-module _ (at : ℕ → ℕ) (c p : ℕ) (head link : List (Option ℕ)) (k : Chained at c head link) (e : p ≡ at c) where
-  heads-more : p < length head → Holds None (set head p (Some c)) max_vertices (λ r. latest (λ d. eqb (at d) r) (suc c))
+module _ (at : ℕ → ℕ) (c p : ℕ) (head link : List ℕ) (k : Chained at c head link) (e : p ≡ at c) where
+  heads-more : p < length head → HoldsCorners (set head p (suc c)) max_vertices (λ r. latest (λ d. eqb (at d) r) (suc c))
   unfolding latest
   heads-more l r b =
       bool_cases (eqb (at c) r)
-      (λ t. rw (t, ← (e ∙ eqb-true (at c) r t)) (get_or-set_same head p (Some c) None l))
-      (λ t. rw t (get_or-set_other head p r (Some c) None (λ s. eqb-false (at c) r t (sym e ∙ sym s)) ∙ k.heads r b))
+      (λ t. rw (t, ← (e ∙ eqb-true (at c) r t)) (ap corner_in (get_or-set_same head p (suc c) 0 l)))
+      (λ t. rw t (ap corner_in (get_or-set_other head p r (suc c) 0 (λ s. eqb-false (at c) r t (sym e ∙ sym s))) ∙ k.heads r b))
 
-  links-more : (u : Option ℕ) → u ≡ get_or head p None → p < max_vertices → c < length link
-      → Holds None (set link c u) (suc c) (λ j. latest (λ d. eqb (at d) (at j)) j)
+  links-more : (u : ℕ) → u ≡ get_or head p 0 → p < max_vertices → c < length link
+      → HoldsCorners (set link c u) (suc c) (λ j. latest (λ d. eqb (at d) (at j)) j)
   links-more u q b l j a =
       lt-suc-cases a
-      (λ z. rw z (get_or-set_same link c u None l ∙ q ∙ k.heads p b ∙ ap (λ (x : ℕ). latest (λ d. eqb (at d) x) c) e))
-      (λ z. get_or-set_other link c j u None (λ s. omega arith) ∙ k.links j z)
+      (λ z. rw z (ap corner_in (get_or-set_same link c u 0 l ∙ q) ∙ k.heads p b ∙ ap (λ (x : ℕ). latest (λ d. eqb (at d) x) c) e))
+      (λ z. ap corner_in (get_or-set_other link c j u 0 (λ s. omega arith)) ∙ k.links j z)
 
   -- corner c, at p, is chained before the earlier ones
-  pub chained_more : (u : Option ℕ) → u ≡ get_or head p None → p < max_vertices → p < length head → c < length link
-      → Chained at (c + 1) (set head p (Some c)) (set link c u)
+  pub chained_more : (u : ℕ) → u ≡ get_or head p 0 → p < max_vertices → p < length head → c < length link
+      → Chained at (c + 1) (set head p (c + 1)) (set link c u)
   chained_more u q b lh ll = rw add-one (record { heads = heads-more lh; links = links-more u q b ll })
 
 -- ---- half-edges that occur twice: one of them has an earlier one that runs the same way

@@ -4,6 +4,8 @@
 --   vertex_of faces c, twin_of twins c   the vertex of corner c, the twin of half-edge c, as the lists have them
 --   Holds z xs k g    each place p below k of the list xs holds g p
 --   latest p n        the greatest number below n that has p, if one has
+--   corner_in e       the corner that an entry of these tables stands for: none for 0, corner c for c + 1
+--   HoldsCorners xs k g   each place p below k of the list xs stands for the corner g p
 --   Chained at c head link   the corners below c, chained by vertex from the last to the first: `head` has the last
 --                     corner at each vertex, `link` the corner at the same vertex before each corner
 --   Unchained head    the table of the last corners before the first corner is chained
@@ -33,16 +35,23 @@ vertex_of faces c = get_or faces c 0
 abbrev pub twin_of : List ℕ → ℕ → ℕ
 twin_of twins c = get_or twins c 0
 
+abbrev pub corner_in : ℕ → Option ℕ
+corner_in zero = None
+corner_in (suc c) = Some c
+
+abbrev pub HoldsCorners : List ℕ → ℕ → (ℕ → Option ℕ) → Type 0
+HoldsCorners xs k g = (p : ℕ) → p < k → corner_in (get_or xs p 0) ≡ g p
+
 unfoldable pub latest : (ℕ → Bool) → ℕ → Option ℕ
 latest p zero = None
 latest p (suc n) = cond (p n) (Some n) (latest p n)
 
-pub record Chained (at : ℕ → ℕ) (c : ℕ) (head link : List (Option ℕ)) : Type 0 where
-  pub heads : Holds None head max_vertices (λ p. latest (λ d. eqb (at d) p) c)
-  pub links : Holds None link c (λ e. latest (λ d. eqb (at d) (at e)) e)
+pub record Chained (at : ℕ → ℕ) (c : ℕ) (head link : List ℕ) : Type 0 where
+  pub heads : HoldsCorners head max_vertices (λ p. latest (λ d. eqb (at d) p) c)
+  pub links : HoldsCorners link c (λ e. latest (λ d. eqb (at d) (at e)) e)
 
-abbrev pub Unchained : List (Option ℕ) → Type 0
-Unchained head = Holds None head max_vertices (λ p. None)
+abbrev pub Unchained : List ℕ → Type 0
+Unchained head = HoldsCorners head max_vertices (λ p. None)
 
 pub record Indices (faces : List ℕ) (n : ℕ) : Type 0 where
   pub whole : n % 4 ≡ 0
@@ -50,7 +59,7 @@ pub record Indices (faces : List ℕ) (n : ℕ) : Type 0 where
   pub listed : n ≤ length faces
   pub named : (c : ℕ) → c < n → vertex_of faces c < max_vertices
 
-pub record Findable (faces : List ℕ) (head link : List (Option ℕ)) (n : ℕ) : Type 0 where
+pub record Findable (faces : List ℕ) (head link : List ℕ) (n : ℕ) : Type 0 where
   pub next-listed : (c : ℕ) → c < n → next c < length faces
   pub few : n ≤ 4 * max_faces
   pub chained : Chained (vertex_of faces) n head link
@@ -65,11 +74,11 @@ pub record Twinned (faces twins : List ℕ) (n : ℕ) : Type 0 where
   pub twins-listed : n ≤ length twins
   pub twins-are : Holds 0 twins n (twin (vertex_of faces) n)
 
-pub record Headed (faces : List ℕ) (head : List (Option ℕ)) (n : ℕ) : Type 0 where
+pub record Headed (faces head : List ℕ) (n : ℕ) : Type 0 where
   pub heads-listed : max_vertices ≤ length head
-  pub heads-are : Holds None head max_vertices (λ p. latest (λ d. eqb (vertex_of faces d) p) n)
+  pub heads-are : HoldsCorners head max_vertices (λ p. latest (λ d. eqb (vertex_of faces d) p) n)
 
-pub record Connected (faces twins : List ℕ) (head : List (Option ℕ)) (n : ℕ) : Type 0 where
+pub record Connected (faces twins head : List ℕ) (n : ℕ) : Type 0 where
   pub twinned : Twinned faces twins n
   pub headed : Headed faces head n
 

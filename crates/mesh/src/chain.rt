@@ -3,18 +3,27 @@ ghost use Rattle.std.specs.Prelude.{◌≡◌, false, ◌≤◌, ◌<◌, length
 ghost use Rattle.finite.specs.Filled.{filled};
 ghost use Rattle.limits.specs.Limits.{max_vertices, no_twin};
 ghost use Rattle.mesh.specs.HalfEdge.{runs, twin, doubled, Simple};
-ghost use Rattle.mesh.specs.Tables.{vertex_of, latest, Chained, Unchained, Indices, Findable};
+ghost use Rattle.mesh.specs.Tables.{vertex_of, corner_in, latest, Chained, Unchained, Indices, Findable};
 
 use corner::next_corner;
 use limits::model::Mesh;
 
 // The tables of the chains of a mesh. That they are empty is asked where they are passed in, as they are filled there.
+// An entry is a number: 0 for no corner, c + 1 for corner c. An Option<u16> is twice as wide: with it the check of a mesh missed its bar of speed, and took more
+// of the stack than include/rusketja.h says.
 #[derive(Drop)]
 pub(crate) struct Tables {
     // The last corner at each vertex.
-    pub(crate) head: [Option<u16>; Mesh::MAX_VERTICES],
+    pub(crate) head: [u16; Mesh::MAX_VERTICES],
     // The corner at the same vertex before each corner.
-    pub(crate) link: [Option<u16>; 4 * Mesh::MAX_FACES],
+    pub(crate) link: [u16; 4 * Mesh::MAX_FACES],
+}
+
+// The corner that an entry of the tables stands for, if it stands for one.
+pub(crate) fn corner_in(entry: u16) -> Option<u16>
+    ensures { result ≡ corner_in entry }
+{
+    entry.checked_sub(1)
 }
 
 // The first n corners of a face list, chained by vertex: all of them, or those before the one that is linked next.
@@ -32,13 +41,13 @@ impl<'a> Chains<'a> {
         requires { p < max_vertices }
         ensures { result ≡ latest (runs (vertex_of self.entry.faces.now) p q) self.entry.n }
     {
-        let mut at = self.tables.head[usize::from(p)];
+        let mut at = corner_in(self.tables.head[usize::from(p)]);
         while let Some(c) = at {
             let c = usize::from(c);
             if self.faces[next_corner(c)] == q {
                 return at;
             }
-            at = self.tables.link[c];
+            at = corner_in(self.tables.link[c]);
         }
         None
     }
@@ -82,7 +91,7 @@ pub(crate) fn link_corners(faces: &[u16], tables: &mut Tables) -> bool
         let at = usize::from(*p);
         tables.link[c] = tables.head[at];
         // No u16::try_from: it would give an error to hand on that no corner of a mesh meets.
-        tables.head[at] = Some(c as u16);
+        tables.head[at] = (c + 1) as u16;
     }
     false
 }

@@ -7,9 +7,10 @@ ghost use Rattle.mesh.specs.Tables.{twin_of};
 pub(crate) fn count_edges(twins: &[u16]) -> usize
     ensures { result ≡ count_below (λ c. ltb c (twin_of twins.now c)) (length twins.now) }
 {
-    twins
-        .iter()
-        .enumerate()
-        .filter(|(c, d)| *c < usize::from(**d))
-        .count()
+    // A sum, and no `filter(..).count()`: that is a jump for each half-edge which nothing foretells, and the check of a mesh missed its bar of speed with it.
+    let mut count = 0;
+    for (c, d) in twins.iter().enumerate() {
+        count += usize::from(c < usize::from(*d));
+    }
+    count
 }

@@ -8,6 +8,7 @@ ghost use Rattle.mesh.specs.Fan.{valence, on_boundary, fan};
 ghost use Rattle.mesh.specs.Refusal.{fan_broken, valence_off};
 ghost use Rattle.mesh.specs.Tables.{vertex_of, Valences, Headed};
 
+use crate::chain::corner_in;
 use crate::walk::{Twins, Walk};
 use limits::{inner_tagged, valence_bad};
 
@@ -15,8 +16,8 @@ use limits::{inner_tagged, valence_bad};
 #[derive(Clone, Copy)]
 pub(crate) struct Fans<'a, 'b> {
     pub(crate) twins: Twins<'a>,
-    // The last corner at each vertex.
-    pub(crate) head: &'a [Option<u16>],
+    // The last corner at each vertex, as the table of the chains has it.
+    pub(crate) head: &'a [u16],
     // How many corners there are at each vertex.
     pub(crate) valences: &'b [u16],
     ghost headed: { Headed twins.faces.now head.now (length twins.faces.now) },
@@ -29,7 +30,7 @@ impl<'a, 'b> Fans<'a, 'b> {
         requires { p < max_vertices }
         ensures { result ≡ not (fan (vertex_of self.entry.twins.faces.now) (length self.entry.twins.faces.now) p) }
     {
-        match self.head[p] {
+        match corner_in(self.head[p]) {
             Some(start) => {
                 let met = self.twins.circulate(usize::from(start));
                 met != usize::from(self.valences[p])
@@ -43,7 +44,7 @@ impl<'a, 'b> Fans<'a, 'b> {
         requires { (p < max_vertices) × (fan (vertex_of self.twins.faces.now) (length self.twins.faces.now) p ≡ true) }
         ensures { result ≡ on_boundary (vertex_of self.entry.twins.faces.now) (length self.entry.twins.faces.now) p }
     {
-        match self.head[p] {
+        match corner_in(self.head[p]) {
             Some(start) => matches!(self.twins.walk_on(usize::from(start)), Walk::Open(_)),
             None => false,
         }

@@ -59,8 +59,8 @@ pub fn check_after(
         MeshChecked M (given own ∷ lent_rows M twins.old) twins.old result twins.new }
 {
     let mut tables = Tables {
-        head: [None; Mesh::MAX_VERTICES],
-        link: [None; 4 * Mesh::MAX_FACES],
+        head: [0; Mesh::MAX_VERTICES],
+        link: [0; 4 * Mesh::MAX_FACES],
     };
     let first = first_met(
         own,

@@ -67,7 +67,7 @@ pub(crate) fn early_refusal(
 pub(crate) fn late_refusal<'a>(
     mesh: MeshLists<'a>,
     twins: &'a [u16],
-    head: &'a [Option<u16>],
+    head: &'a [u16],
 ) -> Result<(), Refusal>
     requires { MeshSized (mesh_in mesh) × Connected mesh.indices.now twins.now head.now (length mesh.indices.now) }
     ensures { first_met (late_rows (mesh_in mesh.entry)) ≡ refused result }

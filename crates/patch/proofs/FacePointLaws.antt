@@ -6,9 +6,12 @@ use mathlib.Core.List.{List, [], ◌∷◌, map}
 use Prim.Native.Nat.{ℕ, zero, suc, ◌+◌, ◌*◌, ◌/◌, ◌%◌, ◌≤◌, ◌<◌}
 use native.Mathlib.Nat.{not-suc-le-zero}
 use native.Mathlib.Omega.{arith}
-use lib.Dec.{eqb}
+use lib.Dec.{eqb, ltb}
 use lib.IntN.{ℤ}
 use lib.ListN.{length, get_or}
+use borrow.Author.Tests.{ltb-true}
+use Rattle.finite.specs.Fold.{fold_below}
+use Rattle.finite.proofs.AnyAll.{all_true}
 use Rattle.limits.specs.Limits.{no_twin}
 use Rattle.corner.specs.Corner.{turn}
 use Rattle.mesh.specs.HalfEdge.{boundary}
@@ -42,6 +45,10 @@ number-point D g m k l =
     let axis : (3 * m + k) % 3 ≡ k = omega arith in
     let which : (3 * m + k) / 3 ≡ m = omega arith in
     rw (axis, which)
+
+pub owner-below : (m : ℕ) → m < 16 → owner m < 4
+unfolding fold_below owner
+owner-below m l = ltb-true _ _ (all_true (λ j. ltb (owner j) 4) 16 refl m l)
 
 -- a table whose entries f gives from those of another
 pub table_at : {A B : Type 0} (f : A → B) (b : B) (xs : List A) (a : A) (m : ℕ) → m < length xs → f (get_or xs m a) ≡ get_or (map f xs) m b

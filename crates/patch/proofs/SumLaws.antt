@@ -21,6 +21,7 @@ use Rattle.finite.proofs.FoldLaws.{Monoid, fold-ext, bool_cases}
 use Rattle.finite.proofs.Gather.{Gathered, gathered_none, gathered-more}
 use Rattle.limits.specs.Limits.{max_vertices, max_coordinate}
 use Rattle.mesh.specs.Fan.{any_at, valence}
+use Rattle.mesh.specs.Tables.{Holds}
 use Rattle.mask.proofs.LinearLaws.{bounds}
 use Rattle.patch.proofs.Related.{sum-at}
 
@@ -32,14 +33,20 @@ pub record Passed {A : Type 0} (z : A) (op : A → A → A) (at : ℕ → ℕ) (
   pub second_is : Gathered z op at g c max_vertices second
 
 module _ {A : Type 0} {z : A} {op : A → A → A} {at : ℕ → ℕ} {f g : ℕ → A} where
+  pub passed-blank : {first second : List A} → max_vertices ≤ length first → max_vertices ≤ length second → Holds z first max_vertices (λ p. z)
+      → Holds z second max_vertices (λ p. z) → Passed z op at f g 0 first second
+  passed-blank {first} {second} a b h k = record {
+    first-long = a;
+    second-long = b;
+    first-is = gathered_none z op at f max_vertices first h;
+    second_is = gathered_none z op at g max_vertices second k;
+  }
+
   pub passed-none : Passed z op at f g 0 (replicate max_vertices z) (replicate max_vertices z)
   passed-none =
       let long : max_vertices ≤ length (replicate max_vertices z) = rw length-replicate (omega arith) in
-      let blank : Gathered z op at f 0 max_vertices (replicate max_vertices z) =
-      gathered_none z op at f max_vertices (replicate max_vertices z) (λ p l. get_or-replicate max_vertices p z z l) in
-      let blank₂ : Gathered z op at g 0 max_vertices (replicate max_vertices z) =
-      gathered_none z op at g max_vertices (replicate max_vertices z) (λ p l. get_or-replicate max_vertices p z z l) in
-      record { first-long = long; second-long = long; first-is = blank; second_is = blank₂ }
+      let blank : Holds z (replicate max_vertices z) max_vertices (λ p. z) = λ p l. get_or-replicate max_vertices p z z l in
+      passed-blank long long blank blank
 
   pub passed-more : {c p : ℕ} {v w : A} {first second : List A} → Monoid z op → Passed z op at f g c first second → p < max_vertices
       → p ≡ at c → v ≡ op (get_or first p z) (f c) → w ≡ op (get_or second p z) (g c) → Passed z op at f g (c + 1) (set first p v) (set second p w)

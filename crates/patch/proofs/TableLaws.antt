@@ -1,5 +1,5 @@
 -- The tables of an accepted mesh: what their entries are made of, and the sizes of these.
-use mathlib.Core.Path.{◌≡◌, sym, ap, subst}
+use mathlib.Core.Path.{◌≡◌, refl, sym, ap, ◌∙◌, subst}
 use mathlib.Core.Bool.{Bool, true, false, cond}
 use mathlib.Core.List.{List}
 use Prim.Native.Nat.{ℕ, ◌+◌, ◌*◌, ◌≤◌, ◌<◌}
@@ -27,7 +27,7 @@ use Rattle.control.specs.Control.{value_at, values_after}
 use Rattle.control.proofs.ValuesLaws.{value-told, values-small}
 use Rattle.patch.specs.Point.{Shape, x, ring_term, sharp_term, valence_at, inside, weight, sharp, sharp_sum, ring_sum}
 use Rattle.patch.specs.Patch.{shape, view}
-use Rattle.patch.specs.Lists.{shape_of, no_ends, ring_term_by, sharp_term_by, ring_sum_by, sharp_sum_by}
+use Rattle.patch.specs.Lists.{shape_of, ends, next_counts, prev_counts, no_ends, ring_term_by, sharp_term_by, ring_sum_by, sharp_sum_by}
 use Rattle.patch.specs.declared.counts.Ends.{Ends}
 use Rattle.patch.specs.PatchTables.{ends_of, Bounded, Valued}
 use Rattle.patch.proofs.MaskLaws.{value-small}
@@ -58,7 +58,20 @@ module _ {values : List ℤ} (b : Bounded values) (k c : ℕ) where
   pub sharp-by-size : (ends : List Ends) → nat_abs (sharp_term_by values ends k c) ≤ 5 * max_coordinate
   sharp-by-size ends =
       let e = get_or ends c no_ends in
-      sharp-two e.next e.prev (value_at values k (next c)) (value_at values k (prev c)) (value-small b k (next c)) (value-small b k (prev c))
+      sharp-two (next_counts e) (prev_counts e) (value_at values k (next c)) (value_at values k (prev c)) (value-small b k (next c)) (value-small b k (prev c))
+
+-- which neighbours count, of ends that are made so
+next-counts : (a b : Bool) → next_counts (ends a b) ≡ a
+next-counts true true = refl
+next-counts true false = refl
+next-counts false true = refl
+next-counts false false = refl
+
+prev-counts : (a b : Bool) → prev_counts (ends a b) ≡ b
+prev-counts true true = refl
+prev-counts true false = refl
+prev-counts false true = refl
+prev-counts false false = refl
 
 same-ring : {e f g e' f' g' : ℤ} → e ≡ e' → f ≡ f' → g ≡ g' → pos 2 *ℤ e +ℤ pos 2 *ℤ f +ℤ g ≡ pos 2 *ℤ e' +ℤ pos 2 *ℤ f' +ℤ g'
 same-ring p q r = cc
@@ -92,7 +105,7 @@ module _ (M : IndexedMesh) (whole : length M.indices ≡ corners M) where
         (gather_ext (at M) p (pos 0) ◌+ℤ◌ {f = sharp_term_by values ends k} {g = sharp_term (view M k)} (corners M)
         (λ c l.
         same-sharp
-        (ap (λ (e : Ends). e.next) (h c l)) (ap (λ (e : Ends). e.prev) (h c l))
+        (ap next_counts (h c l) ∙ next-counts _ _) (ap prev_counts (h c l) ∙ prev-counts _ _)
         (told-turned 1 c l) (told-turned 3 c l)))
 
 module _ {M : IndexedMesh} (a : WellFormed M) where

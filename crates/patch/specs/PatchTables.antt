@@ -13,6 +13,7 @@
 --   Rendered G v rules weights ends   the rule of each of v vertices, and of each corner its weight and its far ends of sharp edges: all that is kept
 --                      of the tags and of the counts
 --   Bounded values     every entry of the table is within the range of a coordinate
+--   Unsummed ring sharp   the two sums at each vertex before the first term: 0
 --   Sums faces values ends k ring sharp   the two sums at each vertex, of coordinate k
 --   Allowed r p ring sharp   by the rule r, the coordinate p and the two sums make a corner point within the range of the coordinates: the sum that r
 --                      takes is small enough, and both fit 32 bits
@@ -102,6 +103,10 @@ pub record Rendered (G : Shape) (v : ℕ) (rules weights : List ℕ) (ends : Lis
 
 pub record Bounded (values : List ℤ) : Type 0 where
   pub entries : (i : ℕ) → nat_abs (get_or values i (pos 0)) ≤ max_coordinate
+
+pub record Unsummed (ring sharp : List ℤ) : Type 0 where
+  pub ring-are : Holds (pos 0) ring max_vertices (λ p. pos 0)
+  pub sharp-are : Holds (pos 0) sharp max_vertices (λ p. pos 0)
 
 pub record Sums (faces : List ℕ) (values : List ℤ) (ends : List Ends) (k : ℕ) (ring sharp : List ℤ) : Type 0 where
   pub ring-are : Holds (pos 0) ring max_vertices (ring_sum_by faces values k)

@@ -5,7 +5,7 @@ ghost use Rattle.finite.specs.Filled.{filled};
 ghost use Rattle.limits.specs.Limits.{max_vertices};
 ghost use Rattle.mesh.specs.Tables.{twin_of};
 ghost use Rattle.patch.specs.Point.{weight};
-ghost use Rattle.patch.specs.Lists.{shape_of, boundary_in, ends_in};
+ghost use Rattle.patch.specs.Lists.{shape_of, boundary_in, ends, next_counts, prev_counts, ends_in};
 ghost use Rattle.patch.specs.PatchTables.{Counts, ForCounts, ForWeights, ForRules, ForEnds, ForRender, Rendered, rule_by, tagged_shape};
 
 use corner::prev_corner;
@@ -20,19 +20,43 @@ pub(crate) struct VertexCounts {
     pub leaving: [u16; Mesh::MAX_VERTICES],
 }
 
-// Which neighbours of a corner count as far ends of sharp edges.
+// Which neighbours of a corner count as far ends of sharp edges. No pair of bools: the table by corner takes a byte each, and no more of the stack than
+// include/rusketja.h says.
 #[derive(Clone, Copy, Debug, PartialEq, Eq)]
-pub(crate) struct Ends {
-    pub next: bool,
-    pub prev: bool,
+pub(crate) enum Ends {
+    Neither,
+    Next,
+    Prev,
+    Both,
 }
 
 impl Ends {
-    // Neither.
-    pub(crate) const NONE: Ends = Ends {
-        next: false,
-        prev: false,
-    };
+    // Those of a corner whose next and previous vertices count or not.
+    fn of(next: bool, prev: bool) -> Ends
+        ensures { result ≡ ends next prev }
+    {
+        if next {
+            if prev { Ends::Both } else { Ends::Next }
+        } else if prev {
+            Ends::Prev
+        } else {
+            Ends::Neither
+        }
+    }
+
+    // Whether the next vertex counts.
+    pub(crate) fn next(self) -> bool
+        ensures { result ≡ next_counts self }
+    {
+        matches!(self, Ends::Next | Ends::Both)
+    }
+
+    // Whether the previous vertex counts.
+    pub(crate) fn prev(self) -> bool
+        ensures { result ≡ prev_counts self }
+    {
+        matches!(self, Ends::Prev | Ends::Both)
+    }
 }
 
 // Whether half-edge c has no twin: the list of twins has 65535 there (rule T9). Where it has none, it takes the boundary rule.
@@ -101,10 +125,7 @@ fn fill_ends(twins: &[u16], n: usize, ends: &mut [Ends])
     for (c, place) in ends[..n].iter_mut().enumerate() {
         let before = prev_corner(c);
         let enters = is_boundary(twins, before);
-        *place = Ends {
-            next: is_boundary(twins, c),
-            prev: enters,
-        };
+        *place = Ends::of(is_boundary(twins, c), enters);
     }
 }
 

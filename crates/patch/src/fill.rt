@@ -42,7 +42,7 @@ pub(crate) fn fill_patches(mesh: MeshLists, twins: &[u16], patches: &mut [i32], 
     let faces = mesh.indices;
     let mut rules = [0u8; Mesh::MAX_VERTICES];
     let mut weights = [0u16; 4 * Mesh::MAX_FACES];
-    let mut ends = [Ends::NONE; 4 * Mesh::MAX_FACES];
+    let mut ends = [Ends::Neither; 4 * Mesh::MAX_FACES];
     render(mesh.tags, faces, twins, &mut rules, &mut weights, &mut ends);
     let mut values = [0i32; 16 * Mesh::MAX_FACES];
     fill_values(mesh.positions, faces, &mut values);

@@ -48,7 +48,10 @@ pub fn patches(
         (lent twins.old patches.old marks.old) result (lent twins.new patches.new marks.new) }
 {
     let own = own_refusal(mesh.faces, patches.len(), marks.len());
-    let counts = mesh::check_after(own, mesh, twins)?;
+    let answer = mesh::check_after(own, mesh, twins);
+    let Ok(counts) = answer else {
+        return answer;
+    };
     fill_patches(mesh, twins, patches, marks);
     Ok(counts)
 }

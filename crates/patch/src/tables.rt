@@ -6,9 +6,11 @@ ghost use Rattle.patch.specs.PatchTables.{Allowed, ForCoordinate, ForCorners, Co
 ghost use Rattle.patch.specs.Sources.{corners_in};
 
 use crate::corners::VertexSource;
+use crate::sums::VertexSums;
 use control::model::Value;
 use control::value::corner_value;
 use control::values::position;
+use limits::model::Mesh;
 
 // The corner point of a vertex of coordinate p by its rule, from its two sums.
 fn corner_point(rule: u8, p: i32, ring: i64, sharp: i64) -> Value
@@ -25,7 +27,11 @@ impl<'a> VertexSource<'a> {
         ensures { Coordinate (ruled_point (corners_in self.entry) k) self.entry.vertices k
             points.old points.new flags.old flags.new }
     {
-        let sums = self.sums(k);
+        let mut sums = VertexSums {
+            ring: [0; Mesh::MAX_VERTICES],
+            sharp: [0; Mesh::MAX_VERTICES],
+        };
+        self.sums(k, &mut sums);
         // By place: four tables are read and two are written at vertex p, two of these six at 3p + k.
         for p in 0..self.vertices {
             let i = 3 * p + k;

@@ -4,16 +4,18 @@
 --   Circling met on   the walk on from a corner has met so many corners, and `on` is the one after them, if one is
 --   corner-open s     corner s of the face is at a boundary vertex
 use mathlib.Core.Path.{◌≡◌, refl, sym, ap, ◌∙◌}
-use mathlib.Core.Bool.{Bool, true, false, cond}
+use mathlib.Core.Bool.{Bool, true, false}
 use mathlib.Core.List.{List}
 use Prim.Native.Nat.{ℕ, ◌+◌, ◌-◌, ◌*◌, ◌%◌, ◌<◌}
 use native.Mathlib.Omega.{arith}
 use lib.ListN.{length}
 use borrow.Author.Tests.{eqb-true}
+use Rattle.std.specs.Prelude.{is_none}
 use Rattle.std.proofs.Common.{add-zero, Option, Some, None, ◌∷◌, []}
 use Rattle.finite.specs.Fold.{fold_below}
 use Rattle.finite.specs.Filled.{list_below}
-use Rattle.finite.proofs.AnyAll.{any-hit}
+use Rattle.finite.proofs.AnyAll.{any_false, any-hit}
+use Rattle.finite.proofs.FoldLaws.{bool_cases}
 use Rattle.corner.specs.Corner.{prev}
 use Rattle.mesh.specs.Fan.{valence, on_boundary, around}
 use Rattle.mesh.specs.Tables.{Corners, vertex_of, twin_of}
@@ -24,7 +26,7 @@ use Rattle.mesh.proofs.CirculationLaws.{around-in}
 use Rattle.mesh.proofs.WalkLaws.{Onward, onward-start, onward-in, onward-more, onward-less, onward-closed, onward-open, run-closed}
 use Rattle.mesh.proofs.ConnectedLaws.{corners-whole, twins-paired, fan-told, boundary-told}
 use Rattle.control.specs.Control.{link_at}
-use Rattle.tangent.specs.Lists.{Fanned, ring_in, valences_asked}
+use Rattle.tangent.specs.Lists.{Fanned, ring_in, open_in, valences_in, valences_asked}
 
 module _ {faces twins : List ℕ} (k : Fanned faces twins) where
   abbrev n : ℕ
@@ -77,21 +79,18 @@ module _ {faces twins : List ℕ} (k : Fanned faces twins) where
         rw (sym (boundary-told k.twinned c p refl met false run (k.fans c l)))
 
 -- ---- what the answer at a corner tells
-ring-none : (faces : List ℕ) (c : ℕ) → None ≡ ring_in faces c → on_boundary (vertex_of faces) (length faces) (vertex_of faces c) ≡ true
-ring-none faces c e = go (on_boundary (vertex_of faces) (length faces) (vertex_of faces c)) e
-  where
-    go : (b : _) → None ≡ cond b None (Some (valence (vertex_of faces) (length faces) (vertex_of faces c))) → b ≡ true
-    go true e = refl
-    go false e = cc
+pub ring-open : (faces : List ℕ) (c : ℕ) → is_none (ring_in faces c) ≡ on_boundary (vertex_of faces) (length faces) (vertex_of faces c)
+ring-open faces c =
+    bool_cases (on_boundary (vertex_of faces) (length faces) (vertex_of faces c))
+    (λ e. rw e)
+    (λ e. rw e)
 
-ring-some : (faces : List ℕ) (c v : ℕ) → Some v ≡ ring_in faces c
-    → (on_boundary (vertex_of faces) (length faces) (vertex_of faces c) ≡ false) × (v ≡ valence (vertex_of faces) (length faces) (vertex_of faces c))
-ring-some faces c v e = go (on_boundary (vertex_of faces) (length faces) (vertex_of faces c)) e
-  where
-    go : (b : _) → Some v ≡ cond b None (Some (valence (vertex_of faces) (length faces) (vertex_of faces c)))
-        → (b ≡ false) × (v ≡ valence (vertex_of faces) (length faces) (vertex_of faces c))
-    go true e = cc
-    go false e = (refl, cc)
+-- there is no number, so the vertex is on the boundary; there is one, so it is not
+ring-none : (faces : List ℕ) (c : ℕ) → None ≡ ring_in faces c → on_boundary (vertex_of faces) (length faces) (vertex_of faces c) ≡ true
+ring-none faces c e = sym (ring-open faces c) ∙ ap is_none (sym e)
+
+ring-closed : (faces : List ℕ) (c v : ℕ) → Some v ≡ ring_in faces c → on_boundary (vertex_of faces) (length faces) (vertex_of faces c) ≡ false
+ring-closed faces c v e = sym (ring-open faces c) ∙ ap is_none (sym e)
 
 -- ---- the four corners of a face
 module _ (faces : List ℕ) (g : ℕ) where
@@ -104,12 +103,30 @@ module _ (faces : List ℕ) (g : ℕ) where
   pub asked-first : None ≡ ring_in faces (4 * g) → None ≡ valences_asked faces g
   asked-first e = asked-none 0 (omega arith) (rw add-zero e)
 
+  -- a face with no corner on the boundary
+  pub ring-valence : open_in faces g ≡ false → (s : ℕ) → s < 4 → ring_in faces (4 * g + s) ≡ Some (valences_in faces g s)
+  ring-valence e s l = rw (any_false corner-open 4 e s l)
+
+  valence-told : open_in faces g ≡ false → (s v : ℕ) → s < 4 → Some v ≡ ring_in faces (4 * g + s) → v ≡ valences_in faces g s
+  valence-told e s v l h = go (h ∙ ring-valence e s l)
+    where
+      go : Some v ≡ Some (valences_in faces g s) → v ≡ valences_in faces g s
+      go q = cc
+
   pub asked-all : (v w x y : ℕ) → Some v ≡ ring_in faces (4 * g) → Some w ≡ ring_in faces (4 * g + 1) → Some x ≡ ring_in faces (4 * g + 2)
       → Some y ≡ ring_in faces (4 * g + 3) → Some (v ∷ (w ∷ (x ∷ (y ∷ [])))) ≡ valences_asked faces g
   unfolding fold_below list_below
   asked-all v w x y d e f h =
-      let a = ring-some faces (4 * g + 0) v (rw add-zero d) in
-      let b = ring-some faces (4 * g + 1) w e in
-      let c = ring-some faces (4 * g + 2) x f in
-      let i = ring-some faces (4 * g + 3) y h in
-      rw (a.0, b.0, c.0, i.0, a.1, b.1, c.1, i.1)
+      let d0 : Some v ≡ ring_in faces (4 * g + 0) = rw add-zero d in
+      let a = ring-closed faces (4 * g + 0) v d0 in
+      let b = ring-closed faces (4 * g + 1) w e in
+      let c = ring-closed faces (4 * g + 2) x f in
+      let i = ring-closed faces (4 * g + 3) y h in
+      let closed : open_in faces g ≡ false = rw (a, b, c, i) in
+      rw (
+        closed,
+        valence-told closed 0 v (omega arith) d0,
+        valence-told closed 1 w (omega arith) e,
+        valence-told closed 2 x (omega arith) f,
+        valence-told closed 3 y (omega arith) h,
+      )

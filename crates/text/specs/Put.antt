@@ -2,9 +2,8 @@
 --
 --   Put t before after    the text t was written to a line behind what was written, and nothing else
 --   Room t line           the line has room for the text t
---   two_digits n          the two digits of an n below 100, also a zero in front
 --   word_text w           the text of a word
-use Rattle.std.specs.Prelude.{◌≡◌, List, [], ◌∷◌, ℕ, ◌+◌, ◌/◌, ◌%◌, ◌≤◌, length}
+use Rattle.std.specs.Prelude.{◌≡◌, List, [], ◌∷◌, ℕ, ◌+◌, ◌≤◌, length}
 use Rattle.std.proofs.lemmas.List.Edits.{sets}
 use Rattle.text.specs.Text.{decimal, text}
 use Rattle.text.specs.declared.Line.{Line}
@@ -18,9 +17,6 @@ pub record Put (t : List ℕ) (before after : Line) : Type 0 where
 
 abbrev pub Room : List ℕ → Line → Type 0
 Room t line = line.at + length t ≤ length line.places.now
-
-abbrev pub two_digits : ℕ → List ℕ
-two_digits n = (48 + n / 10) ∷ ((48 + n % 10) ∷ [])
 
 abbrev pub word_text : Word → List ℕ
 word_text Refused = 114 ∷ 101 ∷ 102 ∷ 117 ∷ 115 ∷ 101 ∷ 100 ∷ []

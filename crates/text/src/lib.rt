@@ -3,7 +3,7 @@
 
 ghost use Rattle.std.specs.Prelude.{◌≡◌, ◌+◌, ◌≤◌, ◌<◌, length, [], ◌∷◌, map};
 ghost use Rattle.text.specs.Text.{words, decimal, text, counts_line, sample_line, refusal_line, Printed};
-ghost use Rattle.text.specs.Put.{Put, Room, two_digits, word_text};
+ghost use Rattle.text.specs.Put.{Put, Room, word_text};
 
 // The places that are enough for every line.
 pub const LINE_PLACES: usize = 128;
@@ -33,16 +33,18 @@ impl<'a> Line<'a> {
         self.at += 1;
     }
 
-    // Writes the two digits of an n below 100.
-    fn pair(&mut self, n: usize)
-        requires { (n < 100) × Room (two_digits n) self.old }
-        ensures { Put (two_digits n) self.old self.new }
+    // Writes two bytes.
+    fn pair(&mut self, b: u8, c: u8)
+        requires { Room (b ∷ (c ∷ [])) self.old }
+        ensures { Put (b ∷ (c ∷ [])) self.old self.new }
     {
-        self.byte(b'0' + (n / 10) as u8);
-        self.byte(b'0' + (n % 10) as u8);
+        let at = self.at;
+        self.places[at] = b;
+        self.places[at + 1] = c;
+        self.at = at + 2;
     }
 
-    // Writes the digits of n, two a call, as printing spends most of its time here.
+    // Writes the digits of n, four a call, as printing spends most of its time here.
     fn digits(&mut self, n: usize)
         requires { Room (decimal n) self.old }
         ensures { Put (decimal n) self.old self.new }
@@ -50,10 +52,15 @@ impl<'a> Line<'a> {
         if n < 10 {
             self.byte(b'0' + n as u8);
         } else if n < 100 {
-            self.pair(n);
-        } else {
+            self.pair(b'0' + (n / 10) as u8, b'0' + (n % 10) as u8);
+        } else if n < 10000 {
             self.digits(n / 100);
-            self.pair(n % 100);
+            self.pair(b'0' + (n / 10 % 10) as u8, b'0' + (n % 10) as u8);
+        } else {
+            self.digits(n / 10000);
+            let four = n % 10000;
+            self.pair(b'0' + (four / 1000) as u8, b'0' + (four / 100 % 10) as u8);
+            self.pair(b'0' + (four / 10 % 10) as u8, b'0' + (four % 10) as u8);
         }
     }
 

@@ -11,7 +11,7 @@ use Rattle.integer.proofs.quotient.Goals as goal
 size : (c : After-round_magnitude-size) → c.round_magnitude-size.result ≡ nearest_ℕ (nat_abs c.args.num) c.args.den
 size c =
     let f : FitsSigned w64 c.args.num = c.ranges.num in
-    c.round_magnitude-size.ensures ∙ ap (λ (a : ℕ). nearest_ℕ a c.args.den) (simp to_z-of_z at c.unsigned_abs.ensures.value)
+    c.round_magnitude-size.ensures ∙ ap (λ (a : ℕ). nearest_ℕ a c.args.den) (simp to_z-of_z at c.magnitude.ensures)
 
 size-≤ : (c : After-round_magnitude-size) → c.round_magnitude-size.result ≤ nat_abs c.args.num
 size-≤ c = rw (size c) (nearest_ℕ-≤ (nat_abs c.args.num) c.args.den)

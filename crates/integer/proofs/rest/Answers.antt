@@ -15,7 +15,7 @@ module _ (c : After-rest_of_magnitude) where
   left_is : c.rest_of_magnitude.result ≡ left
   left_is =
       let f : FitsSigned w64 c.args.num = c.ranges.num in
-      c.rest_of_magnitude.ensures ∙ ap (λ (a : ℕ). rest_ℕ a c.args.den) (simp to_z-of_z at c.unsigned_abs.ensures.value)
+      c.rest_of_magnitude.ensures ∙ ap (λ (a : ℕ). rest_ℕ a c.args.den) (simp to_z-of_z at c.magnitude.ensures)
 
   some : 0 < c.args.den
   some = omega (arith, c.if-den-gt0.true)

@@ -26,7 +26,7 @@ use Rattle.mesh.proofs.PhaseLaws.{Passed, early-passed, answer-early, twins-earl
 use Rattle.mesh.proofs.PhaseLaws.{given-or}
 use Rattle.mesh.proofs.CornerLaws.{next-below}
 use Rattle.mesh.proofs.SizeLaws.{indices-corners}
-use Rattle.mesh.specs.Tables.{Chained, Findable, Twinned, Headed, Connected}
+use Rattle.mesh.specs.Tables.{corner_in, Chained, Findable, Twinned, Headed, Connected}
 use Rattle.mesh.proofs.check_after.Goals.{After-early_refusal, After-fill_twins, In_ok-early_refusal}
 use Rattle.mesh.proofs.check_after.Goals as goal
 
@@ -86,7 +86,7 @@ module _ (c : After-fill_twins) where
 
 -- ---- the answers, in the order of the code
 pub early_refusal-requires : goal.early_refusal-requires
-early_refusal-requires c = λ p l. get_or-replicate max_vertices p None None l
+early_refusal-requires c = λ p l. ap corner_in (get_or-replicate max_vertices p 0 0 l)
 
 -- an early row
 pub returns-in_err-early_refusal : goal.returns-in_err-early_refusal

@@ -1,46 +1,45 @@
 -- `patches` meets its contract: the check is told of a patch list or a list of marks that is too short, so its refusals are those of the call; where
 -- it gives counts, the mesh is well-formed, its twins are listed, and the patches and their marks are written.
-use Rattle.std.proofs.Common.{rules, ◌≡◌, Err, sym, ap, ◌∙◌}
+use Rattle.std.proofs.Common.{◌≡◌, sym, ap, ◌∙◌}
 use Rattle.answer.specs.Table.{result, answered}
 use Rattle.mesh.specs.IndexedMesh.{IndexedMesh, mesh_in}
 use Rattle.patch.specs.Answer.{Lent, lent, patch_answer, patch_twins}
 use Rattle.patch.proofs.AnswerLaws.{same_answer, same-twins, patches-long, marks-long}
 use Rattle.patch.proofs.AnswerLaws.{result-well-formed, result-list, result-marks, twins-left, patched-refused}
-use Rattle.patch.proofs.patches.Goals.{After-check_after, In_ok-counts}
+use Rattle.patch.proofs.patches.Goals.{After-check_after-answer, In-Ok}
 use Rattle.patch.proofs.patches.Goals as goal
 
 -- ---- the check has answered
-module _ (c : After-check_after) where
+module _ (c : After-check_after-answer) where
   abbrev mesh : IndexedMesh
   mesh = mesh_in c.args.mesh
 
   abbrev lists : Lent
   lists = lent c.args.twins.now c.args.patches.now c.args.marks.now
 
-  answers : answered c.check_after.result ≡ patch_answer mesh lists
-  answers = c.check_after.ensures.answer-is ∙ same_answer mesh lists _ c.own_refusal-own.ensures
+  answers : answered c.check_after-answer.result ≡ patch_answer mesh lists
+  answers = c.check_after-answer.ensures.answer-is ∙ same_answer mesh lists _ c.own_refusal-own.ensures
 
-  left : c.check_after.new.twins ≡ patch_twins mesh lists
-  left = c.check_after.ensures.twins-are ∙ same-twins mesh lists _ c.own_refusal-own.ensures
+  left : c.check_after-answer.new.twins ≡ patch_twins mesh lists
+  left = c.check_after-answer.ensures.twins-are ∙ same-twins mesh lists _ c.own_refusal-own.ensures
 
 -- ---- it gave counts
-module _ (c : In_ok-counts) where
-  abbrev asked : After-check_after
-  asked = (goal.at.In_ok-counts c).After-check_after
+module _ (c : In-Ok) where
+  abbrev asked : After-check_after-answer
+  asked = (goal.at.In-Ok c).After-check_after-answer
 
-  counted : result c.in_ok-counts.counts ≡ patch_answer (mesh asked) (lists asked)
-  counted = sym (ap answered c.in_ok-counts.was) ∙ answers asked
+  counted : result c.in-Ok.counts ≡ patch_answer (mesh asked) (lists asked)
+  counted = sym (ap answered c.in-Ok.is) ∙ answers asked
 
 -- ---- the answers, in the order of the code
-pub returns-in_err-counts : goal.returns-in_err-counts
-returns-in_err-counts c =
-    let k : After-check_after = (goal.at.returns-in_err-counts c).After-check_after in
-    let gone : c.from_residual.result ≡ Err c.in_err-counts.field-0.0 = search rules in
-    patched-refused (mesh k) (lists k) gone (sym (ap answered c.in_err-counts.was) ∙ answers k) (left k)
+pub returns-in_default : goal.returns-in_default
+returns-in_default c =
+    let k : After-check_after-answer = (goal.at.returns-in_default c).After-check_after-answer in
+    patched-refused (mesh k) (lists k) c.in_default.is (sym (ap answered c.in_default.is) ∙ answers k) (left k)
 
 pub fill_patches-requires : goal.fill_patches-requires
 fill_patches-requires c =
-    let t : In_ok-counts = (goal.at.fill_patches-requires c).In_ok-counts in
+    let t : In-Ok = (goal.at.fill_patches-requires c).In-Ok in
     let k = asked t in
     record {
       accepted = result-well-formed (mesh k) (lists k) (counted t);
@@ -51,7 +50,7 @@ fill_patches-requires c =
 
 pub returns : goal.returns
 returns c =
-    let t : In_ok-counts = (goal.at.returns c).In_ok-counts in
+    let t : In-Ok = (goal.at.returns c).In-Ok in
     let k = asked t in
     record {
       answer-is = counted t;

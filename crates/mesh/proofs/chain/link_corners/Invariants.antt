@@ -12,7 +12,7 @@ use Rattle.mesh.specs.Tables.{vertex_of, Chained}
 use Rattle.mesh.proofs.chain.link_corners.Given as goal
 
 -- the corners below c are chained, and no half-edge of theirs runs as an earlier one does
-pub record Linking (faces : List ℕ) (head link : List (Option ℕ)) (c : ℕ) : Type 0 where
+pub record Linking (faces : List ℕ) (head link : List ℕ) (c : ℕ) : Type 0 where
   pub chained : Chained (vertex_of faces) c head link
   pub apart : any_below (λ d. any_below (runs (vertex_of faces) (vertex_of faces d) (vertex_of faces (next d))) d) c ≡ false
 

@@ -1,17 +1,27 @@
--- `count_edges` meets its contract: it counts the places of the half-edges that come before their twins.
-use mathlib.Core.Path.{◌∙◌}
+-- `count_edges` meets its contract: the count is that of the half-edges passed.
+use mathlib.Core.Path.{◌≡◌, ap, ◌∙◌}
+use Prim.Native.Nat.{ℕ, ◌≤◌}
+use native.Mathlib.Omega.{arith}
 use lib.Dec.{ltb}
-use Prim.Native.Nat.{ℕ}
-use borrow.Author.Rules.{rules}
-use Rattle.std.proofs.lemmas.Iterator.{YieldsList-from_slice}
-use Rattle.std.proofs.lemmas.Iterator.Consumers.{YieldsList-from_enumerate, YieldsList-from_filter, count_from_yields_List}
-use Rattle.mesh.proofs.ListLaws.{count-places}
+use Rattle.finite.specs.Fold.{indicator}
+use Rattle.finite.proofs.Counting.{count-start, count-bit, count-all, count-le, indicator-le}
+use Rattle.finite.proofs.Flags.{byte-indicator}
+use Rattle.mesh.proofs.count.count_edges.Invariants.{leads}
 use Rattle.mesh.proofs.count.count_edges.Goals as goal
 
+pub loop-c-init : goal.loop-c-init
+loop-c-init c = count-start (leads c.args.twins.now)
+
+pub overflow_add-count : goal.overflow_add-count
+overflow_add-count c =
+    let leads-now = leads c.args.twins.now in
+    let one : c.from-count.result ≤ 1 = rw (c.from-count.ensures, byte-indicator) (indicator-le (ltb c.loop-c.c c.from.result)) in
+    omega (arith, one, count-le leads-now c.loop-c.c, c.loop-c.invariant)
+
+pub loop-c-preserved : goal.loop-c-preserved
+loop-c-preserved c =
+    count-bit (leads c.args.twins.now) c.loop-c.c c.loop-c.count c.from-count.result _ c.loop-c.invariant (ap (ltb c.loop-c.c) c.from.ensures)
+    (c.from-count.ensures ∙ byte-indicator _)
+
 pub returns : goal.returns
-returns c =
-    count_from_yields_List c.filter.result c.count.result c.count.ensures.ran
-    (YieldsList-from_filter _ (λ (t : ℕ × ℕ). ltb t.0 t.1)
-    (YieldsList-from_enumerate (YieldsList-from_slice c.args.twins.now (cc)) (cc))
-    c.filter.ensures.closure (λ x b q k. search rules))
-    ∙ count-places ltb c.args.twins.now
+returns c = count-all _ _ _ _ (omega arith) (omega arith) c.loop-c.invariant

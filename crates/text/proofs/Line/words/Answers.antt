@@ -1,6 +1,6 @@
 -- `words` meets its contract: each word but the last has a blank behind it, and the last the line's end.
-use Rattle.std.proofs.Common.{◌∷◌, [], ◌++◌, ◌+◌, subst, List, drop, get_or, drop-cons, drop_of_length-le, add-one, length-append, arith}
-use Rattle.text.specs.Put.{word_text}
+use Rattle.std.proofs.Common.{◌∷◌, [], ◌++◌, ◌+◌, subst, rules, ℕ, List, drop, get_or, drop-cons, drop_of_length-le, add-one, length-append, arith}
+use Rattle.text.specs.Put.{Put, word_text}
 use Rattle.text.specs.declared.Word.{Word}
 use Rattle.text.specs.declared.Word.TheVariants.{Refused}
 use Rattle.text.proofs.TextLaws.{Left, left-room, left-more, put-length, put_then}
@@ -30,7 +30,8 @@ byte-requires-in-loop-word c =
 pub loop-word-preserved : goal.loop-word-preserved
 loop-word-preserved c =
     let w = (goal.at.loop-word-preserved c).After-word in
-    left-more _ _ (next w) c.word.ensures c.byte-in-loop-word.ensures
+    left-more _ _ (next w) c.word.ensures
+    (subst (λ (b : ℕ). Put (b ∷ []) c.word.new.self c.byte-in-loop-word.new.self) (search rules) c.byte-in-loop-word.ensures)
 
 -- ---- the last word
 module _ (c : After-word-2) where

@@ -7,7 +7,7 @@ use lib.ListN.{get_or}
 use Rattle.std.specs.Prelude.{None, Some}
 use Rattle.corner.specs.Corner.{next}
 use Rattle.mesh.proofs.ChainLaws.{walked_start, walked-below, walked-found, walked_none, walked_more, walked-less}
-use Rattle.mesh.specs.Tables.{vertex_of, latest}
+use Rattle.mesh.specs.Tables.{vertex_of, corner_in, latest}
 use Rattle.mesh.proofs.chain.Chains.find.Goals.{After-from-c, After-next_corner}
 use Rattle.mesh.proofs.chain.Chains.find.Goals as goal
 
@@ -22,7 +22,7 @@ module _ (c : After-from-c) where
   below : c.from-c.result < c.args.self.n
   below = walked-below vertex c.args.p c.args.q c.args.self.n c.loop-at.at c.loop-at.invariant c.from-c.result named
 
-  link-is : get_or c.args.self.tables.now.link c.from-c.result None ≡ latest (λ d. eqb (vertex d) (vertex c.from-c.result)) c.from-c.result
+  link-is : corner_in (get_or c.args.self.tables.now.link c.from-c.result 0) ≡ latest (λ d. eqb (vertex d) (vertex c.from-c.result)) c.from-c.result
   link-is = c.args.self.linked.chained.links c.from-c.result below
 
 -- ---- the corner after it is read: its vertex is where half-edge c ends
@@ -34,7 +34,7 @@ pub loop-at-init : goal.loop-at-init
 loop-at-init c =
     let vertex = vertex_of c.args.self.faces.now in
     walked_start vertex c.args.p c.args.q c.args.self.n _
-    (c.args.self.linked.chained.heads c.from.result (omega arith) ∙ ap (λ (r : ℕ). latest (λ d. eqb (vertex d) r) c.args.self.n) c.from.ensures)
+    (c.corner_in-at.ensures ∙ c.args.self.linked.chained.heads c.from.result (omega arith) ∙ ap (λ (r : ℕ). latest (λ d. eqb (vertex d) r) c.args.self.n) c.from.ensures)
 
 pub returns-then-self-next_corner : goal.returns-then-self-next_corner
 returns-then-self-next_corner c =
@@ -46,14 +46,14 @@ returns-then-self-next_corner c =
 
 pub loop-at-smaller : goal.loop-at-smaller
 loop-at-smaller c =
-    let w = (goal.at.loop-at-smaller c).After-from-c in walked-less (vertex w) c.loop-at.at c.from-c.result _ (named w) (link-is w)
+    let w = (goal.at.loop-at-smaller c).After-from-c in walked-less (vertex w) c.loop-at.at c.from-c.result _ (named w) (c.corner_in-at-in-Some.ensures ∙ link-is w)
 
 pub loop-at-preserved : goal.loop-at-preserved
 loop-at-preserved c =
     let w = (goal.at.loop-at-preserved c).After-from-c in
     let e = (goal.at.loop-at-preserved c).After-next_corner in
     walked_more (vertex w) c.args.p c.args.q c.args.self.n c.loop-at.at c.from-c.result _ c.loop-at.invariant (named w)
-    (λ q. c.if-self-next_corner.false (end-is e ∙ q)) (link-is w)
+    (λ q. c.if-self-next_corner.false (end-is e ∙ q)) (c.corner_in-at-in-Some.ensures ∙ link-is w)
 
 pub returns : goal.returns
 returns c = walked_none (vertex_of c.args.self.faces.now) c.args.p c.args.q c.args.self.n c.loop-at.at c.loop-at.invariant c.in_default.is

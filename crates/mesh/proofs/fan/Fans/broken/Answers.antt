@@ -12,7 +12,7 @@ use Rattle.mesh.proofs.fan.Fans.broken.Goals as goal
 
 -- ---- a corner at p
 here : (c : In-Some) → (c.in-Some.start < length c.args.self.twins.faces.now) × (vertex_of c.args.self.twins.faces.now c.in-Some.start ≡ c.args.p)
-here c = latest-corner _ _ c.args.p _ (sym c.in-Some.is ∙ c.args.self.headed.heads-are c.args.p c.requires)
+here c = latest-corner _ _ c.args.p _ (sym c.in-Some.is ∙ c.corner_in.ensures ∙ c.args.self.headed.heads-are c.args.p c.requires)
 
 pub circulate-met-requires : goal.circulate-met-requires
 circulate-met-requires c = rw c.from.ensures (here (goal.at.circulate-met-requires c).In-Some).0
@@ -25,4 +25,4 @@ returns-in-Some c =
     ap not (ap (eqb c.circulate-met.result) valence-is ∙ fan-told s.twins.twinned _ c.args.p at c.circulate-met.result c.circulate-met.ensures)
 
 pub returns-in-None : goal.returns-in-None
-returns-in-None c = no-fan _ _ c.args.p (sym c.in-None.is ∙ c.args.self.headed.heads-are c.args.p c.requires)
+returns-in-None c = no-fan _ _ c.args.p (sym c.in-None.is ∙ c.corner_in.ensures ∙ c.args.self.headed.heads-are c.args.p c.requires)

@@ -12,7 +12,7 @@ use Rattle.mesh.proofs.fan.Fans.on_boundary.Goals as goal
 
 -- ---- a corner at p
 here : (c : In-Some) → (c.in-Some.start < length c.args.self.twins.faces.now) × (vertex_of c.args.self.twins.faces.now c.in-Some.start ≡ c.args.p)
-here c = latest-corner _ _ c.args.p _ (sym c.in-Some.is ∙ c.args.self.headed.heads-are c.args.p c.requires.0)
+here c = latest-corner _ _ c.args.p _ (sym c.in-Some.is ∙ c.corner_in.ensures ∙ c.args.self.headed.heads-are c.args.p c.requires.0)
 
 pub walk_on-requires : goal.walk_on-requires
 walk_on-requires c = rw c.from.ensures (here (goal.at.walk_on-requires c).In-Some).0
@@ -28,4 +28,4 @@ returns-in_default c =
     boundary-told c.args.self.twins.twinned _ c.args.p at _ true c.in_default.ensures c.requires.1
 
 pub returns-in-None : goal.returns-in-None
-returns-in-None c = no-boundary _ _ c.args.p (sym c.in-None.is ∙ c.args.self.headed.heads-are c.args.p c.requires.0)
+returns-in-None c = no-boundary _ _ c.args.p (sym c.in-None.is ∙ c.corner_in.ensures ∙ c.args.self.headed.heads-are c.args.p c.requires.0)

@@ -5,7 +5,7 @@ use Prim.Native.Nat.{ℕ, ◌+◌, ◌*◌, ◌<◌, ◌≤◌}
 use native.Mathlib.Nat.{lt_of_lt_of_le}
 use native.Mathlib.Omega.{arith}
 use lib.IntN.{pos, nat_abs}
-use lib.ListN.{get_or}
+use lib.ListN.{get_or, get_or-replicate}
 use mir.Syntax.{w32, w64}
 use mir.Val.{SFits, to_z, of_z}
 use mir.Facts.{to_z-of_z}
@@ -36,16 +36,16 @@ module _ (c : After-corner_point-value) where
       (sharp_sum_by lists.faces lists.values lists.ends c.args.k p)
   allowed = c.args.self.serves.allowed c.args.k p c.requires.axis c.loop-p-test.true
 
-  ring-read : to_z w64 (of_z w64 (get_or c.sums-sums.result.ring p (pos 0))) ≡ ring_sum_by lists.faces lists.values c.args.k p
+  ring-read : to_z w64 (of_z w64 (get_or c.sums.new.sums.ring p (pos 0))) ≡ ring_sum_by lists.faces lists.values c.args.k p
   ring-read =
-      let e = c.sums-sums.ensures.ring-are p few in
-      let f : SFits w64 (get_or c.sums-sums.result.ring p (pos 0)) = sfits-abs _ (rw e (omega (arith, allowed.ring-fits))) in
+      let e = c.sums.ensures.ring-are p few in
+      let f : SFits w64 (get_or c.sums.new.sums.ring p (pos 0)) = sfits-abs _ (rw e (omega (arith, allowed.ring-fits))) in
       to_z-of_z f ∙ e
 
-  sharp-read : to_z w64 (of_z w64 (get_or c.sums-sums.result.sharp p (pos 0))) ≡ sharp_sum_by lists.faces lists.values lists.ends c.args.k p
+  sharp-read : to_z w64 (of_z w64 (get_or c.sums.new.sums.sharp p (pos 0))) ≡ sharp_sum_by lists.faces lists.values lists.ends c.args.k p
   sharp-read =
-      let e = c.sums-sums.ensures.sharp-are p few in
-      let f : SFits w64 (get_or c.sums-sums.result.sharp p (pos 0)) = sfits-abs _ (rw e (omega (arith, allowed.sharp-fits))) in
+      let e = c.sums.ensures.sharp-are p few in
+      let f : SFits w64 (get_or c.sums.new.sums.sharp p (pos 0)) = sfits-abs _ (rw e (omega (arith, allowed.sharp-fits))) in
       to_z-of_z f ∙ e
 
   value-is : c.corner_point-value.result ≡ value_of (ruled_point lists c.args.k p)
@@ -68,6 +68,12 @@ module _ (c : After-corner_point-value) where
 
   units-read : to_z w32 (of_z w32 (to_z w64 (of_z w64 c.corner_point-value.result.units))) ≡ c.corner_point-value.result.units
   units-read = simp (to_z-of_z wide-fits, to_z-of_z narrow-fits)
+
+pub sums-requires : goal.sums-requires
+sums-requires c = record {
+  ring-are = λ p l. get_or-replicate max_vertices p (pos 0) (pos 0) l;
+  sharp-are = λ p l. get_or-replicate max_vertices p (pos 0) (pos 0) l;
+}
 
 pub overflow_cast-points : goal.overflow_cast-points
 overflow_cast-points c =

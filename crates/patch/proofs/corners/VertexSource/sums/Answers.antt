@@ -9,8 +9,8 @@ use Rattle.finite.proofs.IntegerSum.{sum_ℤ-monoid}
 use Rattle.limits.specs.Limits.{max_vertices, max_coordinate}
 use Rattle.mask.specs.declared.model.FaceValues.{FaceValues}
 use Rattle.mesh.specs.Tables.{vertex_of}
-use Rattle.patch.specs.Lists.{no_ends, ring_term_by, sharp_term_by, ring_sum_by, sharp_sum_by}
-use Rattle.patch.proofs.SumLaws.{passed-none, passed-more, gathered-bound, added-fits, added-is}
+use Rattle.patch.specs.Lists.{next_counts, prev_counts, no_ends, ring_term_by, sharp_term_by, ring_sum_by, sharp_sum_by}
+use Rattle.patch.proofs.SumLaws.{passed-blank, passed-more, gathered-bound, added-fits, added-is}
 use Rattle.patch.proofs.TableLaws.{ring-by-size, sharp-by-size}
 use Rattle.patch.proofs.corners.VertexSource.sums.Goals.{After-ring_of, After-sharp_term, Start}
 use Rattle.patch.proofs.corners.VertexSource.sums.Goals as goal
@@ -62,13 +62,13 @@ module _ (c : After-sharp_term) where
   sharp-is : c.sharp_term.result ≡ sharp-of (start turn) c.loop-c.c
   sharp-is =
       let e = get_or c.args.self.ends.now c.loop-c.c no_ends in
-      c.sharp_term.ensures ∙ ap (λ (a : FaceValues). cond e.next a.next (pos 0) +ℤ cond e.prev a.prev (pos 0)) c.face-a.ensures
+      c.sharp_term.ensures ∙ ap (λ (a : FaceValues). cond (next_counts e) a.next (pos 0) +ℤ cond (prev_counts e) a.prev (pos 0)) c.face-a.ensures
 
   sharp-term : nat_abs c.sharp_term.result ≤ 5 * max_coordinate
   sharp-term = rw sharp-is (sharp-by-size c.args.self.serves.bounded c.args.k c.loop-c.c c.args.self.ends.now)
 
 pub loop-c-init : goal.loop-c-init
-loop-c-init c = passed-none
+loop-c-init c = passed-blank (omega arith) (omega arith) c.requires.ring-are c.requires.sharp-are
 
 pub overflow_add-sums : goal.overflow_add-sums
 overflow_add-sums c = let t = (goal.at.overflow_add-sums c).After-ring_of in added-fits (ring t) t.ring_of.result (few t) (ring-small t) (ring-term t)

@@ -1,5 +1,5 @@
 -- `ring_size` meets its contract: the corners met are different, and the walk is back at its first corner, or ends at the boundary.
-use Rattle.std.proofs.Common.{arith, rules}
+use Rattle.std.proofs.Common.{◌∙◌, arith, rules}
 use Rattle.tangent.proofs.RingSizeLaws.{met-first, met-more, met_less, met-back, met-none}
 use Rattle.tangent.proofs.corners.Accepted.ring_size.Goals as goal
 
@@ -20,4 +20,4 @@ loop-on-preserved c =
     met-more c.args.self.fanned c.args.c c.requires _ _ _ c.loop-on.invariant c.in-Some.is _ c.if-e-c.false c.next_about-on-in-Some.ensures
 
 pub returns : goal.returns
-returns c = met-none c.args.self.fanned c.args.c c.requires _ _ c.loop-on.invariant (search rules)
+returns c = search rules ∙ met-none c.args.self.fanned c.args.c c.requires _ _ c.loop-on.invariant (search rules)
