@@ -1,22 +1,17 @@
--- What the library's chains say of the front of a list and of its entries with their places, as folds over the numbers below n.
-use mathlib.Core.Path.{◌≡◌, refl, sym, ap, ◌∙◌}
+-- What the library's chains say of the front of a list, as folds over the numbers below n.
+use mathlib.Core.Path.{◌≡◌, ap, ◌∙◌}
 use mathlib.Core.Bool.{Bool, false, ◌||◌}
 use mathlib.Core.List.{List, ◌++◌}
-use Prim.Native.Nat.{ℕ, zero, suc, ◌+◌, ◌≤◌, ◌<◌}
+use Prim.Native.Nat.{ℕ, ◌+◌, ◌≤◌, ◌<◌}
 use native.Mathlib.Omega.{arith}
-use native.Mathlib.Nat.{zero-add}
 use lib.ListN.{length, get_or, take, drop, length-take}
-use Rattle.std.specs.Prelude.{filter}
-use Rattle.std.specs.List.{list_any, range_with_len, enumerate_from}
-use Rattle.std.proofs.lemmas.List.FromFn.{length-enumerate_from, get_or-enumerate_from}
-use Rattle.std.proofs.lemmas.List.Sums.{length-filter}
+use Rattle.std.specs.List.{list_any}
 use Rattle.std.proofs.lemmas.List.{get_or-take}
-use Rattle.finite.specs.Fold.{fold_below, any_below, count_below, indicator}
+use Rattle.finite.specs.Fold.{any_below, count_below, indicator}
 use Rattle.finite.specs.Filled.{filled}
 use Rattle.finite.proofs.FilledLaws.{list-below, length-filled, filled_at}
 use Rattle.finite.proofs.FoldLaws.{fold-ext}
-use Rattle.finite.proofs.AnyAll.{any-monoid}
-use Rattle.finite.proofs.Lists.{fold-first, any-of-list, count-of-list}
+use Rattle.finite.proofs.Lists.{any-of-list}
 
 -- the first n entries of a list
 pub any-front : {A : Type 0} (p : A → Bool) (xs : List A) (d : A) (n : ℕ) → n ≤ length xs → list_any p (take n xs) ≡ any_below (λ i. p (get_or xs i d)) n
@@ -25,18 +20,7 @@ any-front p xs d n l =
     ∙ ap (any_below (λ i. p (get_or (take n xs) i d))) (length-take n xs ∙ omega arith)
     ∙ fold-ext false ◌||◌ n (λ k q. ap p (get_or-take n xs k d q))
 
--- the entries of a list, each with its place
-pub count-places : (q : ℕ → ℕ → Bool) (xs : List ℕ)
-    → length (filter (λ (t : ℕ × ℕ). q t.0 t.1) (enumerate_from 0 xs)) ≡ count_below (λ i. q i (get_or xs i 0)) (length xs)
-count-places q xs =
-    length-filter (λ (t : ℕ × ℕ). q t.0 t.1) (enumerate_from 0 xs)
-    ∙ count-of-list (λ (t : ℕ × ℕ). q t.0 t.1) (enumerate_from 0 xs) (0, 0)
-    ∙ ap (count_below (λ i. q (get_or (enumerate_from 0 xs) i (0, 0)).0 (get_or (enumerate_from 0 xs) i (0, 0)).1)) (length-enumerate_from 0 xs)
-    ∙ fold-ext 0 ◌+◌ (length xs) (λ k b.
-    ap (λ (t : ℕ × ℕ). indicator (q t.0 t.1)) (get_or-enumerate_from 0 xs k (0, 0) b)
-    ∙ ap (λ (i : ℕ). indicator (q i (get_or xs k 0))) (zero-add k))
-
--- the same of its front
+-- a count over the front of a list
 pub count-front : (q : ℕ → ℕ → Bool) (xs : List ℕ) (n : ℕ) → n ≤ length xs
     → count_below (λ i. q i (get_or (take n xs) i 0)) (length (take n xs)) ≡ count_below (λ i. q i (get_or xs i 0)) n
 count-front q xs n l =

@@ -48,6 +48,7 @@ pub fn patches(
         (lent twins.old patches.old marks.old) result (lent twins.new patches.new marks.new) }
 {
     let own = own_refusal(mesh.faces, patches.len(), marks.len());
+    // `let .. else`, and no `?`: the user names this form (rule A6).
     let answer = mesh::check_after(own, mesh, twins);
     let Ok(counts) = answer else {
         return answer;

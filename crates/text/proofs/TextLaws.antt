@@ -56,20 +56,25 @@ decimal-more n f h =
     more-digits 19 n h
     ∙ ap (λ (t : List ℕ). t ++ ((48 + n % 10) ∷ [])) (sym (spare 18 19 (n / 10) (lit≤ tt) (tenth 19 n (lt_of_lt_of_le f (lit≤ tt)))))
 
-pub decimal-two : (n : ℕ) → n < 100 → 10 ≤ n → decimal n ≡ (48 + n / 10) ∷ ((48 + n % 10) ∷ [])
+-- the bytes of the digits i and j
+abbrev two : ℕ → ℕ → List ℕ
+two i j = (48 + i) ∷ ((48 + j) ∷ [])
+
+pub decimal-two : (n : ℕ) → n < 100 → 10 ≤ n → decimal n ≡ two (n / 10) (n % 10)
 decimal-two n f h = decimal-more n (lt_of_lt_of_le f (lit≤ tt)) h ∙ ap (λ (t : List ℕ). t ++ ((48 + n % 10) ∷ [])) (decimal-one (n / 10) (omega arith))
 
-pub decimal-hundred : (n : ℕ) → n < 2 ^ 64 → 100 ≤ n → decimal n ≡ decimal (n / 100) ++ ((48 + n / 10 % 10) ∷ ((48 + n % 10) ∷ []))
+pub decimal-hundred : (n : ℕ) → n < 2 ^ 64 → 100 ≤ n → decimal n ≡ decimal (n / 100) ++ two (n / 10 % 10) (n % 10)
 decimal-hundred n f h =
     let tens : decimal (n / 10) ≡ decimal (n / 10 / 10) ++ ((48 + n / 10 % 10) ∷ []) = decimal-more (n / 10) (omega (arith, f)) (omega arith) in
     decimal-more n f (omega arith)
     ∙ ap (λ (t : List ℕ). t ++ ((48 + n % 10) ∷ [])) tens
     ∙ append_assoc (decimal (n / 10 / 10)) ((48 + n / 10 % 10) ∷ []) ((48 + n % 10) ∷ [])
-    ∙ ap (λ (m : ℕ). decimal m ++ ((48 + n / 10 % 10) ∷ ((48 + n % 10) ∷ []))) (omega arith)
+    ∙ ap (λ (m : ℕ). decimal m ++ two (n / 10 % 10) (n % 10)) (omega arith)
 
 pub decimal-longer : (n : ℕ) → n < 2 ^ 64 → 100 ≤ n → length (decimal n) ≡ length (decimal (n / 100)) + 2
-decimal-longer n f h = ap length (decimal-hundred n f h) ∙ length-append (decimal (n / 100)) ((48 + n / 10 % 10) ∷ ((48 + n % 10) ∷ []))
+decimal-longer n f h = ap length (decimal-hundred n f h) ∙ length-append (decimal (n / 100)) (two (n / 10 % 10) (n % 10))
 
+-- the last four digits, as the rest by 10000 has them
 thousands : (n : ℕ) → n / 100 / 10 % 10 ≡ n % 10000 / 1000
 thousands n = omega arith
 
@@ -82,21 +87,25 @@ tens n = omega arith
 ones : (n : ℕ) → n % 10 ≡ n % 10000 % 10
 ones n = omega arith
 
-pub decimal-four : (n : ℕ) → n < 2 ^ 64 → 10000 ≤ n
-    → decimal n ≡ (decimal (n / 10000) ++ ((48 + n % 10000 / 1000) ∷ ((48 + n % 10000 / 100 % 10) ∷ []))) ++ ((48 + n % 10000 / 10 % 10) ∷ ((48 + n % 10000 % 10) ∷ []))
+abbrev upper : ℕ → List ℕ
+upper n = two (n % 10000 / 1000) (n % 10000 / 100 % 10)
+
+abbrev lower : ℕ → List ℕ
+lower n = two (n % 10000 / 10 % 10) (n % 10000 % 10)
+
+pub decimal-four : (n : ℕ) → n < 2 ^ 64 → 10000 ≤ n → decimal n ≡ (decimal (n / 10000) ++ upper n) ++ lower n
 decimal-four n f h =
-    let above : decimal (n / 100) ≡ decimal (n / 100 / 100) ++ ((48 + n / 100 / 10 % 10) ∷ ((48 + n / 100 % 10) ∷ [])) = decimal-hundred (n / 100) (omega (arith, f)) (omega arith) in
+    let above = decimal-hundred (n / 100) (omega (arith, f)) (omega arith) in
     decimal-hundred n f (omega arith)
-    ∙ ap (λ (t : List ℕ). t ++ ((48 + n / 10 % 10) ∷ ((48 + n % 10) ∷ []))) above
-    ∙ ap (λ (m : ℕ). (decimal m ++ ((48 + n / 100 / 10 % 10) ∷ ((48 + n / 100 % 10) ∷ []))) ++ ((48 + n / 10 % 10) ∷ ((48 + n % 10) ∷ []))) (omega arith)
-    ∙ ap₂ (λ (i j : ℕ). (decimal (n / 10000) ++ ((48 + i) ∷ ((48 + j) ∷ []))) ++ ((48 + n / 10 % 10) ∷ ((48 + n % 10) ∷ []))) (thousands n) (hundreds n)
-    ∙ ap₂ (λ (i j : ℕ). (decimal (n / 10000) ++ ((48 + n % 10000 / 1000) ∷ ((48 + n % 10000 / 100 % 10) ∷ []))) ++ ((48 + i) ∷ ((48 + j) ∷ []))) (tens n) (ones n)
+    ∙ ap (λ (t : List ℕ). t ++ two (n / 10 % 10) (n % 10)) above
+    ∙ ap (λ (m : ℕ). (decimal m ++ two (n / 100 / 10 % 10) (n / 100 % 10)) ++ two (n / 10 % 10) (n % 10)) (omega arith)
+    ∙ ap₂ (λ (i j : ℕ). (decimal (n / 10000) ++ two i j) ++ two (n / 10 % 10) (n % 10)) (thousands n) (hundreds n)
+    ∙ ap₂ (λ (i j : ℕ). (decimal (n / 10000) ++ upper n) ++ two i j) (tens n) (ones n)
 
 pub decimal-four-longer : (n : ℕ) → n < 2 ^ 64 → 10000 ≤ n → length (decimal n) ≡ length (decimal (n / 10000)) + 4
 decimal-four-longer n f h =
     let t = decimal (n / 10000) in
-    let p = (48 + n % 10000 / 1000) ∷ ((48 + n % 10000 / 100 % 10) ∷ []) in
-    omega (arith, ap length (decimal-four n f h), length-append (t ++ p) ((48 + n % 10000 / 10 % 10) ∷ ((48 + n % 10000 % 10) ∷ [])), length-append t p)
+    omega (arith, ap length (decimal-four n f h), length-append (t ++ upper n) (lower n), length-append t (upper n))
 
 pub decimal-length : (n : ℕ) → length (decimal n) ≤ 20
 decimal-length n = digits-length 20 n

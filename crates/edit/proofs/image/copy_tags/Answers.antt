@@ -1,8 +1,6 @@
 -- `copy_tags` meets its contract: the places passed hold the tags, and there is no other place.
 use mathlib.Core.Path.{refl, ◌∙◌}
-use Prim.Native.Nat.{ℕ}
 use native.Mathlib.Omega.{arith}
-use lib.ListN.{get_or}
 use Rattle.finite.proofs.FilledLaws.{filled-start, filled_more, filled-all, filled-whole}
 use Rattle.finite.proofs.Lists.{below-of-list}
 use Rattle.edit.proofs.image.copy_tags.Goals as goal

@@ -1,9 +1,8 @@
 -- `count_edges` meets its contract: the count is that of the half-edges passed.
-use mathlib.Core.Path.{◌≡◌, ap, ◌∙◌}
-use Prim.Native.Nat.{ℕ, ◌≤◌}
+use mathlib.Core.Path.{ap, ◌∙◌}
+use Prim.Native.Nat.{◌≤◌}
 use native.Mathlib.Omega.{arith}
 use lib.Dec.{ltb}
-use Rattle.finite.specs.Fold.{indicator}
 use Rattle.finite.proofs.Counting.{count-start, count-bit, count-all, count-le, indicator-le}
 use Rattle.finite.proofs.Flags.{byte-indicator}
 use Rattle.mesh.proofs.count.count_edges.Invariants.{leads}

@@ -17,13 +17,13 @@ module _ (c : After-count_edges-edges) where
   abbrev n : ℕ
   n = 4 * c.args.mesh.faces
 
-  abbrev rim : ℕ
-  rim = boundaries (vertex_of c.args.mesh.indices.now) n
+  abbrev boundary-count : ℕ
+  boundary-count = boundaries (vertex_of c.args.mesh.indices.now) n
 
   counted : c.count_edges-edges.result ≡ count_below (λ d. ltb d (twin_of c.args.twins.now d)) n
   counted = c.count_edges-edges.ensures ∙ count-front ltb c.args.twins.now n c.requires.twinned.twins-listed
 
-  left : n + rim ≡ 2 * c.count_edges-edges.result
+  left : n + boundary-count ≡ 2 * c.count_edges-edges.result
   left = edges-left c.requires c.count_edges-edges.result counted
 
 -- ---- the answers, in the order of the code
@@ -39,5 +39,5 @@ pub returns : goal.returns
 returns c =
     let a = (goal.at.returns c).After-count_edges-edges in
     let m = c.args.mesh in
-    let b : 2 * c.count_edges-edges.result - n a ≡ rim a = omega (arith, left a) in
+    let b : 2 * c.count_edges-edges.result - n a ≡ boundary-count a = omega (arith, left a) in
     ap₂ (λ (e x : ℕ). record { vertices = m.vertices; faces = m.faces; edges = e; boundary = x }) (counted a ∙ edges-table c.requires) b

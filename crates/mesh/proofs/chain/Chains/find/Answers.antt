@@ -4,7 +4,7 @@ use Prim.Native.Nat.{ℕ, ◌<◌}
 use native.Mathlib.Omega.{arith}
 use lib.Dec.{eqb}
 use lib.ListN.{get_or}
-use Rattle.std.specs.Prelude.{None, Some}
+use Rattle.std.specs.Prelude.{Some}
 use Rattle.corner.specs.Corner.{next}
 use Rattle.mesh.proofs.ChainLaws.{walked_start, walked-below, walked-found, walked_none, walked_more, walked-less}
 use Rattle.mesh.specs.Tables.{vertex_of, corner_in, latest}
@@ -33,8 +33,9 @@ end-is c = ap (vertex_of c.args.self.faces.now) c.next_corner.ensures
 pub loop-at-init : goal.loop-at-init
 loop-at-init c =
     let vertex = vertex_of c.args.self.faces.now in
+    let head = c.args.self.linked.chained.heads c.from.result (omega arith) in
     walked_start vertex c.args.p c.args.q c.args.self.n _
-    (c.corner_in-at.ensures ∙ c.args.self.linked.chained.heads c.from.result (omega arith) ∙ ap (λ (r : ℕ). latest (λ d. eqb (vertex d) r) c.args.self.n) c.from.ensures)
+    (c.corner_in-at.ensures ∙ head ∙ ap (λ (r : ℕ). latest (λ d. eqb (vertex d) r) c.args.self.n) c.from.ensures)
 
 pub returns-then-self-next_corner : goal.returns-then-self-next_corner
 returns-then-self-next_corner c =
@@ -46,7 +47,8 @@ returns-then-self-next_corner c =
 
 pub loop-at-smaller : goal.loop-at-smaller
 loop-at-smaller c =
-    let w = (goal.at.loop-at-smaller c).After-from-c in walked-less (vertex w) c.loop-at.at c.from-c.result _ (named w) (c.corner_in-at-in-Some.ensures ∙ link-is w)
+    let w = (goal.at.loop-at-smaller c).After-from-c in
+    walked-less (vertex w) c.loop-at.at c.from-c.result _ (named w) (c.corner_in-at-in-Some.ensures ∙ link-is w)
 
 pub loop-at-preserved : goal.loop-at-preserved
 loop-at-preserved c =

@@ -1,4 +1,4 @@
--- `point_values` meets its contract: each kind of point has its own function, or its table.
+-- `point` meets its contract: each kind of point has its own function, or its table.
 use mathlib.Core.Path.{◌∙◌}
 use Rattle.finite.specs.Fold.{fold_below}
 use Rattle.control.specs.Control.{weight_at, inner_at, along_at, before_at}
